@@ -1,0 +1,6 @@
+-- Graphs and chosen paths, apart from tables, masks and ports. Read in this order.
+pub mod Lists
+pub mod Order
+pub mod Graph
+pub mod Chosen
+pub mod Figures

@@ -1,0 +1,37 @@
+-- The few functions of lists that the definitions use and the toolchain's library lacks. Their laws stand in ListLaws.
+-- Assumes nothing.
+use Prim.Native.Nat.{ℕ, zero, suc}
+use mathlib.Core.List.{List, [], _∷_}
+use mathlib.Core.Option.{Option, none, some}
+use mathlib.Core.Bool.{Bool, true, false, cond, _||_}
+
+-- The `n` numbers from `k` upward.
+unfoldable pub rising : ℕ → ℕ → List ℕ
+rising k zero = []
+rising k (suc n) = k ∷ rising (suc k) n
+
+module _ {A : Type 0} where
+  -- `x` before the list where the test passed.
+  abbrev pub consIf : Bool → A → List A → List A
+  consIf true x xs = x ∷ xs
+  consIf false x xs = xs
+
+  -- Those that pass the test, in their order.
+  unfoldable pub filter : (A → Bool) → List A → List A
+  filter test [] = []
+  filter test (x ∷ xs) = consIf (test x) x (filter test xs)
+
+  -- Whether one passes the test.
+  unfoldable pub any : (A → Bool) → List A → Bool
+  any test [] = false
+  any test (x ∷ xs) = test x || any test xs
+
+  -- `x`, or the one found already where the test puts it before `x`.
+  abbrev pub lowerOf : (A → A → Bool) → A → Option A → Option A
+  lowerOf before x none = some x
+  lowerOf before x (some y) = cond (before y x) (some y) (some x)
+
+  -- The one that the test puts before every other, or none of an empty list. Of two that it puts neither way the earlier is taken.
+  unfoldable pub lowestBy : (A → A → Bool) → List A → Option A
+  lowestBy before [] = none
+  lowestBy before (x ∷ xs) = lowerOf before x (lowestBy before xs)
