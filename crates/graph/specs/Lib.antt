@@ -4,3 +4,6 @@ pub mod Order
 pub mod Graph
 pub mod Chosen
 pub mod Figures
+pub mod Members
+pub mod ListLaws
+pub mod OrderLaws

@@ -1,0 +1,363 @@
+-- Laws of plain lists and numbers: membership, parts, nothing twice, filters, the lowest of a list. None of them knows a graph.
+-- Assumes nothing.
+use Prim.Native.Nat.{ℕ, zero, suc, _+_, _≤_, _<_}
+use native.Mathlib.Omega.{arith}
+use mathlib.Core.Path.{_≡_, refl, sym, ap, _∙_, subst}
+use mathlib.Core.List.{List, [], _∷_, _++_, map, flatMap, reverse, append-nil, append-assoc, reverse-cons, reverse-append, reverse-reverse, map-append}
+use mathlib.Core.Option.{Option, none, some}
+use mathlib.Core.Logic.{_⊎_, inl, inr}
+use mathlib.Core.Bool.{Bool, true, false, cond, not}
+use lib.Dec.{T, T-not, not-T, leb, ltb, eqb, leb→le, nleb→lt, eqb→eq, eqb-refl, ltb→lt, lt→ltb}
+use lib.ListN.{length, length-append, length-map}
+use Rattle.graph.specs.Lists.{rising, consIf, filter, lowerOf, lowestBy}
+use Rattle.graph.specs.Members.{In, Distinct, lastOf}
+
+-- Numbers
+
+pub le-or-gt : (m n : ℕ) → (m ≤ n) ⊎ (n < m)
+le-or-gt m n = go (leb m n) (leb→le m n) (nleb→lt m n)
+  where
+    go : (b : Bool) → (T b → m ≤ n) → (T (not b) → n < m) → (m ≤ n) ⊎ (n < m)
+    go true f h = inl (f tt)
+    go false f h = inr (h tt)
+
+-- Of two numbers one is lower or they are equal.
+pub compared : (m n : ℕ) → (m < n) ⊎ (m ≡ n) ⊎ (n < m)
+compared m n = go (le-or-gt m n) (le-or-gt n m)
+  where
+    go : (m ≤ n) ⊎ (n < m) → (n ≤ m) ⊎ (m < n) → (m < n) ⊎ (m ≡ n) ⊎ (n < m)
+    go (inl h) (inl k) = inr (inl (omega arith))
+    go (inl h) (inr k) = inl k
+    go (inr h) k = inr (inr h)
+
+pub same-or-not : (m n : ℕ) → (m ≡ n) ⊎ (m ≡ n → ⊥)
+same-or-not m n = go (compared m n)
+  where
+    go : (m < n) ⊎ (m ≡ n) ⊎ (n < m) → (m ≡ n) ⊎ (m ≡ n → ⊥)
+    go (inl h) = inr (λ e. omega arith)
+    go (inr (inl e)) = inl e
+    go (inr (inr h)) = inr (λ e. omega arith)
+
+module _ {A : Type 0} where
+  -- A test that gives no wrong answer, by its two answers.
+  pub eqb-same : (n : ℕ) (x y : A) → cond (eqb n n) x y ≡ x
+  eqb-same n x y = go (eqb n n) (eqb-refl n)
+    where
+      go : (b : Bool) → T b → cond b x y ≡ x
+      go true h = refl
+      go false h = absurd h
+
+  pub eqb-other : (m n : ℕ) (x y : A) → (m ≡ n → ⊥) → cond (eqb m n) x y ≡ y
+  eqb-other m n x y h = go (eqb m n) (eqb→eq m n)
+    where
+      go : (b : Bool) → (T b → m ≡ n) → cond b x y ≡ y
+      go true f = absurd (h (f tt))
+      go false f = refl
+
+-- Constructors
+
+module _ {A : Type 0} where
+  pub nil-not-cons : {x : A} {xs : List A} → [] ≡ x ∷ xs → ⊥
+  nil-not-cons {x} {xs} e = let z : _≡_ {A = ℕ} 0 1 = cc in omega arith
+
+  pub none-not-some : {x : A} → none ≡ some x → ⊥
+  none-not-some {x} e = let z : _≡_ {A = ℕ} 0 1 = cc in omega arith
+
+  pub length-zero : (xs : List A) → length xs ≡ 0 → xs ≡ []
+  length-zero [] e = refl
+  length-zero (x ∷ xs) e = absurd (omega arith)
+
+  pub append-empty : (xs ys : List A) → xs ++ ys ≡ [] → (xs ≡ []) × (ys ≡ [])
+  append-empty [] ys e = (refl, e)
+  append-empty (x ∷ xs) ys e = absurd (nil-not-cons (sym e))
+
+  -- The last of a list
+
+  pub lastOf-append : (u : A) (t : List A) (v : A) (s : List A) → lastOf u (t ++ (v ∷ s)) ≡ lastOf v s
+  lastOf-append u [] v s = refl
+  lastOf-append u (x ∷ t) v s = lastOf-append x t v s
+
+  -- Membership
+
+  pub in-left : (a : A) (xs ys : List A) → In a xs → In a (xs ++ ys)
+  in-left a (x ∷ xs) ys (inl e) = inl e
+  in-left a (x ∷ xs) ys (inr h) = inr (in-left a xs ys h)
+
+  pub in-right : (a : A) (xs ys : List A) → In a ys → In a (xs ++ ys)
+  in-right a [] ys h = h
+  in-right a (x ∷ xs) ys h = inr (in-right a xs ys h)
+
+  pub in-append : (a : A) (xs ys : List A) → In a (xs ++ ys) → In a xs ⊎ In a ys
+  in-append a [] ys h = inr h
+  in-append a (x ∷ xs) ys (inl e) = inl (inl e)
+  in-append a (x ∷ xs) ys (inr h) = go (in-append a xs ys h)
+    where
+      go : In a xs ⊎ In a ys → In a (x ∷ xs) ⊎ In a ys
+      go (inl h) = inl (inr h)
+      go (inr h) = inr h
+
+  -- What is in a list has a part before it and a part after it.
+  pub in-split : (a : A) (xs : List A) → In a xs → (ys : List A) × (zs : List A) × (xs ≡ ys ++ (a ∷ zs))
+  in-split a (x ∷ xs) (inl e) = ([], xs, ap (λ (y : A). y ∷ xs) (sym e))
+  in-split a (x ∷ xs) (inr h) = go (in-split a xs h)
+    where
+      go : ((ys : List A) × (zs : List A) × (xs ≡ ys ++ (a ∷ zs))) → (ys : List A) × (zs : List A) × (x ∷ xs ≡ ys ++ (a ∷ zs))
+      go (ys, zs, e) = (x ∷ ys, zs, ap (λ (t : List A). x ∷ t) e)
+
+  pub in-here : (a : A) (xs ys : List A) → In a (xs ++ (a ∷ ys))
+  in-here a xs ys = in-right a xs (a ∷ ys) (inl refl)
+
+  pub in-reverse : (a : A) (xs : List A) → In a xs → In a (reverse xs)
+  in-reverse a (x ∷ xs) (inl e) = rw reverse-cons (in-right a (reverse xs) (x ∷ []) (inl e))
+  in-reverse a (x ∷ xs) (inr h) = rw reverse-cons (in-left a (reverse xs) (x ∷ []) (in-reverse a xs h))
+
+  -- Of two places of a list one is not after the other.
+  pub two-in : (a b : A) (xs : List A) → In a xs → In b xs
+      → ((ys : List A) × (t : List A) × (zs : List A) × (xs ≡ ys ++ ((a ∷ t) ++ zs)) × (lastOf a t ≡ b))
+      ⊎ ((ys : List A) × (t : List A) × (zs : List A) × (xs ≡ ys ++ ((b ∷ t) ++ zs)) × (lastOf b t ≡ a))
+  two-in a b (x ∷ xs) (inl e) (inl f) = inl ([], [], xs, ap (λ (y : A). y ∷ xs) (sym e), e ∙ sym f)
+  two-in a b (x ∷ xs) (inl e) (inr k) = inl (go (in-split b xs k))
+    where
+      go : ((ys : List A) × (zs : List A) × (xs ≡ ys ++ (b ∷ zs)))
+          → (ys : List A) × (t : List A) × (zs : List A) × (x ∷ xs ≡ ys ++ ((a ∷ t) ++ zs)) × (lastOf a t ≡ b)
+      go (ys, zs, f) = ([], ys ++ (b ∷ []), zs, cc (append-assoc ys (b ∷ []) zs), lastOf-append a ys b [])
+  two-in a b (x ∷ xs) (inr h) (inl f) = inr (go (in-split a xs h))
+    where
+      go : ((ys : List A) × (zs : List A) × (xs ≡ ys ++ (a ∷ zs)))
+          → (ys : List A) × (t : List A) × (zs : List A) × (x ∷ xs ≡ ys ++ ((b ∷ t) ++ zs)) × (lastOf b t ≡ a)
+      go (ys, zs, e) = ([], ys ++ (a ∷ []), zs, cc (append-assoc ys (a ∷ []) zs), lastOf-append b ys a [])
+  two-in a b (x ∷ xs) (inr h) (inr k) = go (two-in a b xs h k)
+    where
+      go : ((ys : List A) × (t : List A) × (zs : List A) × (xs ≡ ys ++ ((a ∷ t) ++ zs)) × (lastOf a t ≡ b))
+          ⊎ ((ys : List A) × (t : List A) × (zs : List A) × (xs ≡ ys ++ ((b ∷ t) ++ zs)) × (lastOf b t ≡ a))
+          → ((ys : List A) × (t : List A) × (zs : List A) × (x ∷ xs ≡ ys ++ ((a ∷ t) ++ zs)) × (lastOf a t ≡ b))
+          ⊎ ((ys : List A) × (t : List A) × (zs : List A) × (x ∷ xs ≡ ys ++ ((b ∷ t) ++ zs)) × (lastOf b t ≡ a))
+      go (inl (ys, t, zs, e, f)) = inl (x ∷ ys, t, zs, ap (λ (s : List A). x ∷ s) e, f)
+      go (inr (ys, t, zs, e, f)) = inr (x ∷ ys, t, zs, ap (λ (s : List A). x ∷ s) e, f)
+
+module _ {A B : Type 0} where
+  pub in-map : (f : A → B) (a : A) (xs : List A) → In a xs → In (f a) (map f xs)
+  in-map f a (x ∷ xs) (inl e) = inl (ap f e)
+  in-map f a (x ∷ xs) (inr h) = inr (in-map f a xs h)
+
+  pub map-in : (f : A → B) (b : B) (xs : List A) → In b (map f xs) → (a : A) × In a xs × (b ≡ f a)
+  map-in f b (x ∷ xs) (inl e) = (x, inl refl, e)
+  map-in f b (x ∷ xs) (inr h) = go (map-in f b xs h)
+    where
+      go : ((a : A) × In a xs × (b ≡ f a)) → (a : A) × In a (x ∷ xs) × (b ≡ f a)
+      go (a, k, e) = (a, inr k, e)
+
+  pub in-flatMap : (f : A → List B) (b : B) (a : A) (xs : List A) → In a xs → In b (f a) → In b (flatMap f xs)
+  unfolding flatMap
+  in-flatMap f b a (x ∷ xs) (inl e) k = in-left b (f x) (flatMap f xs) (subst (λ (y : A). In b (f y)) e k)
+  in-flatMap f b a (x ∷ xs) (inr h) k = in-right b (f x) (flatMap f xs) (in-flatMap f b a xs h k)
+
+  pub flatMap-in : (f : A → List B) (b : B) (xs : List A) → In b (flatMap f xs) → (a : A) × In a xs × In b (f a)
+  unfolding flatMap
+  flatMap-in f b (x ∷ xs) h = go (in-append b (f x) (flatMap f xs) h) (flatMap-in f b xs)
+    where
+      go : In b (f x) ⊎ In b (flatMap f xs) → (In b (flatMap f xs) → (a : A) × In a xs × In b (f a))
+          → (a : A) × In a (x ∷ xs) × In b (f a)
+      go (inl k) ih = (x, inl refl, k)
+      go (inr k) ih = let r = ih k in (r .0, inr (r .1), r .2)
+
+  pub map-reverse : (f : A → B) (xs : List A) → map f (reverse xs) ≡ reverse (map f xs)
+  map-reverse f [] = refl
+  map-reverse f (x ∷ xs) =
+      ap (λ (t : List A). map f t) (reverse-cons x xs) ∙ map-append f (reverse xs) (x ∷ [])
+      ∙ ap (λ (t : List B). t ++ (f x ∷ [])) (map-reverse f xs) ∙ sym (reverse-cons (f x) (map f xs))
+
+-- Those that pass a test
+
+module _ {A : Type 0} where
+  in-consIf : (b : Bool) (a x : A) (xs : List A) → In a (consIf b x xs) → (T b × (a ≡ x)) ⊎ In a xs
+  in-consIf true a x xs (inl e) = inl (tt, e)
+  in-consIf true a x xs (inr h) = inr h
+  in-consIf false a x xs h = inr h
+
+  consIf-here : (b : Bool) (x : A) (xs : List A) → T b → In x (consIf b x xs)
+  consIf-here true x xs h = inl refl
+  consIf-here false x xs h = absurd h
+
+  consIf-there : (b : Bool) (a x : A) (xs : List A) → In a xs → In a (consIf b x xs)
+  consIf-there true a x xs h = inr h
+  consIf-there false a x xs h = h
+
+  -- Exactly those of a list that pass the test are in what is left.
+  pub filter-in : (test : A → Bool) (a : A) (xs : List A) → In a (filter test xs) → In a xs × T (test a)
+  unfolding filter
+  filter-in test a (x ∷ xs) h = go (in-consIf (test x) a x (filter test xs) h) (filter-in test a xs)
+    where
+      go : (T (test x) × (a ≡ x)) ⊎ In a (filter test xs) → (In a (filter test xs) → In a xs × T (test a))
+          → In a (x ∷ xs) × T (test a)
+      go (inl (p, e)) ih = (inl e, subst (λ (y : A). T (test y)) (sym e) p)
+      go (inr k) ih = (inr (ih k .0), ih k .1)
+
+  pub in-filter : (test : A → Bool) (a : A) (xs : List A) → In a xs → T (test a) → In a (filter test xs)
+  unfolding filter
+  in-filter test a (x ∷ xs) (inl e) p = subst (λ (y : A). In y (consIf (test x) x (filter test xs))) (sym e)
+      (consIf-here (test x) x (filter test xs) (subst (λ (y : A). T (test y)) e p))
+  in-filter test a (x ∷ xs) (inr h) p = consIf-there (test x) a x (filter test xs) (in-filter test a xs h p)
+
+-- The numbers below a bound
+
+pub in-rising : (k n m : ℕ) → k ≤ m → m < k + n → In m (rising k n)
+unfolding rising
+in-rising k zero m h l = absurd (omega arith)
+in-rising k (suc n) m h l = go (compared k m) (in-rising (suc k) n m)
+  where
+    go : (k < m) ⊎ (k ≡ m) ⊎ (m < k) → (suc k ≤ m → m < suc k + n → In m (rising (suc k) n)) → In m (k ∷ rising (suc k) n)
+    go (inl p) ih = inr (ih p (omega arith))
+    go (inr (inl e)) ih = inl (sym e)
+    go (inr (inr p)) ih = absurd (omega arith)
+
+-- Nothing twice
+
+module _ {A : Type 0} where
+  pub distinct-append : (xs ys : List A) → Distinct xs → Distinct ys → ((a : A) → In a xs → In a ys → ⊥) → Distinct (xs ++ ys)
+  distinct-append [] ys d e h = e
+  distinct-append (x ∷ xs) ys d e h = (λ k. go (in-append x xs ys k), distinct-append xs ys (d .1) e (λ a k l. h a (inr k) l))
+    where
+      go : In x xs ⊎ In x ys → ⊥
+      go (inl k) = d .0 k
+      go (inr k) = h x (inl refl) k
+
+  pub distinct-right : (xs ys : List A) → Distinct (xs ++ ys) → Distinct ys
+  distinct-right [] ys d = d
+  distinct-right (x ∷ xs) ys d = distinct-right xs ys (d .1)
+
+  pub distinct-apart : (xs ys : List A) (a : A) → Distinct (xs ++ ys) → In a xs → In a ys → ⊥
+  distinct-apart (x ∷ xs) ys a d (inl e) k = d .0 (subst (λ (y : A). In y (xs ++ ys)) e (in-right a xs ys k))
+  distinct-apart (x ∷ xs) ys a d (inr h) k = distinct-apart xs ys a (d .1) h k
+
+  pub in-around : (x : A) (xs : List A) (a : A) (ys : List A) → In x (xs ++ ys) → In x (xs ++ (a ∷ ys))
+  in-around x xs a ys k = go (in-append x xs ys k)
+    where
+      go : In x xs ⊎ In x ys → In x (xs ++ (a ∷ ys))
+      go (inl l) = in-left x xs (a ∷ ys) l
+      go (inr l) = in-right x xs (a ∷ ys) (inr l)
+
+  -- Taking one out leaves nothing twice, and that one nowhere.
+  pub distinct-without : (xs : List A) (a : A) (ys : List A) → Distinct (xs ++ (a ∷ ys)) → Distinct (xs ++ ys) × (In a (xs ++ ys) → ⊥)
+  distinct-without [] a ys d = (d .1, d .0)
+  distinct-without (x ∷ xs) a ys d = go (distinct-without xs a ys (d .1))
+    where
+      none-of : (In a (xs ++ ys) → ⊥) → In a (x ∷ (xs ++ ys)) → ⊥
+      none-of n (inl f) = d .0 (subst (λ (y : A). In y (xs ++ (a ∷ ys))) f (in-here a xs ys))
+      none-of n (inr k) = n k
+
+      go : (Distinct (xs ++ ys) × (In a (xs ++ ys) → ⊥)) → Distinct (x ∷ (xs ++ ys)) × (In a (x ∷ (xs ++ ys)) → ⊥)
+      go (e, n) = ((λ k. d .0 (in-around x xs a ys k), e), none-of n)
+
+-- Of a number and a list, the number is in the list or not.
+pub in-or-not : (a : ℕ) (xs : List ℕ) → In a xs ⊎ (In a xs → ⊥)
+in-or-not a [] = inr (λ h. h)
+in-or-not a (x ∷ xs) = go (same-or-not a x) (in-or-not a xs)
+  where
+    neither : (a ≡ x → ⊥) → (In a xs → ⊥) → In a (x ∷ xs) → ⊥
+    neither f h (inl e) = f e
+    neither f h (inr k) = h k
+
+    go : (a ≡ x) ⊎ (a ≡ x → ⊥) → In a xs ⊎ (In a xs → ⊥) → In a (x ∷ xs) ⊎ (In a (x ∷ xs) → ⊥)
+    go (inl e) h = inl (inl e)
+    go (inr f) (inl h) = inl (inr h)
+    go (inr f) (inr h) = inr (neither f h)
+
+below-but : (n : ℕ) (zs : List ℕ) → (In n zs → ⊥) → ((x : ℕ) → In x zs → x < suc n) → (x : ℕ) → In x zs → x < n
+below-but n zs f l x k = go (compared x n)
+  where
+    go : (x < n) ⊎ (x ≡ n) ⊎ (n < x) → x < n
+    go (inl p) = p
+    go (inr (inl e)) = absurd (f (subst (λ (y : ℕ). In y zs) e k))
+    go (inr (inr p)) = absurd (omega (arith, l x k))
+
+-- A list of numbers below n with nothing twice has at most n of them.
+pub at-most : (n : ℕ) (xs : List ℕ) → Distinct xs → ((x : ℕ) → In x xs → x < n) → length xs ≤ n
+at-most zero [] d h = omega arith
+at-most zero (x ∷ xs) d h = let l : x < 0 = h x (inl refl) in absurd (omega arith)
+at-most (suc n) xs d h = go (in-or-not n xs) (at-most n)
+  where
+    without : ((ys : List ℕ) × (zs : List ℕ) × (xs ≡ ys ++ (n ∷ zs)))
+        → ((zs : List ℕ) → Distinct zs → ((x : ℕ) → In x zs → x < n) → length zs ≤ n) → length xs ≤ suc n
+    without (ys, zs, e) ih =
+        let r = distinct-without ys n zs (rw e at d) in
+        let below = below-but n (ys ++ zs) (r .1) (λ x k. h x (rw e (in-around x ys n zs k))) in
+        let l : length (ys ++ zs) ≤ n = ih (ys ++ zs) (r .0) below in
+        omega (arith, ap (λ (t : List ℕ). length t) e, length-append ys (n ∷ zs), length-append ys zs)
+
+    go : In n xs ⊎ (In n xs → ⊥) → ((zs : List ℕ) → Distinct zs → ((x : ℕ) → In x zs → x < n) → length zs ≤ n)
+        → length xs ≤ suc n
+    go (inl k) ih = without (in-split n xs k) ih
+    go (inr f) ih = omega (arith, ih xs d (below-but n xs f h))
+
+-- A list of numbers has nothing twice, or one of them at two places.
+pub distinct-or-twice : (xs : List ℕ)
+    → Distinct xs ⊎ ((ys : List ℕ) × (a : ℕ) × (t : List ℕ) × (zs : List ℕ) × (xs ≡ ys ++ (a ∷ (t ++ (a ∷ zs)))))
+distinct-or-twice [] = inl tt
+distinct-or-twice (x ∷ xs) = go (in-or-not x xs) (distinct-or-twice xs)
+  where
+    here : ((t : List ℕ) × (zs : List ℕ) × (xs ≡ t ++ (x ∷ zs)))
+        → (ys : List ℕ) × (a : ℕ) × (t : List ℕ) × (zs : List ℕ) × (x ∷ xs ≡ ys ++ (a ∷ (t ++ (a ∷ zs))))
+    here (t, zs, e) = ([], x, t, zs, ap (λ (s : List ℕ). x ∷ s) e)
+
+    go : In x xs ⊎ (In x xs → ⊥)
+        → Distinct xs ⊎ ((ys : List ℕ) × (a : ℕ) × (t : List ℕ) × (zs : List ℕ) × (xs ≡ ys ++ (a ∷ (t ++ (a ∷ zs)))))
+        → Distinct (x ∷ xs) ⊎ ((ys : List ℕ) × (a : ℕ) × (t : List ℕ) × (zs : List ℕ) × (x ∷ xs ≡ ys ++ (a ∷ (t ++ (a ∷ zs)))))
+    go (inl k) r = inr (here (in-split x xs k))
+    go (inr f) (inl d) = inl (f, d)
+    go (inr f) (inr (ys, a, t, zs, e)) = inr (x ∷ ys, a, t, zs, ap (λ (s : List ℕ). x ∷ s) e)
+
+-- The lowest of a list
+
+module _ {A : Type 0} (before : A → A → Bool) where
+  -- None is taken only of the empty list.
+  pub lowest-none : (xs : List A) → lowestBy before xs ≡ none → xs ≡ []
+  unfolding lowestBy
+  lowest-none [] e = refl
+  lowest-none (x ∷ xs) e = go (lowestBy before xs) e
+    where
+      pick : (b : Bool) (y : A) → cond b (some y) (some x) ≡ none → x ∷ xs ≡ []
+      pick true y h = cc
+      pick false y h = cc
+
+      go : (o : Option A) → lowerOf before x o ≡ none → x ∷ xs ≡ []
+      go none h = cc
+      go (some y) h = pick (before y x) y h
+
+module _ {A : Type 0} (before : A → A → Bool)
+    (never : (x : A) → T (before x x) → ⊥)
+    (chained : (x y z : A) → T (before x y) → T (before y z) → T (before x z))
+    (between : (x y z : A) → T (before x z) → T (before x y) ⊎ T (before y z)) where
+  -- The one taken is in the list, and the test puts none of the list before it.
+  pub lowest-is : (xs : List A) (m : A) → lowestBy before xs ≡ some m → In m xs × ((x : A) → In x xs → T (before x m) → ⊥)
+  unfolding lowestBy
+  lowest-is [] m e = absurd (none-not-some e)
+  lowest-is (x ∷ xs) m e = go (lowestBy before xs) refl e (lowest-is xs)
+    where
+      keep : (y : A) → In y xs × ((z : A) → In z xs → T (before z y) → ⊥) → T (before y x) → (z : A) → In z (x ∷ xs) → T (before z y) → ⊥
+      keep y r p z (inl f) q = never x (chained x y x (subst (λ (w : A). T (before w y)) f q) p)
+      keep y r p z (inr k) q = r .1 z k q
+
+      take : (y : A) → In y xs × ((z : A) → In z xs → T (before z y) → ⊥) → (T (before y x) → ⊥) → (z : A) → In z (x ∷ xs) → T (before z x) → ⊥
+      take y r p z (inl f) q = never x (subst (λ (w : A). T (before w x)) f q)
+      take y r p z (inr k) q = side (between z y x q)
+        where
+          side : T (before z y) ⊎ T (before y x) → ⊥
+          side (inl l) = r .1 z k l
+          side (inr l) = p l
+
+      single : lowestBy before xs ≡ none → (z : A) → In z (x ∷ xs) → T (before z x) → ⊥
+      single f z (inl g) q = never x (subst (λ (w : A). T (before w x)) g q)
+      single f z (inr k) q = subst (λ (t : List A). In z t) (lowest-none before xs f) k
+
+      pick : (b : Bool) (y : A) → (T b → T (before y x)) → (T (before y x) → T b) → cond b (some y) (some x) ≡ some m
+          → In y xs × ((z : A) → In z xs → T (before z y) → ⊥)
+          → In m (x ∷ xs) × ((z : A) → In z (x ∷ xs) → T (before z m) → ⊥)
+      pick true y f g h r = let i : y ≡ m = cc in rw (← i) (inr (r .0), keep y r (f tt))
+      pick false y f g h r = let i : x ≡ m = cc in rw (← i) (inl refl, take y r g)
+
+      go : (o : Option A) → lowestBy before xs ≡ o → lowerOf before x o ≡ some m
+          → ((n : A) → lowestBy before xs ≡ some n → In n xs × ((z : A) → In z xs → T (before z n) → ⊥))
+          → In m (x ∷ xs) × ((z : A) → In z (x ∷ xs) → T (before z m) → ⊥)
+      go none f h ih = let i : x ≡ m = cc in rw (← i) (inl refl, single f)
+      go (some y) f h ih = pick (before y x) y (λ p. p) (λ p. p) h (ih y f)
