@@ -1,0 +1,44 @@
+-- ECT masks and masked identifiers (01, "The chosen path").
+-- Assumes nothing.
+use Prim.Native.Nat.{ℕ, zero, suc, _+_, _*_, _-_, _/_, _%_}
+use mathlib.Core.List.{List, [], _∷_}
+use lib.Bits.{bitXor}
+use lib.ListN.{getD}
+use Rattle.rule.specs.Plan.{Plan, bridgeAt}
+
+-- "ECT masks, index 1 to 16, hexadecimal".
+abbrev pub masks : List ℕ
+masks =
+    0x00
+    ∷ 0xff
+    ∷ 0x88
+    ∷ 0x77
+    ∷ 0x44
+    ∷ 0x33
+    ∷ 0xcc
+    ∷ 0xbb
+    ∷ 0x22
+    ∷ 0x11
+    ∷ 0x66
+    ∷ 0x55
+    ∷ 0xaa
+    ∷ 0x99
+    ∷ 0xdd
+    ∷ 0xee
+    ∷ []
+
+abbrev pub maskOf : ℕ → ℕ
+maskOf index = getD masks (index - 1) 0
+
+-- The lowest `n` bytes of an identifier, each XORed with the mask.
+unfoldable pub maskedBytes : ℕ → ℕ → ℕ → ℕ
+maskedBytes zero mask i = 0
+maskedBytes (suc n) mask i = maskedBytes n mask (i / 256) * 256 + bitXor (i % 256) mask
+
+-- "Each of the eight bytes of a Bridge Identifier is XORed with the mask of the VID's index."
+unfoldable pub maskedIdentifier : ℕ → ℕ → ℕ
+maskedIdentifier index i = maskedBytes 8 (maskOf index) i
+
+-- The key of each bridge for an ECT index: what stands for it in the masked PATHID.
+abbrev pub keyOf : Plan → ℕ → ℕ → ℕ
+keyOf p index u = maskedIdentifier index (bridgeAt p u .identifier)

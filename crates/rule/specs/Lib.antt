@@ -1,0 +1,19 @@
+-- Document 01 as definitions. Read in this order: the table, what it says, the calls, the frames, the figures, demand 3.
+pub mod Words
+pub mod Records
+pub mod Outcome
+pub mod Plan
+pub mod Check
+pub mod Links
+pub mod Identifiers
+pub mod Paths
+pub mod Entries
+pub mod Answers
+pub mod Calls
+pub mod Lookup
+pub mod Exported
+pub mod Frames
+pub mod Tables
+pub mod Figures
+pub mod Worked
+pub mod Demand3

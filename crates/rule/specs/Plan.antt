@@ -1,0 +1,53 @@
+-- The decoded plan of a table: four lists of records, in table order.
+-- Assumes nothing.
+use Prim.Native.Nat.{ℕ}
+use mathlib.Core.List.{List, [], _∷_, _++_}
+use mathlib.Core.Option.{Option}
+use mathlib.Core.Bool.{Bool}
+use lib.Dec.{eqb, ltb}
+use lib.ListN.{length, getD, getElem?}
+use Rattle.graph.specs.Lists.{filter, any}
+use Rattle.rule.specs.Records.{Bridge, HalfLink, Vid, Member, Record, bridge, halfLink, vid, member, end}
+
+pub record Plan : Type 0 where
+  pub bridges : List Bridge
+  pub halfLinks : List HalfLink
+  pub vids : List Vid
+  pub members : List Member
+
+abbrev pub noRecords : Plan
+noRecords = record { bridges = []; halfLinks = []; vids = []; members = [] }
+
+-- The plan with one record more. An end record adds none.
+abbrev pub withRecord : Plan → Record → Plan
+withRecord p (bridge b) =
+    record { bridges = p .bridges ++ (b ∷ []); halfLinks = p .halfLinks; vids = p .vids; members = p .members }
+withRecord p (halfLink h) =
+    record { bridges = p .bridges; halfLinks = p .halfLinks ++ (h ∷ []); vids = p .vids; members = p .members }
+withRecord p (vid v) =
+    record { bridges = p .bridges; halfLinks = p .halfLinks; vids = p .vids ++ (v ∷ []); members = p .members }
+withRecord p (member m) =
+    record { bridges = p .bridges; halfLinks = p .halfLinks; vids = p .vids; members = p .members ++ (m ∷ []) }
+withRecord p (end n) = p
+
+-- How many records of the kind of a record there are.
+abbrev pub alike : Plan → Record → ℕ
+alike p (bridge b) = length (p .bridges)
+alike p (halfLink h) = length (p .halfLinks)
+alike p (vid v) = length (p .vids)
+alike p (member m) = length (p .members)
+alike p (end n) = 0
+
+-- "bridges are numbered from 0 in their order".
+abbrev pub knownBridge : Plan → ℕ → Bool
+knownBridge p n = ltb n (length (p .bridges))
+
+abbrev pub bridgeAt : Plan → ℕ → Bridge
+bridgeAt p n = getD (p .bridges) n (record { spSourceId = 0; identifier = 0 })
+
+-- The record of a VID, or none.
+abbrev pub vidRecord : Plan → ℕ → Option Vid
+vidRecord p n = getElem? (filter (λ v. eqb (v .vid) n) (p .vids)) 0
+
+abbrev pub knownVid : Plan → ℕ → Bool
+knownVid p n = any (λ v. eqb (v .vid) n) (p .vids)

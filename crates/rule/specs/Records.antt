@@ -1,0 +1,207 @@
+-- The record kinds of a table as one table of data, and the records that they hold (01, "The table").
+-- Assumes nothing.
+use Prim.Native.Nat.{ℕ, _+_, _*_, _-_, _/_, _%_, _^_}
+use mathlib.Core.List.{List, [], _∷_}
+use mathlib.Core.Bool.{Bool, _&&_}
+use mathlib.Core.Option.{Option, none, some}
+use lib.Dec.{eqb, leb}
+use lib.ListN.{getElem?}
+use Rattle.graph.specs.Lists.{filter}
+use Rattle.rule.specs.Words.{word, bits}
+
+-- A bridge: its SPsourceID, and its Bridge Identifier of 64 bits.
+pub record Bridge : Type 0 where
+  pub spSourceId : ℕ
+  pub identifier : ℕ
+
+-- "16 bits priority, 48 bits address".
+abbrev pub address : Bridge → ℕ
+address b = b .identifier % 2 ^ 48
+
+pub record HalfLink : Type 0 where
+  pub metric : ℕ
+  pub near : ℕ
+  pub far : ℕ
+  pub port : ℕ
+  pub link : ℕ
+
+pub record Vid : Type 0 where
+  pub vid : ℕ
+  pub index : ℕ
+
+-- A member: T (transmits), R (receives), the I-SID, and the bridge and VID that it names.
+pub record Member : Type 0 where
+  pub transmits : Bool
+  pub receives : Bool
+  pub isid : ℕ
+  pub bridge : ℕ
+  pub vid : ℕ
+
+pub data Record : Type 0 where
+  bridge : Bridge → Record
+  halfLink : HalfLink → Record
+  vid : Vid → Record
+  member : Member → Record
+  end : ℕ → Record
+
+-- The count of an end record, or none of another record.
+abbrev pub endCount : Record → Option ℕ
+endCount (bridge b) = none
+endCount (halfLink h) = none
+endCount (vid v) = none
+endCount (member m) = none
+endCount (end n) = some n
+
+-- A field of a record's words: the bits `high`..`low` of the word `n`.
+abbrev field : ℕ → ℕ → ℕ → List ℕ → ℕ
+field n high low r = bits (word r n) high low
+
+abbrev bridgeOf : List ℕ → Bridge
+bridgeOf r = record { spSourceId = field 0 19 0 r; identifier = word r 1 * 2 ^ 32 + word r 2 }
+
+abbrev halfLinkOf : List ℕ → HalfLink
+halfLinkOf r =
+    record {
+      metric = field 0 23 0 r;
+      near = field 1 31 16 r;
+      far = field 1 15 0 r;
+      port = field 2 31 16 r;
+      link = field 2 15 0 r;
+    }
+
+abbrev vidOf : List ℕ → Vid
+vidOf r = record { vid = field 0 27 16 r; index = field 0 15 0 r }
+
+abbrev memberOf : List ℕ → Member
+memberOf r =
+    record {
+      transmits = eqb (field 0 25 25 r) 1;
+      receives = eqb (field 0 24 24 r) 1;
+      isid = field 0 23 0 r;
+      bridge = field 1 31 16 r;
+      vid = field 1 15 0 r;
+    }
+
+-- "Ranges": the least and the greatest value of a field.
+pub record Limits : Type 0 where
+  pub least : ℕ
+  pub greatest : ℕ
+
+abbrev pub inLimits : Limits → ℕ → Bool
+inLimits l n = leb (l .least) n && leb n (l .greatest)
+
+abbrev pub spSourceIdLimits : Limits
+spSourceIdLimits = record { least = 1; greatest = 1048575 }
+
+-- "address neither zero nor a group address (bit 40 of the 48 clear)".
+abbrev pub addressLimits : Limits
+addressLimits = record { least = 1; greatest = 281474976710655 }
+
+abbrev pub groupBit : ℕ → ℕ
+groupBit n = bits n 40 40
+
+abbrev pub groupBitLimits : Limits
+groupBitLimits = record { least = 0; greatest = 0 }
+
+-- "three named values: 1, the least; 16,777,214, the greatest usable; 16,777,215, unusable".
+abbrev pub leastMetric : ℕ
+leastMetric = 1
+
+abbrev pub greatestUsableMetric : ℕ
+greatestUsableMetric = 16777214
+
+abbrev pub unusableMetric : ℕ
+unusableMetric = 16777215
+
+abbrev pub metricLimits : Limits
+metricLimits = record { least = leastMetric; greatest = unusableMetric }
+
+abbrev pub portLimits : Limits
+portLimits = record { least = 1; greatest = 4095 }
+
+abbrev pub linkLimits : Limits
+linkLimits = record { least = 1; greatest = 65535 }
+
+abbrev pub vidLimits : Limits
+vidLimits = record { least = 1; greatest = 4094 }
+
+abbrev pub indexLimits : Limits
+indexLimits = record { least = 1; greatest = 16 }
+
+-- "a house limit".
+abbrev pub isidLimits : Limits
+isidLimits = record { least = 256; greatest = 16777214 }
+
+-- A value of a record and its limits.
+pub record Range : Type 0 where
+  pub value : List ℕ → ℕ
+  pub limits : Limits
+
+abbrev range : (List ℕ → ℕ) → Limits → Range
+range f l = record { value = f; limits = l }
+
+-- A row of the table of record kinds: how many words, up to how many records, the bits that are zero (where there are none,
+-- the number 0), the ranges, and the record that the words hold.
+pub record Layout : Type 0 where
+  pub kind : ℕ
+  pub words : ℕ
+  pub limit : ℕ
+  pub zeroBits : List ℕ → ℕ
+  pub ranges : List Range
+  pub decoded : List ℕ → Record
+
+abbrev pub layouts : List Layout
+layouts =
+    record {
+      kind = 1;
+      words = 3;
+      limit = 64;
+      zeroBits = field 0 27 20;
+      ranges =
+          range (λ r. bridgeOf r .spSourceId) spSourceIdLimits
+          ∷ range (λ r. address (bridgeOf r)) addressLimits
+          ∷ range (λ r. groupBit (address (bridgeOf r))) groupBitLimits
+          ∷ [];
+      decoded = λ r. bridge (bridgeOf r);
+    }
+    ∷ record {
+      kind = 2;
+      words = 3;
+      limit = 512;
+      zeroBits = field 0 27 24;
+      ranges =
+          range (λ r. halfLinkOf r .metric) metricLimits
+          ∷ range (λ r. halfLinkOf r .port) portLimits
+          ∷ range (λ r. halfLinkOf r .link) linkLimits
+          ∷ [];
+      decoded = λ r. halfLink (halfLinkOf r);
+    }
+    ∷ record {
+      kind = 3;
+      words = 1;
+      limit = 16;
+      zeroBits = λ r. 0;
+      ranges = range (λ r. vidOf r .vid) vidLimits ∷ range (λ r. vidOf r .index) indexLimits ∷ [];
+      decoded = λ r. vid (vidOf r);
+    }
+    ∷ record {
+      kind = 4;
+      words = 2;
+      limit = 64;
+      zeroBits = field 0 27 26;
+      ranges = range (λ r. memberOf r .isid) isidLimits ∷ range (λ r. memberOf r .vid) vidLimits ∷ [];
+      decoded = λ r. member (memberOf r);
+    }
+    ∷ record {
+      kind = 15;
+      words = 1;
+      limit = 1;
+      zeroBits = λ r. 0;
+      ranges = [];
+      decoded = λ r. end (field 0 27 0 r);
+    }
+    ∷ []
+
+-- The row of a kind, or none where the kind is unknown.
+unfoldable pub layoutOf : ℕ → Option Layout
+layoutOf k = getElem? (filter (λ l. eqb k (l .kind)) layouts) 0
