@@ -7,7 +7,7 @@ use mathlib.Core.Bool.{Bool, not, cond, _&&_}
 use lib.Dec.{eqb}
 use lib.ListN.{length}
 use Rattle.graph.specs.Lists.{rising, filter, any}
-use Rattle.rule.specs.Records.{HalfLink, Vid, Member, address, portLimits}
+use Rattle.rule.specs.Records.{HalfLink, Vid, Member, address, allWithin, portLimits}
 use Rattle.rule.specs.Plan.{Plan, bridgeAt}
 use Rattle.rule.specs.Links.{hopLink}
 use Rattle.rule.specs.Paths.{chosenPath}
@@ -46,13 +46,15 @@ abbrev pub portsOf : (List ℕ → Option ℕ) → Option (List ℕ) → List �
 portsOf port none = []
 portsOf port (some path) = listOf (port path)
 
+abbrev pub individualEntry : Plan → Vid → ℕ → ℕ → Entry
+individualEntry p v d port = record { kind = 8; vid = v .vid; port = port; address = address (bridgeAt p d) }
+
 -- "First, for each other bridge by number that a path reaches, one entry with that bridge's address and the port of the first
 -- hop's link."
 unfoldable pub individualEntries : Plan → Vid → ℕ → List Entry
 individualEntries p v b =
     flatMap
-    (λ d. map (λ port. record { kind = 8; vid = v .vid; port = port; address = address (bridgeAt p d) })
-    (portsOf (firstPort (p .halfLinks)) (chosenPath p (v .index) b d)))
+    (λ d. map (individualEntry p v d) (portsOf (firstPort (p .halfLinks)) (chosenPath p (v .index) b d)))
     (filter (λ d. not (eqb d b)) (rising 0 (length (p .bridges))))
 
 -- "The group address, first octet first: top 4 bits of SPsourceID then hexadecimal 3; the other 16 bits of SPsourceID; the 24 bits
@@ -65,32 +67,31 @@ abbrev pub receives : Member → Member → Bool
 receives m r = r .receives && eqb (r .isid) (m .isid) && eqb (r .vid) (m .vid) && not (eqb (r .bridge) (m .bridge))
 
 -- The ports of the bridge `b` behind which a receiver of the transmitter `m` is: the receiver's "chosen path from the transmitter
--- passes this bridge and leaves it there". One port for each such receiver, in any order.
-unfoldable pub receiverPorts : Plan → Vid → ℕ → Member → List ℕ
-receiverPorts p v b m =
+-- passes this bridge and leaves it there". One port for each such receiver of the member records `ms`.
+unfoldable pub receiverPorts : Plan → Vid → ℕ → List Member → Member → List ℕ
+receiverPorts p v b ms m =
     flatMap (λ r. portsOf (leavingPort (p .halfLinks) b) (chosenPath p (v .index) (m .bridge) (r .bridge)))
-    (filter (receives m) (p .members))
+    (filter (receives m) ms)
 
 -- "ports rising: a port is listed as soon as one receiver behind it is found".
 unfoldable pub listedPorts : List ℕ → List ℕ
-listedPorts behind = filter (λ port. any (λ q. eqb q port) behind) (rising (portLimits .least) (portLimits .greatest))
+listedPorts behind = filter (λ port. any (λ q. eqb q port) behind) (allWithin portLimits)
 
--- The group entries for one member record with T.
-unfoldable pub groupEntriesOf : Plan → Vid → ℕ → Member → List Entry
-groupEntriesOf p v b m =
-    map
-    (λ port. record {
+abbrev pub groupEntry : Plan → Vid → Member → ℕ → Entry
+groupEntry p v m port =
+    record {
       kind = 9;
       vid = v .vid;
       port = port;
       address = groupAddress (bridgeAt p (m .bridge) .spSourceId) (m .isid);
-    })
-    (listedPorts (receiverPorts p v b m))
+    }
 
--- "Then, for each member record of that VID with T, in table order, a group entry for each port". The member records are given
--- apart from the plan that has the paths.
+-- "Then, for each member record of that VID with T, in table order, a group entry for each port, ports rising". The member records
+-- are given apart from the plan that has the paths.
 unfoldable pub groupEntries : Plan → Vid → ℕ → List Member → List Entry
-groupEntries p v b ms = flatMap (groupEntriesOf p v b) (filter (λ m. m .transmits && eqb (m .vid) (v .vid)) ms)
+groupEntries p v b ms =
+    flatMap (λ m. map (groupEntry p v m) (listedPorts (receiverPorts p v b ms m)))
+    (filter (λ m. m .transmits && eqb (m .vid) (v .vid)) ms)
 
 -- "For a bridge, VID by VID in record order."
 unfoldable pub entriesOf : Plan → ℕ → List Entry

@@ -6,7 +6,7 @@ use mathlib.Core.Bool.{Bool, _&&_}
 use mathlib.Core.Option.{Option, none, some}
 use lib.Dec.{eqb, leb}
 use lib.ListN.{getElem?}
-use Rattle.graph.specs.Lists.{filter}
+use Rattle.graph.specs.Lists.{filter, rising}
 use Rattle.rule.specs.Words.{word, bits}
 
 -- A bridge: its SPsourceID, and its Bridge Identifier of 64 bits.
@@ -89,6 +89,10 @@ pub record Limits : Type 0 where
 
 abbrev pub inLimits : Limits → ℕ → Bool
 inLimits l n = leb (l .least) n && leb n (l .greatest)
+
+-- Every value within the limits, rising.
+abbrev pub allWithin : Limits → List ℕ
+allWithin l = rising (l .least) (l .greatest + 1 - l .least)
 
 abbrev pub spSourceIdLimits : Limits
 spSourceIdLimits = record { least = 1; greatest = 1048575 }

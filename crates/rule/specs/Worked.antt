@@ -17,7 +17,7 @@ use Rattle.rule.specs.Check.{lowestFault, readOn, verdict}
 use Rattle.rule.specs.Links.{linksOf, usableLinks, countUsable, linksBetween, hopLink}
 use Rattle.rule.specs.Identifiers.{maskedBytes, maskedIdentifier}
 use Rattle.rule.specs.Paths.{chosenPath}
-use Rattle.rule.specs.Entries.{entryListOf, entriesOf, individualEntries, groupEntries, groupEntriesOf, listedPorts, receiverPorts, leavingPort}
+use Rattle.rule.specs.Entries.{entryListOf, entriesOf, individualEntries, groupEntries, listedPorts, receiverPorts, leavingPort}
 use Rattle.rule.specs.Calls.{checkOutcome, pathAnswer, pathOutcome, entriesAnswer, entriesOutcome, treeOutcome, treeOf, lastButOne}
 use Rattle.rule.specs.Lookup.{lookupOutcome, matchingPorts, faultyList, entriesIn}
 use Rattle.rule.specs.Exported.{exportedCheck, exportedPathCost}
@@ -61,7 +61,7 @@ calls-agree :
     × (exportedPathCost worked 10 0 1 ≡ 12)
     × (exportedPathCost worked 65546 0 1 ≡ 4294967307)
 unfolding wordsOf layoutOf lowestFault readOn verdict linksOf usableLinks countUsable linksBetween hopLink
-    maskedBytes maskedIdentifier chosenPath entryListOf entriesOf individualEntries groupEntries groupEntriesOf listedPorts
+    maskedBytes maskedIdentifier chosenPath entryListOf entriesOf individualEntries groupEntries listedPorts
     receiverPorts leavingPort checkOutcome pathAnswer pathOutcome entriesAnswer entriesOutcome treeOutcome treeOf lastButOne
     lookupOutcome matchingPorts faultyList entriesIn exportedCheck exportedPathCost
     rising filter any lowestBy insert sorted lower costOnward neighbours onward paths chosen flatMap
