@@ -53,13 +53,13 @@ endCount (member m) = none
 endCount (end n) = some n
 
 -- A field of a record's words: the bits `high`..`low` of the word `n`.
-abbrev field : ℕ → ℕ → ℕ → List ℕ → ℕ
+abbrev pub field : ℕ → ℕ → ℕ → List ℕ → ℕ
 field n high low r = bits (word r n) high low
 
-abbrev bridgeOf : List ℕ → Bridge
+abbrev pub bridgeOf : List ℕ → Bridge
 bridgeOf r = record { spSourceId = field 0 19 0 r; identifier = word r 1 * 2 ^ 32 + word r 2 }
 
-abbrev halfLinkOf : List ℕ → HalfLink
+abbrev pub halfLinkOf : List ℕ → HalfLink
 halfLinkOf r =
     record {
       metric = field 0 23 0 r;
@@ -69,10 +69,10 @@ halfLinkOf r =
       link = field 2 15 0 r;
     }
 
-abbrev vidOf : List ℕ → Vid
+abbrev pub vidOf : List ℕ → Vid
 vidOf r = record { vid = field 0 27 16 r; index = field 0 15 0 r }
 
-abbrev memberOf : List ℕ → Member
+abbrev pub memberOf : List ℕ → Member
 memberOf r =
     record {
       transmits = eqb (field 0 25 25 r) 1;
@@ -154,8 +154,9 @@ pub record Layout : Type 0 where
   pub ranges : List Range
   pub decoded : List ℕ → Record
 
-abbrev pub layouts : List Layout
-layouts =
+-- "1 | bridge, 3: bits 27..20 zero, 19..0 SPsourceID; then the 64-bit Bridge Identifier | 64".
+abbrev pub bridgeLayout : Layout
+bridgeLayout =
     record {
       kind = 1;
       words = 3;
@@ -168,7 +169,11 @@ layouts =
           ∷ [];
       decoded = λ r. bridge (bridgeOf r);
     }
-    ∷ record {
+
+-- "2 | half-link, 3: bits 27..24 zero, 23..0 metric; near bridge (16), far bridge (16); near port (16), link number (16) | 512".
+abbrev pub halfLinkLayout : Layout
+halfLinkLayout =
+    record {
       kind = 2;
       words = 3;
       limit = 512;
@@ -180,7 +185,11 @@ layouts =
           ∷ [];
       decoded = λ r. halfLink (halfLinkOf r);
     }
-    ∷ record {
+
+-- "3 | VID, 1: bits 27..16 VID, 15..0 ECT index | 16".
+abbrev pub vidLayout : Layout
+vidLayout =
+    record {
       kind = 3;
       words = 1;
       limit = 16;
@@ -188,7 +197,11 @@ layouts =
       ranges = range (λ r. vidOf r .vid) vidLimits ∷ range (λ r. vidOf r .index) indexLimits ∷ [];
       decoded = λ r. vid (vidOf r);
     }
-    ∷ record {
+
+-- "4 | member, 2: bits 27..26 zero, 25 T (transmits), 24 R (receives), 23..0 I-SID; bridge (16), VID (16) | 64".
+abbrev pub memberLayout : Layout
+memberLayout =
+    record {
       kind = 4;
       words = 2;
       limit = 64;
@@ -196,15 +209,14 @@ layouts =
       ranges = range (λ r. memberOf r .isid) isidLimits ∷ range (λ r. memberOf r .vid) vidLimits ∷ [];
       decoded = λ r. member (memberOf r);
     }
-    ∷ record {
-      kind = 15;
-      words = 1;
-      limit = 1;
-      zeroBits = λ r. 0;
-      ranges = [];
-      decoded = λ r. end (field 0 27 0 r);
-    }
-    ∷ []
+
+-- "15 | end, 1: bits 27..0 the number of words before it | exactly 1".
+abbrev pub endLayout : Layout
+endLayout =
+    record { kind = 15; words = 1; limit = 1; zeroBits = λ r. 0; ranges = []; decoded = λ r. end (field 0 27 0 r) }
+
+abbrev pub layouts : List Layout
+layouts = bridgeLayout ∷ halfLinkLayout ∷ vidLayout ∷ memberLayout ∷ endLayout ∷ []
 
 -- The row of a kind, or none where the kind is unknown.
 unfoldable pub layoutOf : ℕ → Option Layout
