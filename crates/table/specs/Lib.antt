@@ -1,0 +1,3 @@
+-- What the check's functions compute, and the laws that link their positions in the table to the plan.
+pub mod WordLaws
+pub mod Readers

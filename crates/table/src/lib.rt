@@ -1,0 +1,3 @@
+// Tables read and checked (01, "The table" and "Refusals in checking order").
+pub mod bridge;
+pub mod words;
