@@ -7,3 +7,7 @@ pub mod Figures
 pub mod Members
 pub mod ListLaws
 pub mod OrderLaws
+pub mod Notions
+pub mod Ranks
+pub mod Paths
+pub mod LeastPaths
