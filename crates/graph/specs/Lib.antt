@@ -11,3 +11,4 @@ pub mod Notions
 pub mod Ranks
 pub mod Paths
 pub mod LeastPaths
+pub mod ChosenPaths

@@ -170,16 +170,16 @@ module _ {A B : Type 0} where
 -- Those that pass a test
 
 module _ {A : Type 0} where
-  in-consIf : (b : Bool) (a x : A) (xs : List A) → In a (consIf b x xs) → (T b × (a ≡ x)) ⊎ In a xs
+  pub in-consIf : (b : Bool) (a x : A) (xs : List A) → In a (consIf b x xs) → (T b × (a ≡ x)) ⊎ In a xs
   in-consIf true a x xs (inl e) = inl (tt, e)
   in-consIf true a x xs (inr h) = inr h
   in-consIf false a x xs h = inr h
 
-  consIf-here : (b : Bool) (x : A) (xs : List A) → T b → In x (consIf b x xs)
+  pub consIf-here : (b : Bool) (x : A) (xs : List A) → T b → In x (consIf b x xs)
   consIf-here true x xs h = inl refl
   consIf-here false x xs h = absurd h
 
-  consIf-there : (b : Bool) (a x : A) (xs : List A) → In a xs → In a (consIf b x xs)
+  pub consIf-there : (b : Bool) (a x : A) (xs : List A) → In a xs → In a (consIf b x xs)
   consIf-there true a x xs h = inr h
   consIf-there false a x xs h = h
 
