@@ -12,3 +12,4 @@ pub mod Ranks
 pub mod Paths
 pub mod LeastPaths
 pub mod ChosenPaths
+pub mod Enumeration
