@@ -13,3 +13,6 @@ pub mod Paths
 pub mod LeastPaths
 pub mod ChosenPaths
 pub mod Enumeration
+pub mod Agreement
+pub mod Moves
+pub mod Forwarding

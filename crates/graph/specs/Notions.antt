@@ -26,3 +26,8 @@ abbrev pub Leaves : ℕ → ℕ → List ℕ → Type 0
 Leaves c v [] = ⊥
 Leaves c v (x ∷ []) = ⊥
 Leaves c v (x ∷ y ∷ t) = ((c ≡ x) × (v ≡ y)) ⊎ Leaves c v (y ∷ t)
+
+-- Two graphs with the same hops, and the same bridges that may lie between. Their sizes may differ.
+pub record Agree (g h : Graph) : Type 0 where
+  pub hops-agree : (u v : ℕ) → g .hop u v ≡ h .hop u v
+  pub between-agree : (u : ℕ) → g .between u ≡ h .between u
