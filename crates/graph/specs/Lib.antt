@@ -16,3 +16,4 @@ pub mod Enumeration
 pub mod Agreement
 pub mod Moves
 pub mod Forwarding
+pub mod Copies

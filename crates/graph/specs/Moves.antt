@@ -1,6 +1,6 @@
 -- How frames move over a graph (01, "Frames"): an individual frame from bridge to bridge, and the rounds of a group frame's copies.
 -- Neither knows a table, an entry or a port: where a frame goes from a bridge is a parameter. Assumes nothing.
-use Prim.Native.Nat.{ℕ, zero, suc, _+_}
+use Prim.Native.Nat.{ℕ, zero, suc}
 use mathlib.Core.Path.{_≡_}
 use mathlib.Core.List.{List, [], _∷_, _++_, flatMap}
 use mathlib.Core.Option.{Option, none, some}
@@ -42,11 +42,6 @@ copies children s (suc n) = flatMap children (copies children s n)
 unfoldable pub entered : (ℕ → List ℕ) → ℕ → ℕ → List ℕ
 entered children s zero = []
 entered children s (suc n) = entered children s n ++ copies children s (suc n)
-
--- How often `x` is in the list.
-unfoldable pub times : ℕ → List ℕ → ℕ
-times x [] = 0
-times x (y ∷ ys) = cond (eqb x y) 1 0 + times x ys
 
 -- "A receiver .. whose chosen path from the transmitter passes this bridge and leaves it there":
 -- the chosen path from the sender `s` to some receiver goes from `c` to `v`.
