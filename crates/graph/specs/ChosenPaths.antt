@@ -174,6 +174,12 @@ module _ (g : Graph) (L : GraphLaws g) (key : ℕ → ℕ) where
       go : ((t : List ℕ) × (p ≡ a ∷ t) × Least g a t b) → hops p ≤ g .size - 1
       go (t, e, W) = omega (arith, distinct-bounded g L a t b (W .way) (least-distinct g a t b W), ap hops e)
 
+  pub chosen-fits : (a b : ℕ) (p : List ℕ) → a < g .size → Chosen g key a b p → length p ≤ g .size
+  chosen-fits a b p l P = go (path-first g a b p (P .path))
+    where
+      go : ((t : List ℕ) × (p ≡ a ∷ t) × Onward g a t b) → length p ≤ g .size
+      go (t, e, o) = omega (arith, chosen-bounded a b p P, ap (λ (z : List ℕ). length z) e)
+
   -- "The frame from b to a passes the same links in reverse" (demand 3): the reverse of a chosen path is chosen.
   pub chosen-reverse : (a b : ℕ) (p : List ℕ) → Chosen g key a b p → Chosen g key b a (reverse p)
   chosen-reverse a b p P = record { path = path-reverse g L a b p (P .path); least = λ q o. go q (P .least (reverse q) (path-reverse g L b a q o)) }

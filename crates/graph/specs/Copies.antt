@@ -12,18 +12,11 @@ use Rattle.graph.specs.Graph.{Graph, GraphLaws, Path, hops}
 use Rattle.graph.specs.Chosen.{Chosen}
 use Rattle.graph.specs.Members.{In, Distinct, lastOf, times}
 use Rattle.graph.specs.Notions.{Least, Leaves}
-use Rattle.graph.specs.Moves.{copies, entered, Feeds}
+use Rattle.graph.specs.Moves.{copies, entered, Feeds, HandsDown}
 use Rattle.graph.specs.ListLaws.{le-or-gt, in-left, in-right, in-here, in-append, in-flatMap, flatMap-in, distinct-append, distinct-flatMap, nothing-in, same-last, times-none, times-one, times-at-most-one}
 use Rattle.graph.specs.Paths.{ends, stays-inside}
 use Rattle.graph.specs.ChosenPaths.{chosen-unique, chosen-first, chosen-stay, chosen-start, chosen-bounded}
 use Rattle.graph.specs.Forwarding.{leaves-split, split-leaves}
-
--- What every way of handing copies down meets: at each bridge of the graph it lists once each bridge to which
--- the chosen path from the sender to some receiver goes from there, and no other.
-pub record HandsDown (g : Graph) (key : ℕ → ℕ) (s : ℕ) (Receives : ℕ → Type 0) (children : ℕ → List ℕ) : Type 0 where
-  pub once : (c : ℕ) → c < g .size → Distinct (children c)
-  pub fed : (c v : ℕ) → c < g .size → In v (children c) → Feeds g key s Receives c v
-  pub feeds : (c v : ℕ) → c < g .size → Feeds g key s Receives c v → In v (children c)
 
 -- `v` is the bridge after `n` hops of its chosen path from `s`.
 abbrev Placed : Graph → (ℕ → ℕ) → ℕ → ℕ → ℕ → Type 0

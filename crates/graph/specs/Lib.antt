@@ -17,3 +17,6 @@ pub mod Agreement
 pub mod Moves
 pub mod Forwarding
 pub mod Copies
+pub mod Search
+pub mod Settling
+pub mod Labels

@@ -1,6 +1,6 @@
 -- How frames move over a graph (01, "Frames"): an individual frame from bridge to bridge, and the rounds of a group frame's copies.
 -- Neither knows a table, an entry or a port: where a frame goes from a bridge is a parameter. Assumes nothing.
-use Prim.Native.Nat.{ℕ, zero, suc}
+use Prim.Native.Nat.{ℕ, zero, suc, _<_}
 use mathlib.Core.Path.{_≡_}
 use mathlib.Core.List.{List, [], _∷_, _++_, flatMap}
 use mathlib.Core.Option.{Option, none, some}
@@ -8,6 +8,7 @@ use mathlib.Core.Bool.{cond}
 use lib.Dec.{eqb}
 use Rattle.graph.specs.Graph.{Graph}
 use Rattle.graph.specs.Chosen.{Chosen, chosen}
+use Rattle.graph.specs.Members.{In, Distinct}
 use Rattle.graph.specs.Notions.{Leaves}
 
 -- The second bridge of a path.
@@ -47,3 +48,10 @@ entered children s (suc n) = entered children s n ++ copies children s (suc n)
 -- the chosen path from the sender `s` to some receiver goes from `c` to `v`.
 abbrev pub Feeds : Graph → (ℕ → ℕ) → ℕ → (ℕ → Type 0) → ℕ → ℕ → Type 0
 Feeds g key s Receives c v = (r : ℕ) × Receives r × (p : List ℕ) × Chosen g key s r p × Leaves c v p
+
+-- What every way of handing copies down meets: at each bridge of the graph it lists once each bridge to which
+-- the chosen path from the sender to some receiver goes from there, and no other.
+pub record HandsDown (g : Graph) (key : ℕ → ℕ) (s : ℕ) (Receives : ℕ → Type 0) (children : ℕ → List ℕ) : Type 0 where
+  pub once : (c : ℕ) → c < g .size → Distinct (children c)
+  pub fed : (c v : ℕ) → c < g .size → In v (children c) → Feeds g key s Receives c v
+  pub feeds : (c v : ℕ) → c < g .size → Feeds g key s Receives c v → In v (children c)
