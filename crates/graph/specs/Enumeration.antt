@@ -86,18 +86,19 @@ module _ (g : Graph) where
       (in-map (λ t. v ∷ t) t (filter (goesOn g v) (onward g n v b))
       (in-filter (goesOn g v) t (onward g n v b) (onward-enumerated L n v b t o (omega arith)) (goes-on-test v t m))))
 
-  -- Every path of the enumeration is a path, and every path without a bridge twice is enumerated.
+  -- Every path without a bridge twice is enumerated.
+  pub path-enumerated : GraphLaws g → (a b : ℕ) (t : List ℕ) → Onward g a t b → Distinct (a ∷ t) → In (a ∷ t) (paths g a b)
+  unfolding paths
+  path-enumerated L a b t o d = in-map (λ t. a ∷ t) t (onward g (g .size - 1) a b)
+      (onward-enumerated L (g .size - 1) a b t o (distinct-bounded g L a t b o d))
+
+  -- Every path of the enumeration is a path.
   pub enumerated-path : (a b : ℕ) (p : List ℕ) → In p (paths g a b) → Path g a b p
   unfolding paths
   enumerated-path a b p h = go (map-in (λ t. a ∷ t) p (onward g (g .size - 1) a b) h)
     where
       go : ((t : List ℕ) × In t (onward g (g .size - 1) a b) × (p ≡ a ∷ t)) → Path g a b p
       go (t, k, e) = subst (λ (z : List ℕ). Path g a b z) (sym e) (refl, enumerated-onward (g .size - 1) a b t k .0)
-
-  pub path-enumerated : GraphLaws g → (a b : ℕ) (t : List ℕ) → Onward g a t b → Distinct (a ∷ t) → In (a ∷ t) (paths g a b)
-  unfolding paths
-  path-enumerated L a b t o d = in-map (λ t. a ∷ t) t (onward g (g .size - 1) a b)
-      (onward-enumerated L (g .size - 1) a b t o (distinct-bounded g L a t b o d))
 
 module _ (g : Graph) (L : GraphLaws g) (key : ℕ → ℕ) where
   -- What the enumeration gives is a path, and no path at all is lower, repeats included.

@@ -65,7 +65,17 @@ rank-kept xs ys xs′ ys′ f f′ j j′ l (inl p) = inl (f p)
 rank-kept xs ys xs′ ys′ f f′ j j′ l (inr (p, inl q)) = inr (f′ p, inl (j q))
 rank-kept xs ys xs′ ys′ f f′ j j′ l (inr (p, inr (q, r))) = inr (f′ p, inr (j′ q, l q r))
 
+-- "The frame from b to a passes the same links in reverse" (demand 3): reversal keeps the PATHID, and the rank.
+pub pathId-reverse : (key : ℕ → ℕ) (p : List ℕ) → pathId key (reverse p) ≡ pathId key p
+pathId-reverse key p = ap sorted (map-reverse key p) ∙ sorted-reverse (map key p)
+
 module _ (g : Graph) (key : ℕ → ℕ) where
+  pub rank-reverse : ((u v : ℕ) → g .hop u v ≡ g .hop v u) → (p : List ℕ) → rank g key (reverse p) ≡ rank g key p
+  rank-reverse symmetric p = cc (cost-reverse g symmetric p, steps, pathId-reverse key p)
+    where
+      steps : hops (reverse p) ≡ hops p
+      steps = ap (λ (n : ℕ). n - 1) (length-reverse p)
+
   -- The three places of two equal ranks.
   pub rank-places : (p q : List ℕ) → rank g key p ≡ rank g key q → (cost g p ≡ cost g q) × (hops p ≡ hops q) × (pathId key p ≡ pathId key q)
   rank-places p q e = (cc, cc, cc)
@@ -129,13 +139,3 @@ module _ (g : Graph) (key : ℕ → ℕ) where
           ids = rw (map-append key xs ((c ∷ s) ++ ys), map-append key xs ((c ∷ t) ++ ys), map-append key s ys, map-append key t ys)
               (sorted-in-front-same (map key xs) (map key (c ∷ s) ++ map key ys) (map key (c ∷ t) ++ map key ys)
               (sorted-behind-same (map key ys) (map key (c ∷ s)) (map key (c ∷ t)) r))
-
-  -- "The frame from b to a passes the same links in reverse" (demand 3): reversal keeps the rank.
-  pub rank-reverse : ((u v : ℕ) → g .hop u v ≡ g .hop v u) → (p : List ℕ) → rank g key (reverse p) ≡ rank g key p
-  rank-reverse symmetric p = cc (cost-reverse g symmetric p, steps, ids)
-    where
-      steps : hops (reverse p) ≡ hops p
-      steps = ap (λ (n : ℕ). n - 1) (length-reverse p)
-
-      ids : pathId key (reverse p) ≡ pathId key p
-      ids = ap sorted (map-reverse key p) ∙ sorted-reverse (map key p)

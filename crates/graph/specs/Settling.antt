@@ -75,6 +75,21 @@ module _ (g : Graph) (key : ℕ → ℕ) where
 
 module _ (g : Graph) (L : GraphLaws g) (key : ℕ → ℕ) (r : ℕ) (Open : ℕ → Type 0) (Settled : ℕ → List ℕ → Type 0)
     (S : Settling g key r Open Settled) where
+  -- The path of a candidate is a path.
+  pub candidate-path : (u v : ℕ) (p : List ℕ) → Candidate g r Open Settled u v p → Path g u r (u ∷ p)
+  candidate-path u v p C = go (chosen-first g key v r p (S .final v p (C .settled))) (C .passes)
+    where
+      on : (t : List ℕ) → p ≡ v ∷ t → (v ≡ r) ⊎ T (g .between v) → GoesOn g v t
+      on [] e h = tt
+      on (x ∷ t) e (inr h) = h
+      on (x ∷ t) e (inl f) = absurd (omega (arith, ap (λ (z : List ℕ). length z) long))
+        where
+          long : v ∷ x ∷ t ≡ v ∷ []
+          long = sym e ∙ chosen-self g key v p (subst (λ (z : ℕ). Chosen g key v z p) (sym f) (S .final v p (C .settled)))
+
+      go : ((t : List ℕ) × (p ≡ v ∷ t) × Least g v t r) → (v ≡ r) ⊎ T (g .between v) → Path g u r (u ∷ p)
+      go (t, e, W) h = subst (λ (z : List ℕ). Path g u r (u ∷ z)) (sym e) (refl, (C .joined, on t e h, W .way))
+
   -- A settled neighbour on a path from an open bridge gives a candidate that costs no more than the path.
   first-hop : (u v : ℕ) (t p : List ℕ) → Open u → Onward g u (v ∷ t) r → Settled v p → Candidate g r Open Settled u v p
   first-hop u v t p w (j, m, o) k = record { waits = w; settled = k; joined = j; passes = pass t m o }
@@ -101,21 +116,6 @@ module _ (g : Graph) (L : GraphLaws g) (key : ℕ → ℕ) (r : ℕ) (Open : ℕ
           → (x : ℕ) × (y : ℕ) × (p : List ℕ) × Candidate g r Open Settled x y p × (cost g (x ∷ p) ≤ costOnward g u (v ∷ t))
       go (inl h) ih = let f = ih h in (f .0, f .1, f .2, f .3, omega (arith, f .4, cost-step g u v t))
       go (inr (p, k)) ih = (u, v, p, first-hop u v t p w o k, first-hop-cost u v t p (o .2) k)
-
-  -- The path of a candidate is a path.
-  pub candidate-path : (u v : ℕ) (p : List ℕ) → Candidate g r Open Settled u v p → Path g u r (u ∷ p)
-  candidate-path u v p C = go (chosen-first g key v r p (S .final v p (C .settled))) (C .passes)
-    where
-      on : (t : List ℕ) → p ≡ v ∷ t → (v ≡ r) ⊎ T (g .between v) → GoesOn g v t
-      on [] e h = tt
-      on (x ∷ t) e (inr h) = h
-      on (x ∷ t) e (inl f) = absurd (omega (arith, ap (λ (z : List ℕ). length z) long))
-        where
-          long : v ∷ x ∷ t ≡ v ∷ []
-          long = sym e ∙ chosen-self g key v p (subst (λ (z : ℕ). Chosen g key v z p) (sym f) (S .final v p (C .settled)))
-
-      go : ((t : List ℕ) × (p ≡ v ∷ t) × Least g v t r) → (v ≡ r) ⊎ T (g .between v) → Path g u r (u ∷ p)
-      go (t, e, W) h = subst (λ (z : List ℕ). Path g u r (u ∷ z)) (sym e) (refl, (C .joined, on t e h, W .way))
 
   module _ (K : KeyLaws g key) where
     -- Of an open bridge's candidates the lowest, if no candidate at all costs less, is final, because every hop costs at least 1.
