@@ -7,3 +7,16 @@ pub mod Figures
 pub mod Members
 pub mod ListLaws
 pub mod OrderLaws
+pub mod Notions
+pub mod Ranks
+pub mod Paths
+pub mod LeastPaths
+pub mod ChosenPaths
+pub mod Enumeration
+pub mod Agreement
+pub mod Moves
+pub mod Forwarding
+pub mod Copies
+pub mod Search
+pub mod Settling
+pub mod Labels

@@ -10,7 +10,7 @@ use mathlib.Core.Bool.{Bool, true, false, cond, not}
 use lib.Dec.{T, T-not, not-T, leb, ltb, eqb, leb→le, nleb→lt, eqb→eq, eqb-refl, ltb→lt, lt→ltb}
 use lib.ListN.{length, length-append, length-map}
 use Rattle.graph.specs.Lists.{rising, consIf, filter, lowerOf, lowestBy}
-use Rattle.graph.specs.Members.{In, Distinct, lastOf}
+use Rattle.graph.specs.Members.{In, Distinct, lastOf, times}
 
 -- Numbers
 
@@ -170,16 +170,16 @@ module _ {A B : Type 0} where
 -- Those that pass a test
 
 module _ {A : Type 0} where
-  in-consIf : (b : Bool) (a x : A) (xs : List A) → In a (consIf b x xs) → (T b × (a ≡ x)) ⊎ In a xs
+  pub in-consIf : (b : Bool) (a x : A) (xs : List A) → In a (consIf b x xs) → (T b × (a ≡ x)) ⊎ In a xs
   in-consIf true a x xs (inl e) = inl (tt, e)
   in-consIf true a x xs (inr h) = inr h
   in-consIf false a x xs h = inr h
 
-  consIf-here : (b : Bool) (x : A) (xs : List A) → T b → In x (consIf b x xs)
+  pub consIf-here : (b : Bool) (x : A) (xs : List A) → T b → In x (consIf b x xs)
   consIf-here true x xs h = inl refl
   consIf-here false x xs h = absurd h
 
-  consIf-there : (b : Bool) (a x : A) (xs : List A) → In a xs → In a (consIf b x xs)
+  pub consIf-there : (b : Bool) (a x : A) (xs : List A) → In a xs → In a (consIf b x xs)
   consIf-there true a x xs h = inr h
   consIf-there false a x xs h = h
 
@@ -306,6 +306,56 @@ distinct-or-twice (x ∷ xs) = go (in-or-not x xs) (distinct-or-twice xs)
     go (inl k) r = inr (here (in-split x xs k))
     go (inr f) (inl d) = inl (f, d)
     go (inr f) (inr (ys, a, t, zs, e)) = inr (x ∷ ys, a, t, zs, ap (λ (s : List ℕ). x ∷ s) e)
+
+module _ {A B : Type 0} where
+  -- Lists that have nothing twice, none of them anything of another, have nothing twice together.
+  pub distinct-flatMap : (f : A → List B) (xs : List A) → Distinct xs → ((a : A) → In a xs → Distinct (f a))
+      → ((a c : A) (b : B) → In a xs → In c xs → In b (f a) → In b (f c) → a ≡ c) → Distinct (flatMap f xs)
+  unfolding flatMap
+  distinct-flatMap f [] d h k = tt
+  distinct-flatMap f (x ∷ xs) d h k = distinct-append (f x) (flatMap f xs) (h x (inl refl))
+      (distinct-flatMap f xs (d .1) (λ a l. h a (inr l)) (λ a c b l m. k a c b (inr l) (inr m)))
+      (λ b l m. go b l (flatMap-in f b xs m))
+    where
+      go : (b : B) → In b (f x) → ((a : A) × In a xs × In b (f a)) → ⊥
+      go b l (a, i, m) = d .0 (subst (λ (y : A). In y xs) (sym (k x a b (inl refl) (inr i) l m)) i)
+
+module _ {A : Type 0} where
+  -- A list with nothing in it is empty.
+  pub nothing-in : (xs : List A) → ((a : A) → In a xs → ⊥) → xs ≡ []
+  nothing-in [] f = refl
+  nothing-in (x ∷ xs) f = absurd (f x (inl refl))
+
+  -- Equal lists end alike.
+  pub same-last : (xs ys : List A) (a b : A) → xs ++ (a ∷ []) ≡ ys ++ (b ∷ []) → a ≡ b
+  same-last xs ys a b e = sym (lastOf-append a xs a []) ∙ ap (lastOf a) e ∙ lastOf-append a ys b []
+
+-- How often
+
+pub times-none : (x : ℕ) (xs : List ℕ) → (In x xs → ⊥) → times x xs ≡ 0
+unfolding times
+times-none x [] f = refl
+times-none x (y ∷ ys) f = omega (arith, eqb-other {A = ℕ} x y 1 0 (λ e. f (inl e)), times-none x ys (λ k. f (inr k)))
+
+-- In a list with nothing twice, what is in it is there exactly once.
+pub times-one : (x : ℕ) (xs : List ℕ) → Distinct xs → In x xs → times x xs ≡ 1
+unfolding times
+times-one x (y ∷ ys) d h = go (same-or-not x y) h (times-one x ys (d .1))
+  where
+    go : (x ≡ y) ⊎ (x ≡ y → ⊥) → In x (y ∷ ys) → (In x ys → times x ys ≡ 1) → cond (eqb x y) 1 0 + times x ys ≡ 1
+    go (inl e) h ih = omega (arith, here, times-none x ys (λ k. d .0 (subst (λ (z : ℕ). In z ys) e k)))
+      where
+        here : _≡_ {A = ℕ} (cond (eqb x y) 1 0) 1
+        here = subst (λ (z : ℕ). _≡_ {A = ℕ} (cond (eqb x z) 1 0) 1) e (eqb-same {A = ℕ} x 1 0)
+    go (inr f) (inl e) ih = absurd (f e)
+    go (inr f) (inr k) ih = omega (arith, eqb-other {A = ℕ} x y 1 0 f, ih k)
+
+pub times-at-most-one : (x : ℕ) (xs : List ℕ) → Distinct xs → times x xs ≤ 1
+times-at-most-one x xs d = go (in-or-not x xs)
+  where
+    go : In x xs ⊎ (In x xs → ⊥) → times x xs ≤ 1
+    go (inl k) = omega (arith, times-one x xs d k)
+    go (inr f) = omega (arith, times-none x xs f)
 
 -- The lowest of a list
 

@@ -1,8 +1,11 @@
--- Being in a list, having nothing twice, and the last of a list, as types that laws speak of. Their laws stand in ListLaws.
+-- Being in a list, having nothing twice, how often, and the last of a list: what laws speak of. Their laws stand in ListLaws.
 -- Assumes nothing.
+use Prim.Native.Nat.{ℕ, _+_}
 use mathlib.Core.Path.{_≡_}
 use mathlib.Core.List.{List, [], _∷_}
 use mathlib.Core.Logic.{_⊎_}
+use mathlib.Core.Bool.{cond}
+use lib.Dec.{eqb}
 
 module _ {A : Type 0} where
   -- `a` is in the list.
@@ -19,3 +22,8 @@ module _ {A : Type 0} where
   abbrev pub lastOf : A → List A → A
   lastOf u [] = u
   lastOf u (v ∷ t) = lastOf v t
+
+-- How often `x` is in the list.
+unfoldable pub times : ℕ → List ℕ → ℕ
+times x [] = 0
+times x (y ∷ ys) = cond (eqb x y) 1 0 + times x ys

@@ -1,0 +1,62 @@
+-- Two graphs whose hops agree have the same paths, ranks and chosen paths (01, "The chosen path").
+-- Assumes nothing.
+use Prim.Native.Nat.{ℕ, _+_}
+use native.Mathlib.Omega.{arith}
+use mathlib.Core.Path.{_≡_, refl, sym, ap, ap₂, _∙_, subst}
+use mathlib.Core.List.{List, [], _∷_}
+use mathlib.Core.Option.{Option, none, some}
+use mathlib.Core.Logic.{_⊎_, inl, inr}
+use mathlib.Core.Bool.{Bool}
+use lib.Dec.{T}
+use Rattle.graph.specs.Order.{Lower}
+use Rattle.graph.specs.Graph.{Graph, GraphLaws, KeyLaws, GoesOn, Onward, Path, costOnward, cost, hops, pathId, rank}
+use Rattle.graph.specs.Chosen.{Chosen, chosen}
+use Rattle.graph.specs.Notions.{Agree}
+use Rattle.graph.specs.Ranks.{cost-step, cost-stay}
+use Rattle.graph.specs.Enumeration.{chosen-is, is-chosen, none-no-path, no-path-none}
+
+pub agree-back : (g h : Graph) → Agree g h → Agree h g
+agree-back g h A = record { hops-agree = λ u v. sym (A .hops-agree u v); between-agree = λ u. sym (A .between-agree u) }
+
+module _ (g h : Graph) (A : Agree g h) where
+  pub onward-agrees : (u : ℕ) (t : List ℕ) (b : ℕ) → Onward g u t b → Onward h u t b
+  onward-agrees u [] b e = e
+  onward-agrees u (v ∷ t) b (j, m, o) = (rw (A .hops-agree u v) at j, on t m, onward-agrees v t b o)
+    where
+      on : (t : List ℕ) → GoesOn g v t → GoesOn h v t
+      on [] m = tt
+      on (w ∷ t) m = subst (λ (x : Bool). T x) (A .between-agree v) m
+
+  pub path-agrees : (a b : ℕ) (p : List ℕ) → Path g a b p → Path h a b p
+  path-agrees a b (u ∷ t) (e, o) = (e, onward-agrees u t b o)
+
+  pub cost-agrees : (p : List ℕ) → cost g p ≡ cost h p
+  cost-agrees [] = refl
+  cost-agrees (u ∷ t) = from u t
+    where
+      from : (u : ℕ) (t : List ℕ) → costOnward g u t ≡ costOnward h u t
+      from u [] = cost-stay g u ∙ sym (cost-stay h u)
+      from u (v ∷ t) = cost-step g u v t ∙ ap₂ (λ (m n : ℕ). m + n) (A .hops-agree u v) (from v t) ∙ sym (cost-step h u v t)
+
+  pub rank-agrees : (key : ℕ → ℕ) (p : List ℕ) → rank g key p ≡ rank h key p
+  rank-agrees key p = ap (λ (c : ℕ). c ∷ hops p ∷ pathId key p) (cost-agrees p)
+
+-- Two graphs whose hops agree have the same chosen paths.
+pub chosen-agrees : (g h : Graph) → Agree g h → (key : ℕ → ℕ) (a b : ℕ) (p : List ℕ) → Chosen g key a b p → Chosen h key a b p
+chosen-agrees g h A key a b p P = record {
+  path = path-agrees g h A a b p (P .path);
+  least = λ q o. go q (P .least q (path-agrees h g (agree-back g h A) a b q o));
+}
+  where
+    go : (q : List ℕ) → (q ≡ p) ⊎ Lower (rank g key p) (rank g key q) → (q ≡ p) ⊎ Lower (rank h key p) (rank h key q)
+    go q (inl e) = inl e
+    go q (inr l) = inr (subst (λ (z : List ℕ). Lower z (rank h key q)) (rank-agrees g h A key p)
+        (subst (λ (z : List ℕ). Lower (rank g key p) z) (rank-agrees g h A key q) l))
+
+pub enumeration-agrees : (g h : Graph) → Agree g h → GraphLaws g → GraphLaws h → (key : ℕ → ℕ) → KeyLaws g key → KeyLaws h key
+    → (a b : ℕ) → chosen g key a b ≡ chosen h key a b
+enumeration-agrees g h A L M key K N a b = go (chosen g key a b) refl
+  where
+    go : (c : Option (List ℕ)) → chosen g key a b ≡ c → c ≡ chosen h key a b
+    go none e = sym (no-path-none h M key a b (λ p o. none-no-path g L key a b e p (path-agrees h g (agree-back g h A) a b p o)))
+    go (some p) e = sym (is-chosen h M key N a b p (chosen-agrees g h A key a b p (chosen-is g L key K a b p e)))
