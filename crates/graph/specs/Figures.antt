@@ -1,4 +1,4 @@
--- Figures of document 01 on graphs alone, with the ends of the addresses as keys: two that a misreading of the standard would miss.
+-- Figures of document 01 and of IEEE 802.1aq on graphs alone, with the ends of the addresses as keys: what a misreading would miss.
 -- They stand here so that an edit of this crate's definitions meets them; the proved figures on tables are those of the crate `rule`.
 -- Assumes nothing.
 use Prim.Native.Nat.{ℕ}
@@ -66,6 +66,22 @@ figures =
       from = 0;
       to = 3;
       expected = some (0 ∷ 1 ∷ 2 ∷ 3 ∷ []);
+    }
+    -- IEEE 802.1aq, 28.5: {9, 15, 22} is below {7, 8, 9, 10, 22}, both of cost 4. Fewer bridges count before lower identifiers.
+    ∷ record {
+      graph = graphOf 6 (edge 0 1 2 ∷ edge 1 2 2 ∷ edge 0 3 1 ∷ edge 3 4 1 ∷ edge 4 5 1 ∷ edge 5 2 1 ∷ []);
+      keys = 9 ∷ 15 ∷ 22 ∷ 7 ∷ 8 ∷ 10 ∷ [];
+      from = 0;
+      to = 2;
+      expected = some (0 ∷ 1 ∷ 2 ∷ []);
+    }
+    -- IEEE 802.1aq, 28.5: {9, 15, 22, 99} is below {9, 15, 22, 100}.
+    ∷ record {
+      graph = graphOf 5 (edge 0 1 1 ∷ edge 1 4 1 ∷ edge 4 2 1 ∷ edge 1 3 1 ∷ edge 3 2 1 ∷ []);
+      keys = 9 ∷ 15 ∷ 22 ∷ 99 ∷ 100 ∷ [];
+      from = 0;
+      to = 2;
+      expected = some (0 ∷ 1 ∷ 3 ∷ 2 ∷ []);
     }
     -- Bridges that no chain joins.
     ∷ record { graph = graphOf 3 (edge 0 1 10 ∷ []); keys = 1 ∷ 2 ∷ 3 ∷ []; from = 0; to = 2; expected = none }

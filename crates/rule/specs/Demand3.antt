@@ -5,10 +5,9 @@ use mathlib.Core.Path.{_≡_}
 use mathlib.Core.Logic.{_⊎_, _↔_, _≢_}
 use mathlib.Core.List.{List, [], _∷_, _++_, map, reverse}
 use mathlib.Core.Bool.{true}
-use lib.Dec.{T, eqb}
+use lib.Dec.{T}
 use lib.ListN.{length}
-use Rattle.graph.specs.Lists.{filter}
-use Rattle.graph.specs.Members.{In}
+use Rattle.graph.specs.Members.{In, times}
 use Rattle.graph.specs.Order.{Lower}
 use Rattle.graph.specs.Graph.{cost, hops, pathId}
 use Rattle.rule.specs.Records.{HalfLink, Vid, Member, address}
@@ -52,10 +51,6 @@ abbrev pub Chain : List HalfLink → ℕ → ℕ → List ℕ → Type 0
 Chain hs a b [] = ⊥
 Chain hs a b (u ∷ []) = (u ≡ a) × (u ≡ b)
 Chain hs a b (u ∷ v ∷ t) = (u ≡ a) × T (joined hs u v) × Chain hs v b (v ∷ t)
-
--- How often a bridge is reached.
-abbrev pub times : ℕ → List ℕ → ℕ
-times u us = length (filter (eqb u) us)
 
 -- A link seen from its other end.
 abbrev pub turned : Link → Link
