@@ -8,10 +8,14 @@ use mathlib.Core.Bool.{Bool, cond, true, false}
 use lib.Dec.{eqb, ltb}
 use borrow.Author.Tests.{lt-ltb, le-ltb, eq-eqb, ne-eqb}
 use lib.ListN.{length}
-use Rattle.rule.specs.Records.{Record, Bridge, bridge, Layout, Range, inLimits}
+use Rattle.rule.specs.Records.{Record, Bridge, HalfLink, Vid, Member, bridge, halfLink, vid, member, end, field, memberOf, Layout, Range, inLimits}
 use Rattle.graph.specs.Lists.{any}
 use Rattle.rule.specs.Check.{outsideRange}
 use Rattle.table.specs.declared.bridge.BridgeRead.{BridgeRead}
+use Rattle.table.specs.declared.half_link.HalfLinkRead.{HalfLinkRead}
+use Rattle.table.specs.declared.vid.VidRead.{VidRead}
+use Rattle.table.specs.declared.member.MemberRead.{MemberRead}
+use Rattle.table.specs.declared.end.EndRead.{EndRead}
 
 -- 3: "The record's words aren't all there"; 4: "A zero bit is set"; 6: "A value is outside its range"; or the record.
 pub data Read : Type 0 where
@@ -31,6 +35,31 @@ bridgeRead BridgeRead.Cut = cut
 bridgeRead BridgeRead.ZeroBit = zeroBit
 bridgeRead BridgeRead.OutOfRange = outOfRange
 bridgeRead (BridgeRead.Record b) = whole (bridge (record { spSourceId = b .«sp_source_id»; identifier = b .identifier }))
+
+abbrev pub halfLinkRead : HalfLinkRead → Read
+halfLinkRead HalfLinkRead.Cut = cut
+halfLinkRead HalfLinkRead.ZeroBit = zeroBit
+halfLinkRead HalfLinkRead.OutOfRange = outOfRange
+halfLinkRead (HalfLinkRead.Record h) =
+    whole (halfLink (record { metric = h .metric .0; near = h .near; far = h .far; port = h .port; link = h .link }))
+
+abbrev pub vidRead : VidRead → Read
+vidRead VidRead.Cut = cut
+vidRead VidRead.OutOfRange = outOfRange
+vidRead (VidRead.Record v) = whole (vid (record { vid = v .vid; index = v .index }))
+
+abbrev pub memberRead : MemberRead → Read
+memberRead MemberRead.Cut = cut
+memberRead MemberRead.ZeroBit = zeroBit
+memberRead MemberRead.OutOfRange = outOfRange
+memberRead (MemberRead.Record m) =
+    whole
+    (member
+    (record { transmits = m .transmits; receives = m .receives; isid = m .isid; bridge = m .bridge; vid = m .vid }))
+
+abbrev pub endRead : EndRead → Read
+endRead EndRead.Cut = cut
+endRead (EndRead.Record count) = whole (end count)
 
 -- The four findings, by what leads to each.
 module _ (l : Layout) (r : List ℕ) where
@@ -77,3 +106,29 @@ pub same-bridge :
     id ≡ b .identifier →
     whole (bridge (record { spSourceId = sp; identifier = id })) ≡ whole (bridge b)
 same-bridge e f = λ i. whole (bridge (record { spSourceId = e i; identifier = f i }))
+
+pub same-half-link :
+    {m n f p l : ℕ} {h : HalfLink} →
+    m ≡ h .metric →
+    n ≡ h .near →
+    f ≡ h .far →
+    p ≡ h .port →
+    l ≡ h .link →
+    whole (halfLink (record { metric = m; near = n; far = f; port = p; link = l })) ≡ whole (halfLink h)
+same-half-link a b c d e =
+    λ i. whole (halfLink (record { metric = a i; near = b i; far = c i; port = d i; link = e i }))
+
+pub same-vid : {n k : ℕ} {v : Vid} → n ≡ v .vid → k ≡ v .index → whole (vid (record { vid = n; index = k })) ≡ whole (vid v)
+same-vid e f = λ i. whole (vid (record { vid = e i; index = f i }))
+
+pub same-member :
+    (t r : ℕ) {s b v : ℕ} (ws : List ℕ) →
+    t ≡ field 0 25 25 ws →
+    r ≡ field 0 24 24 ws →
+    s ≡ memberOf ws .isid →
+    b ≡ memberOf ws .bridge →
+    v ≡ memberOf ws .vid →
+    whole (member (record { transmits = eqb t 1; receives = eqb r 1; isid = s; bridge = b; vid = v }))
+    ≡ whole (member (memberOf ws))
+same-member t r ws a b c d e =
+    λ i. whole (member (record { transmits = eqb (a i) 1; receives = eqb (b i) 1; isid = c i; bridge = d i; vid = e i }))

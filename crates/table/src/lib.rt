@@ -1,3 +1,7 @@
 // Tables read and checked (01, "The table" and "Refusals in checking order").
 pub mod bridge;
+pub mod end;
+pub mod half_link;
+pub mod member;
+pub mod vid;
 pub mod words;

@@ -1,3 +1,4 @@
+-- `table::bridge::read_bridge` finds what the row of kind 1 lays down: each test of the code is one of `readOf`, in its order. Assumes nothing.
 use Prim.Native.Nat.{_%_, _/_}
 use borrow.Author.Tests.{not-true, not-false}
 use mathlib.Core.Path.{sym, _∙_}
@@ -9,66 +10,48 @@ use Rattle.table.specs.Readers.{read-cut, read-zero-bit, read-outside, r
 use borrow.Author.Needs.{needs}
 use Rattle.table.proofs.bridge.read_bridge.Statement.{statement}
 use Rattle.table.proofs.bridge.read_bridge.Tie as tie
-use Rattle.table.proofs.bridge.read_bridge.Reads as reads
-use Rattle.table.proofs.bridge.read_bridge.Lts as lts
-use Rattle.table.proofs.words.two_words.Reads as two-words-reads
-use Rattle.table.proofs.words.within.Reads as within-reads
-use Rattle.table.proofs.words.word_at.Reads as word-at-reads
 
--- src/bridge.rt:25:9
 returns : tie.Need-returns
 returns c = sym (read-cut bridgeLayout (wordsOf (c .before .before .args .part .now)) (omega (arith, count-of-words (c .before .before .args .part .now))))
 
--- src/bridge.rt:27:9
 word-at-requires : tie.Need-word-at-requires
 word-at-requires c κs = search needs
 
--- src/bridge.rt:29:9
 returns-2 : tie.Need-returns-2
 returns-2 c = sym (read-zero-bit bridgeLayout (wordsOf (c .before .before .before .before .args .part .now)) (omega (arith, count-of-words (c .before .before .before .before .args .part .now))) (λ e. c .if2 .taken (omega arith)))
 
--- src/bridge.rt:32:32
 word-at-requires-2 : tie.Need-word-at-requires-2
 word-at-requires-2 c κs = search needs
 
--- src/bridge.rt:32:50
 word-at-requires-3 : tie.Need-word-at-requires-3
 word-at-requires-3 c κs = search needs
 
--- src/bridge.rt:32:9
 two-words-requires : tie.Need-two-words-requires
 two-words-requires c κs = search needs
 
--- src/bridge.rt:34:16
 cast-within : tie.Need-cast-within
 cast-within c = search needs
 
--- src/bridge.rt:34:9
 within-requires : tie.Need-within-requires
 within-requires c κs = search needs
 
--- src/bridge.rt:35:9
 returns-3 : tie.Need-returns-3
 returns-3 c =
     sym (read-outside bridgeLayout (wordsOf (c .before .before .before .before .before .before .before .before .before .args .part .now)) (omega (arith, count-of-words (c .before .before .before .before .before .before .before .before .before .args .part .now))) (omega arith)
     (outside-here _ _ (wordsOf (c .before .before .before .before .before .before .before .before .before .args .part .now)) (c .before .within .result) ((c .before .before .before .before .before .before .word-at .result) % 1048576) (c .before .within .ensures) (omega arith) (not-true _ (c .if3 .taken))))
 
--- src/bridge.rt:37:9
 within-requires-2 : tie.Need-within-requires-2
 within-requires-2 c κs = search needs
 
--- src/bridge.rt:38:9
 returns-4 : tie.Need-returns-4
 returns-4 c =
     sym (read-outside bridgeLayout (wordsOf (c .before .before .before .before .before .before .before .before .before .before .before .args .part .now)) (omega (arith, count-of-words (c .before .before .before .before .before .before .before .before .before .before .before .args .part .now))) (omega arith)
     (inside-here _ _ (wordsOf (c .before .before .before .before .before .before .before .before .before .before .before .args .part .now)) (c .before .before .before .within .result) ((c .before .before .before .before .before .before .before .before .word-at .result) % 1048576) (c .before .before .before .within .ensures) (omega arith) (not-false _ (c .before .before .if3 .left))
     ∙ outside-here _ _ (wordsOf (c .before .before .before .before .before .before .before .before .before .before .before .args .part .now)) (c .before .within2 .result) ((c .before .before .before .before .two-words .result) % 281474976710656) (c .before .within2 .ensures) (omega arith) (not-true _ (c .if4 .taken))))
 
--- src/bridge.rt:40:9
 within-requires-3 : tie.Need-within-requires-3
 within-requires-3 c κs = search needs
 
--- src/bridge.rt:41:9
 returns-5 : tie.Need-returns-5
 returns-5 c =
     sym (read-outside bridgeLayout (wordsOf (c .before .before .before .before .before .before .before .before .before .before .before .before .before .args .part .now)) (omega (arith, count-of-words (c .before .before .before .before .before .before .before .before .before .before .before .before .before .args .part .now))) (omega arith)
@@ -76,7 +59,6 @@ returns-5 c =
     ∙ inside-here _ _ (wordsOf (c .before .before .before .before .before .before .before .before .before .before .before .before .before .args .part .now)) (c .before .before .before .within2 .result) ((c .before .before .before .before .before .before .two-words .result) % 281474976710656) (c .before .before .before .within2 .ensures) (omega arith) (not-false _ (c .before .before .if4 .left))
     ∙ outside-here _ _ (wordsOf (c .before .before .before .before .before .before .before .before .before .before .before .before .before .args .part .now)) (c .before .within3 .result) ((c .before .before .before .before .before .before .two-words .result) % 281474976710656 / 1099511627776 % 2) (c .before .within3 .ensures) (omega arith) (not-true _ (c .if5 .taken))))
 
--- src/bridge.rt:21:1
 returns-6 : tie.Need-returns-6
 returns-6 c =
     same-bridge (omega arith) (omega arith)

@@ -1,69 +1,52 @@
+-- `table::words::first_word` gives the first word: by its four bytes. Assumes nothing.
 use native.Mathlib.Omega.{arith}
 use Rattle.table.specs.WordLaws.{first-word}
 use borrow.Author.Needs.{needs}
 use Rattle.table.proofs.words.first_word.Statement.{statement}
 use Rattle.table.proofs.words.first_word.Tie as tie
-use Rattle.table.proofs.words.first_word.Reads as reads
-use Rattle.table.proofs.words.first_word.Lts as lts
-use Rattle.table.proofs.words.wide.Reads as wide-reads
 
--- src/words.rt:18:10
 shared-slice-read-wide : tie.Need-shared-slice-read-wide
 shared-slice-read-wide c = search needs
 
--- src/words.rt:18:5
 wide-requires : tie.Need-wide-requires
 wide-requires c κs = search needs
 
--- src/words.rt:18:5
 mul-result : tie.Need-mul-result
 mul-result c = search needs
 
--- src/words.rt:18:37
 shared-slice-read-wide-2 : tie.Need-shared-slice-read-wide-2
 shared-slice-read-wide-2 c = search needs
 
--- src/words.rt:18:32
 wide-requires-2 : tie.Need-wide-requires-2
 wide-requires-2 c κs = search needs
 
--- src/words.rt:18:32
 mul-result-2 : tie.Need-mul-result-2
 mul-result-2 c = search needs
 
--- src/words.rt:18:5
 add-result : tie.Need-add-result
 add-result c = search needs
 
--- src/words.rt:18:61
 shared-slice-read-wide-3 : tie.Need-shared-slice-read-wide-3
 shared-slice-read-wide-3 c = search needs
 
--- src/words.rt:18:56
 wide-requires-3 : tie.Need-wide-requires-3
 wide-requires-3 c κs = search needs
 
--- src/words.rt:18:56
 mul-result-3 : tie.Need-mul-result-3
 mul-result-3 c = search needs
 
--- src/words.rt:18:5
 add-result-2 : tie.Need-add-result-2
 add-result-2 c = search needs
 
--- src/words.rt:18:83
 shared-slice-read-wide-4 : tie.Need-shared-slice-read-wide-4
 shared-slice-read-wide-4 c = search needs
 
--- src/words.rt:18:78
 wide-requires-4 : tie.Need-wide-requires-4
 wide-requires-4 c κs = search needs
 
--- src/words.rt:18:5
 add-result-3 : tie.Need-add-result-3
 add-result-3 c = search needs
 
--- src/words.rt:14:1
 returns : tie.Need-returns
 returns c = omega (arith, first-word (c .before .before .before .before .before .before .before .before .before .args .part .now) (c .before .before .before .before .before .before .before .before .before .pre))
 

@@ -1,34 +1,26 @@
+-- `table::words::word_at` gives the word `n`: it is the first of the part that begins there. Assumes nothing.
 use Prim.Native.Nat.{_*_}
 use mathlib.Core.Path.{_∙_}
 use Rattle.table.specs.WordLaws.{part-from, word-of-part}
 use borrow.Author.Needs.{needs}
 use Rattle.table.proofs.words.word_at.Statement.{statement}
 use Rattle.table.proofs.words.word_at.Tie as tie
-use Rattle.table.proofs.words.word_at.Reads as reads
-use Rattle.table.proofs.words.word_at.Lts as lts
-use Rattle.table.proofs.words.first_word.Reads as first-word-reads
 
--- src/words.rt:27:14
 mul-at : tie.Need-mul-at
 mul-at c = search needs
 
--- src/words.rt:28:16
 sub-first-word : tie.Need-sub-first-word
 sub-first-word c = search needs
 
--- src/words.rt:28:16
 part-first-word-start : tie.Need-part-first-word-start
 part-first-word-start c = search needs
 
--- src/words.rt:28:16
 part-first-word-end : tie.Need-part-first-word-end
 part-first-word-end c = search needs
 
--- src/words.rt:28:5
 first-word-requires : tie.Need-first-word-requires
 first-word-requires c κs = search needs
 
--- src/words.rt:23:1
 returns : tie.Need-returns
 returns c = (c .first-word .ensures .0 ∙ rw (part-from (4 * c .before .before .before .args .n) (c .before .before .before .args .part .now)) (word-of-part (c .before .before .before .args .n) (c .before .before .before .args .part .now)), c .first-word .ensures .1)
 

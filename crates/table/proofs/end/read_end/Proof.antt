@@ -1,0 +1,24 @@
+-- `table::end::read_end` finds what the row of kind 15 lays down. Assumes nothing.
+use native.Mathlib.Omega.{arith}
+use mathlib.Core.Path.{refl, sym, ap, _∙_}
+use Rattle.rule.specs.Words.{wordsOf}
+use Rattle.rule.specs.Records.{end, endLayout}
+use Rattle.table.specs.WordLaws.{count-of-words}
+use Rattle.table.specs.Readers.{whole, read-cut, read-whole, inside-all}
+use borrow.Author.Needs.{needs}
+use Rattle.table.proofs.end.read_end.Statement.{statement}
+use Rattle.table.proofs.end.read_end.Tie as tie
+
+returns : tie.Need-returns
+returns c = sym (read-cut endLayout (wordsOf (c .before .before .args .part .now)) (omega (arith, count-of-words (c .before .before .args .part .now))))
+
+word-at-requires : tie.Need-word-at-requires
+word-at-requires c κs = search needs
+
+returns-2 : tie.Need-returns-2
+returns-2 c =
+    ap (λ n. whole (end n)) (omega arith)
+    ∙ sym (read-whole endLayout (wordsOf (c .before .before .before .args .part .now)) (omega (arith, count-of-words (c .before .before .before .args .part .now))) refl (inside-all (wordsOf (c .before .before .before .args .part .now))))
+
+pub read-end-spec : {M : Type 1} → statement M
+read-end-spec = tie.close (tie.spec returns word-at-requires returns-2)
