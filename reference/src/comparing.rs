@@ -1,0 +1,107 @@
+//! What the comparers share: a run over generated tables with progress, and a
+//! failure that shows the table and both answers.
+
+use std::path::Path;
+use std::process::ExitCode;
+
+use crate::arguments::Arguments;
+use crate::generate::stream::{case, Case};
+use crate::words::to_text;
+
+/// Both answers to one table.
+pub struct Difference {
+    pub reference: String,
+    pub tried: String,
+}
+
+/// A run: `count` tables of a seed, from number `first` on.
+pub struct Run {
+    pub seed: u64,
+    pub first: u64,
+    pub count: u64,
+}
+
+impl Run {
+    pub fn of(arguments: &Arguments) -> Run {
+        Run {
+            seed: arguments.number("seed", 1),
+            first: arguments.number("first", 0),
+            count: arguments.number("count", 1_000),
+        }
+    }
+
+    /// Compares every table; ends at the first difference.
+    pub fn compare(&self, name: &str, test: &mut dyn FnMut(&Case) -> Result<(), Difference>) -> ExitCode {
+        println!("{name}: seed {}, {} tables from number {}", self.seed, self.count, self.first);
+        for done in 0..self.count {
+            let number = self.first + done;
+            let case = case(self.seed, number);
+            if let Err(difference) = test(&case) {
+                self.report(name, &case, &difference);
+                return ExitCode::FAILURE;
+            }
+            if (done + 1) % self.count.div_ceil(10) == 0 {
+                println!("{name}: {} of {} tables agree", done + 1, self.count);
+            }
+        }
+        println!("{name}: all {} tables agree", self.count);
+        ExitCode::SUCCESS
+    }
+
+    fn report(&self, name: &str, case: &Case, difference: &Difference) {
+        let number = case.number;
+        println!("{name}: FAILED at table {number} of seed {} ({})", self.seed, case.name);
+        println!("again with: --seed {} --first {number} --count 1", self.seed);
+        println!("table, {} bytes:\n{}", case.table.len(), to_text(&case.table));
+        println!("reference:\n{}\ntried:\n{}", difference.reference, difference.tried);
+    }
+}
+
+/// Reports a program that is not there: a failure only when it is required.
+pub fn absent(program: &str, required: bool) -> Option<ExitCode> {
+    if Path::new(program).is_file() {
+        return None;
+    }
+    println!("not built yet: {program}");
+    Some(if required { ExitCode::FAILURE } else { ExitCode::SUCCESS })
+}
+
+/// The first line that differs, and a few lines of both texts from there.
+pub fn text_difference(reference: &str, tried: &str) -> Result<(), Difference> {
+    const SHOWN: usize = 12;
+    if reference == tried {
+        return Ok(());
+    }
+    let lines = |text: &str| text.split('\n').map(str::to_string).collect::<Vec<_>>();
+    let (left, right) = (lines(reference), lines(tried));
+    let first = left.iter().zip(&right).take_while(|(one, other)| one == other).count();
+    let excerpt = |lines: &[String]| {
+        let shown: Vec<&str> =
+            lines[first.min(lines.len())..].iter().take(SHOWN).map(String::as_str).collect();
+        format!("  {} lines, from line {}:\n{}", lines.len(), first + 1, shown.join("\n"))
+    };
+    Err(Difference { reference: excerpt(&left), tried: excerpt(&right) })
+}
+
+#[cfg(test)]
+mod tests {
+    use super::*;
+
+    #[test]
+    fn equal_texts_do_not_differ() {
+        assert!(text_difference("a\nb\n", "a\nb\n").is_ok());
+    }
+
+    #[test]
+    fn the_first_line_that_differs_is_shown() {
+        let difference = text_difference("a\nb\nc\n", "a\nx\nc\n").expect_err("the texts differ");
+        assert!(difference.reference.contains("from line 2:\nb"), "{}", difference.reference);
+        assert!(difference.tried.contains("from line 2:\nx"), "{}", difference.tried);
+    }
+
+    #[test]
+    fn a_missing_newline_is_a_difference() {
+        assert!(text_difference("a\n", "a").is_err());
+        assert!(text_difference("a\n", "a\n\n").is_err());
+    }
+}

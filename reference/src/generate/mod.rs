@@ -1,0 +1,7 @@
+//! A seeded generator of tables, valid and damaged.
+
+pub mod damage;
+pub mod edits;
+pub mod shapes;
+pub mod stream;
+pub mod valid;

@@ -1,0 +1,28 @@
+//! A separate implementation of document 01, written from its text alone.
+//!
+//! The calls (`check`, `path`, `tree`, `entries`, `lookup`, `listing`), the frames
+//! that move by the words written (`frames`), generators of tables (`generate`),
+//! and the tests over all of them (`properties`).
+
+pub mod arguments;
+pub mod check;
+pub mod checked;
+pub mod comparing;
+pub mod entries;
+pub mod frames;
+pub mod generate;
+pub mod labels;
+pub mod lent;
+pub mod links;
+pub mod listing;
+pub mod lookup;
+pub mod path;
+pub mod properties;
+pub mod random;
+pub mod rank;
+pub mod records;
+pub mod refusal;
+pub mod rules;
+pub mod search;
+pub mod tree;
+pub mod words;

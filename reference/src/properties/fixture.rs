@@ -1,0 +1,71 @@
+//! Plans for the figures and the standard's vectors, and short forms of calls.
+
+use crate::path::{path, PathAnswer};
+use crate::records::{Bridge, HalfLink, Plan, Vid};
+use crate::refusal::Refusal;
+use crate::rules::Rules;
+
+/// A link: two bridges by their place, and the metrics of the two ends.
+pub type FixedLink = (usize, usize, [u32; 2]);
+
+/// A link with equal metrics.
+pub fn link(from: usize, to: usize, metric: u32) -> FixedLink {
+    (from, to, [metric; 2])
+}
+
+/// Bridges by priority and last part of the address 020000000000; links numbered
+/// from 1, ports counted for each bridge in the order of the links; VID 1 to 16
+/// with index 1 to 16.
+pub fn plan(bridges: &[(u16, u64)], links: &[FixedLink]) -> Plan {
+    let numbers: Vec<u16> = (1..=links.len() as u16).collect();
+    numbered_plan(bridges, links, &numbers)
+}
+
+/// As `plan`, with the link numbers given.
+pub fn numbered_plan(bridges: &[(u16, u64)], links: &[FixedLink], numbers: &[u16]) -> Plan {
+    let bridge = |(place, &(priority, end)): (usize, &(u16, u64))| Bridge {
+        source_id: place as u32 + 1,
+        priority,
+        address: 0x0200_0000_0000 + end,
+    };
+    let mut plan = Plan {
+        bridges: bridges.iter().enumerate().map(bridge).collect(),
+        vids: (1..=16).map(|number| Vid { vid: number, index: number }).collect(),
+        ..Plan::default()
+    };
+    for (&(from, to, [near_metric, far_metric]), &link) in links.iter().zip(numbers) {
+        let (near, far) = (from as u16, to as u16);
+        let next_port = |plan: &Plan, bridge: u16| {
+            1 + plan.half_links.iter().filter(|half| half.near == bridge).count() as u16
+        };
+        let ports = [next_port(&plan, near), next_port(&plan, far)];
+        plan.half_links.push(HalfLink { metric: near_metric, near, far, port: ports[0], link });
+        plan.half_links.push(HalfLink { metric: far_metric, near: far, far: near, port: ports[1], link });
+    }
+    plan
+}
+
+/// Bridges of priority 8000 by the ends of their addresses.
+pub fn ends<const N: usize>(ends: [u64; N]) -> [(u16, u64); N] {
+    ends.map(|end| (0x8000, end))
+}
+
+/// The bridges of the chosen path with its cost and hops, by the path call.
+pub fn route(
+    rules: Rules,
+    plan: &Plan,
+    vid: u32,
+    from: u32,
+    to: u32,
+) -> Result<(Vec<u32>, PathAnswer), Refusal> {
+    let mut lent = vec![0; plan.bridges.len()];
+    let answer = path(rules, &plan.bytes(), (vid, from, to), &mut lent)?;
+    lent.truncate(answer.hops + 1);
+    Ok((lent, answer))
+}
+
+/// The diamond: 0-1, 1-3, 0-2, 2-3, each 10.
+pub fn diamond(priorities: [u16; 4]) -> Plan {
+    let bridges = [1, 2, 3, 4].map(|end| (priorities[end as usize - 1], end));
+    plan(&bridges, &[link(0, 1, 10), link(1, 3, 10), link(0, 2, 10), link(2, 3, 10)])
+}

@@ -1,0 +1,76 @@
+//! The properties that the rules are tested for, by name: for the rules as written
+//! all are to hold, for a misreading one is to fail.
+
+pub mod agreement;
+pub mod buffers;
+pub mod demand3;
+pub mod figures;
+pub mod fixture;
+pub mod listings;
+pub mod lookups;
+pub mod standard;
+pub mod tables;
+
+use crate::rules::Rules;
+
+/// What a property is tested for.
+#[derive(Clone, Copy, Debug)]
+pub struct Setting {
+    pub rules: Rules,
+    pub seed: u64,
+    /// The number of random tables that a property with such tables makes.
+    pub tables: u64,
+}
+
+pub type Outcome = Result<(), String>;
+
+#[derive(Clone, Copy)]
+pub struct Property {
+    pub name: &'static str,
+    pub run: fn(&Setting) -> Outcome,
+}
+
+/// Declares the list of properties by the functions' own names.
+macro_rules! properties {
+    ($($module:ident: $($name:ident),+;)+) => {
+        pub const ALL: &[Property] = &[$($(Property { name: stringify!($name), run: $module::$name },)+)+];
+    };
+}
+
+properties! {
+    figures: diamond, diamond_with_priority, direct_link, six_bridges, parallel_links, metric_ends,
+        least_and_empty_table, sixty_four_bridges, places_for_two_hops, longest_table, longest_entry_list,
+        exported_figures;
+    standard: masks_of_table_28_1, fewer_bridges_first, higher_fourth_bridge, complement_is_not_greatest,
+        equal_priorities, group_addresses;
+    tables: every_edit_refused, every_truncation_refused, wrong_lengths_refused, words_after_end_refused,
+        limits_refused, two_faults_refused, ends_of_ranges_accepted, valid_tables_accepted;
+    agreement: label_correcting_agrees_with_brute_force, costs_agree_with_all_pairs, exported_numbers_agree,
+        trees_agree;
+    buffers: path_lists_of_every_length, entry_lists_of_every_length, tree_lists_of_every_length,
+        unknown_names_refused, faulty_tables_refused_by_every_call;
+    lookups: matches_counted, faulty_lists_refused, written_lists_looked_up;
+    listings: worked_listing, listing_without_paths, listing_says_what_the_calls_say;
+    demand3: demand_3_on_small_plans, demand_3_on_middle_plans, demand_3_on_largest_plans;
+}
+
+/// Fails a property with a message unless the condition holds.
+macro_rules! ensure {
+    ($condition:expr, $($message:tt)+) => {
+        if !$condition {
+            return Err(format!($($message)+));
+        }
+    };
+}
+pub(crate) use ensure;
+
+/// Fails a property unless two values are equal.
+pub(crate) fn equal<T: PartialEq + std::fmt::Debug>(what: &str, found: T, expected: T) -> Outcome {
+    ensure!(found == expected, "{what}: found {found:?}, expected {expected:?}");
+    Ok(())
+}
+
+/// A failure for one table carries the table as hexadecimal.
+pub(crate) fn with_table(table: &[u8], outcome: Outcome) -> Outcome {
+    outcome.map_err(|why| format!("{why}\ntable:\n{}", crate::words::to_text(table)))
+}

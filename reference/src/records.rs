@@ -1,0 +1,235 @@
+//! The records of a table: kinds, layouts, fields, and a plan of decoded
+//! records with the words that it makes.
+
+use crate::words::{halves, pair};
+
+#[derive(Clone, Copy, PartialEq, Eq, PartialOrd, Ord, Debug)]
+pub enum Kind {
+    Bridge = 1,
+    HalfLink = 2,
+    Vid = 3,
+    Member = 4,
+    End = 15,
+}
+
+impl Kind {
+    pub const ALL: [Kind; 5] = [Kind::Bridge, Kind::HalfLink, Kind::Vid, Kind::Member, Kind::End];
+
+    /// The kind in bits 31..28 of a record's first word.
+    pub fn of(first_word: u32) -> Option<Kind> {
+        Kind::ALL.into_iter().find(|&kind| kind as u32 == first_word >> 28)
+    }
+
+    pub fn words(self) -> usize {
+        match self {
+            Kind::Bridge | Kind::HalfLink => 3,
+            Kind::Member => 2,
+            Kind::Vid | Kind::End => 1,
+        }
+    }
+
+    /// How many records of the kind a table may hold. A second end record is
+    /// never read, so none is ever one too many.
+    pub fn limit(self) -> usize {
+        match self {
+            Kind::Bridge | Kind::Member => 64,
+            Kind::HalfLink => 512,
+            Kind::Vid => 16,
+            Kind::End => 1,
+        }
+    }
+
+    /// The bits of the first word that are to be zero.
+    pub fn zero_bits(self) -> u32 {
+        match self {
+            Kind::Bridge => 0x0FF0_0000,
+            Kind::HalfLink => 0x0F00_0000,
+            Kind::Member => 0x0C00_0000,
+            Kind::Vid | Kind::End => 0,
+        }
+    }
+
+    /// The kind in its place, above a first word's other bits.
+    pub fn tag(self) -> u32 {
+        (self as u32) << 28
+    }
+}
+
+/// Least, greatest usable and unusable metric.
+pub const LEAST_METRIC: u32 = 1;
+pub const GREATEST_USABLE_METRIC: u32 = 16_777_214;
+pub const UNUSABLE_METRIC: u32 = 16_777_215;
+
+/// The group bit of a 48-bit address: the lowest bit of its first octet.
+pub const GROUP_BIT: u64 = 1 << 40;
+
+#[derive(Clone, Copy, PartialEq, Eq, Debug)]
+pub struct Bridge {
+    pub source_id: u32,
+    pub priority: u16,
+    pub address: u64,
+}
+
+impl Bridge {
+    /// The 64-bit Bridge Identifier.
+    pub fn identifier(&self) -> u64 {
+        u64::from(self.priority) << 48 | self.address
+    }
+
+    pub fn words(&self) -> [u32; 3] {
+        let identifier = self.identifier();
+        [Kind::Bridge.tag() | self.source_id, (identifier >> 32) as u32, identifier as u32]
+    }
+
+    fn read(part: &[u32]) -> Bridge {
+        let (priority, address_high) = halves(part[1]);
+        Bridge {
+            source_id: part[0] & 0x000F_FFFF,
+            priority,
+            address: u64::from(address_high) << 32 | u64::from(part[2]),
+        }
+    }
+}
+
+#[derive(Clone, Copy, PartialEq, Eq, Debug)]
+pub struct HalfLink {
+    pub metric: u32,
+    pub near: u16,
+    pub far: u16,
+    pub port: u16,
+    pub link: u16,
+}
+
+impl HalfLink {
+    pub fn words(&self) -> [u32; 3] {
+        [Kind::HalfLink.tag() | self.metric, pair(self.near, self.far), pair(self.port, self.link)]
+    }
+
+    fn read(part: &[u32]) -> HalfLink {
+        let (near, far) = halves(part[1]);
+        let (port, link) = halves(part[2]);
+        HalfLink { metric: part[0] & 0x00FF_FFFF, near, far, port, link }
+    }
+
+    /// Near and far bridge exchanged, and nothing else.
+    pub fn mirrors(&self, other: &HalfLink) -> bool {
+        self.near == other.far && self.far == other.near
+    }
+}
+
+#[derive(Clone, Copy, PartialEq, Eq, Debug)]
+pub struct Vid {
+    pub vid: u16,
+    pub index: u16,
+}
+
+impl Vid {
+    pub fn words(&self) -> [u32; 1] {
+        [Kind::Vid.tag() | pair(self.vid, self.index)]
+    }
+
+    fn read(part: &[u32]) -> Vid {
+        let (high, index) = halves(part[0]);
+        Vid { vid: high & 0x0FFF, index }
+    }
+}
+
+#[derive(Clone, Copy, PartialEq, Eq, Debug)]
+pub struct Member {
+    pub transmits: bool,
+    pub receives: bool,
+    pub service: u32,
+    pub bridge: u16,
+    pub vid: u16,
+}
+
+impl Member {
+    pub fn words(&self) -> [u32; 2] {
+        let flags = u32::from(self.transmits) << 25 | u32::from(self.receives) << 24;
+        [Kind::Member.tag() | flags | self.service, pair(self.bridge, self.vid)]
+    }
+
+    fn read(part: &[u32]) -> Member {
+        let (bridge, vid) = halves(part[1]);
+        Member {
+            transmits: part[0] >> 25 & 1 == 1,
+            receives: part[0] >> 24 & 1 == 1,
+            service: part[0] & 0x00FF_FFFF,
+            bridge,
+            vid,
+        }
+    }
+}
+
+#[derive(Clone, Copy, Debug)]
+pub enum Record {
+    Bridge(Bridge),
+    HalfLink(HalfLink),
+    Vid(Vid),
+    Member(Member),
+    End { count: u32 },
+}
+
+impl Record {
+    /// Reads a record from the part of the table that starts at its first word.
+    pub fn read(kind: Kind, part: &[u32]) -> Record {
+        match kind {
+            Kind::Bridge => Record::Bridge(Bridge::read(part)),
+            Kind::HalfLink => Record::HalfLink(HalfLink::read(part)),
+            Kind::Vid => Record::Vid(Vid::read(part)),
+            Kind::Member => Record::Member(Member::read(part)),
+            Kind::End => Record::End { count: part[0] & 0x0FFF_FFFF },
+        }
+    }
+}
+
+/// The records of a table but for its end, kind by kind, in their order.
+#[derive(Clone, Default, PartialEq, Eq, Debug)]
+pub struct Plan {
+    pub bridges: Vec<Bridge>,
+    pub half_links: Vec<HalfLink>,
+    pub vids: Vec<Vid>,
+    pub members: Vec<Member>,
+}
+
+impl Plan {
+    pub fn count(&self, kind: Kind) -> usize {
+        match kind {
+            Kind::Bridge => self.bridges.len(),
+            Kind::HalfLink => self.half_links.len(),
+            Kind::Vid => self.vids.len(),
+            Kind::Member => self.members.len(),
+            Kind::End => 0,
+        }
+    }
+
+    pub fn push(&mut self, record: Record) {
+        match record {
+            Record::Bridge(bridge) => self.bridges.push(bridge),
+            Record::HalfLink(half_link) => self.half_links.push(half_link),
+            Record::Vid(vid) => self.vids.push(vid),
+            Record::Member(member) => self.members.push(member),
+            Record::End { .. } => {}
+        }
+    }
+
+    pub fn index_of_vid(&self, vid: u16) -> Option<u16> {
+        self.vids.iter().find(|record| record.vid == vid).map(|record| record.index)
+    }
+
+    /// The words of the table, its end record included.
+    pub fn words(&self) -> Vec<u32> {
+        let mut words = Vec::new();
+        words.extend(self.bridges.iter().flat_map(Bridge::words));
+        words.extend(self.half_links.iter().flat_map(HalfLink::words));
+        words.extend(self.vids.iter().flat_map(Vid::words));
+        words.extend(self.members.iter().flat_map(Member::words));
+        let before = u32::try_from(words.len()).expect("a table's words fit in 32 bits");
+        words.push(Kind::End.tag() | before);
+        words
+    }
+
+    pub fn bytes(&self) -> Vec<u8> {
+        crate::words::bytes_of(&self.words())
+    }
+}

@@ -1,0 +1,76 @@
+//! Every property passes for the rules as written.
+
+use reference::properties::{Property, Setting, ALL};
+use reference::rules::Rules;
+
+const SETTING: Setting = Setting { rules: Rules::AS_WRITTEN, seed: 1, tables: 3_000 };
+
+fn run(name: &str) {
+    let property = ALL.iter().find(|property| property.name == name).expect("the property exists");
+    println!("{name}: seed {}, {} tables", SETTING.seed, SETTING.tables);
+    if let Err(why) = (property.run)(&SETTING) {
+        panic!("{name}: {why}");
+    }
+}
+
+/// A test for each property, and a list of their names.
+macro_rules! tests {
+    ($($name:ident)+) => {
+        $(#[test] fn $name() { run(stringify!($name)); })+
+
+        const TESTED: &[&str] = &[$(stringify!($name)),+];
+    };
+}
+
+tests! {
+    diamond
+    diamond_with_priority
+    direct_link
+    six_bridges
+    parallel_links
+    metric_ends
+    least_and_empty_table
+    sixty_four_bridges
+    places_for_two_hops
+    longest_table
+    longest_entry_list
+    exported_figures
+    masks_of_table_28_1
+    fewer_bridges_first
+    higher_fourth_bridge
+    complement_is_not_greatest
+    equal_priorities
+    group_addresses
+    every_edit_refused
+    every_truncation_refused
+    wrong_lengths_refused
+    words_after_end_refused
+    limits_refused
+    two_faults_refused
+    ends_of_ranges_accepted
+    valid_tables_accepted
+    label_correcting_agrees_with_brute_force
+    costs_agree_with_all_pairs
+    exported_numbers_agree
+    trees_agree
+    path_lists_of_every_length
+    entry_lists_of_every_length
+    tree_lists_of_every_length
+    unknown_names_refused
+    faulty_tables_refused_by_every_call
+    matches_counted
+    faulty_lists_refused
+    written_lists_looked_up
+    worked_listing
+    listing_without_paths
+    listing_says_what_the_calls_say
+    demand_3_on_small_plans
+    demand_3_on_middle_plans
+    demand_3_on_largest_plans
+}
+
+#[test]
+fn every_property_is_tested() {
+    let names = |property: &Property| property.name;
+    assert_eq!(ALL.iter().map(names).collect::<Vec<_>>(), TESTED);
+}
