@@ -125,7 +125,8 @@ pub fn trees_agree(setting: &Setting) -> Outcome {
             for to in 0..size {
                 let path = chosen_path(&written.ranking(vid.index), from, to);
                 let expected = path.map_or([0, 0, NO_BRIDGE], |path| {
-                    let before = path.bridges.iter().rev().nth(1).map_or(from as u32, |&bridge| bridge as u32);
+                    let before =
+                        path.bridges.iter().rev().nth(1).map_or(from as u32, |&bridge| bridge as u32);
                     [path.cost as u32, path.hops() as u32, before]
                 });
                 equal(
