@@ -1,21 +1,22 @@
 -- The chosen path: it is unique, of least cost, without a bridge twice; its parts and its reverse are chosen;
 -- its cost and hop count do not depend on the key (01, "The chosen path").
 -- Assumes nothing.
-use Prim.Native.Nat.{ℕ, zero, suc, _+_, _-_, _≤_, _<_}
+use Prim.Native.Nat.{ℕ, _-_, _≤_, _<_}
 use native.Mathlib.Omega.{arith}
 use mathlib.Core.Path.{_≡_, refl, sym, ap, _∙_, subst}
 use mathlib.Core.List.{List, [], _∷_, _++_, map, reverse, append-nil, append-assoc, append-cancel-left, append-cancel-right, reverse-reverse}
 use mathlib.Core.Logic.{_⊎_, inl, inr}
-use lib.ListN.{length}
+use lib.Dec.{T}
+use lib.ListN.{length, length-map}
 use Rattle.graph.specs.Order.{Lower}
-use Rattle.graph.specs.Graph.{Graph, GraphLaws, KeyLaws, Onward, Path, costOnward, cost, hops, pathId, rank}
+use Rattle.graph.specs.Graph.{Graph, GraphLaws, KeyLaws, Onward, Path, cost, hops, pathId, rank}
 use Rattle.graph.specs.Chosen.{Chosen}
-use Rattle.graph.specs.Members.{In, Distinct, lastOf}
-use Rattle.graph.specs.Notions.{Joint, Least, Leaves}
-use Rattle.graph.specs.ListLaws.{le-or-gt, compared, nil-not-cons, lastOf-append, in-here, two-in}
-use Rattle.graph.specs.OrderLaws.{lower-never, lower-one-way, lower-compared}
+use Rattle.graph.specs.Members.{Distinct, lastOf}
+use Rattle.graph.specs.Notions.{Joint, Linked, Least}
+use Rattle.graph.specs.ListLaws.{le-or-gt, nil-not-cons, lastOf-append}
+use Rattle.graph.specs.OrderLaws.{lower-never, lower-one-way, lower-compared, length-sorted}
 use Rattle.graph.specs.Ranks.{rank-places, rank-around, rank-around-same, rank-reverse, cost-stay}
-use Rattle.graph.specs.Paths.{ends, split, replaced, cost-positive, path-first, path-reverse}
+use Rattle.graph.specs.Paths.{ends, split, replaced, cost-positive, path-first, path-reverse, linked-path}
 use Rattle.graph.specs.LeastPaths.{least-distinct, distinct-bounded, no-tie, least-apart}
 
 module _ (g : Graph) (key : ℕ → ℕ) where
@@ -39,6 +40,31 @@ module _ (g : Graph) (key : ℕ → ℕ) where
       go (inl e) r = sym e
       go (inr h) (inl e) = e
       go (inr h) (inr k) = absurd (lower-one-way (rank g key p) (rank g key q) h k)
+
+  -- "Every other list of bridges from a to b, each joined to the next, costs more, or ties and has more hops,
+  -- or ties in both and has a higher masked PATHID" (demand 3). The two PATHIDs then have equal lengths.
+  pub chosen-below : (a b : ℕ) (p q : List ℕ) → Chosen g key a b p → Path g a b q → (q ≡ p → ⊥)
+      → (cost g p < cost g q) ⊎ ((cost g p ≡ cost g q) × (hops p < hops q))
+      ⊎ ((cost g p ≡ cost g q) × (hops p ≡ hops q) × Lower (pathId key p) (pathId key q))
+  chosen-below a b p q P o n = go (P .least q o)
+    where
+      go : (q ≡ p) ⊎ Lower (rank g key p) (rank g key q)
+          → (cost g p < cost g q) ⊎ ((cost g p ≡ cost g q) × (hops p < hops q))
+          ⊎ ((cost g p ≡ cost g q) × (hops p ≡ hops q) × Lower (pathId key p) (pathId key q))
+      go (inl e) = absurd (n e)
+      go (inr (inl h)) = inl h
+      go (inr (inr (h, inl k))) = inr (inl (h, k))
+      go (inr (inr (h, inr k))) = inr (inr (h, k .0, k .1))
+
+  pub pathId-lengths : (a b : ℕ) (p q : List ℕ) → Path g a b p → Path g a b q → hops p ≡ hops q → length (pathId key p) ≡ length (pathId key q)
+  pathId-lengths a b (x ∷ p) (y ∷ q) P Q e =
+      omega (arith, length-sorted (map key (x ∷ p)), length-sorted (map key (y ∷ q)), length-map p key, length-map q key)
+
+  -- The same where all bridges may lie between, with the part about lying between gone.
+  pub chosen-below-linked : ((v : ℕ) → T (g .between v)) → (a b : ℕ) (p q : List ℕ) → Chosen g key a b p → Linked g a b q → (q ≡ p → ⊥)
+      → (cost g p < cost g q) ⊎ ((cost g p ≡ cost g q) × (hops p < hops q))
+      ⊎ ((cost g p ≡ cost g q) × (hops p ≡ hops q) × Lower (pathId key p) (pathId key q))
+  chosen-below-linked all a b p q P o n = chosen-below a b p q P (linked-path g all a b q o) n
 
   -- No path is lower than the chosen one.
   pub chosen-lowest : (a b : ℕ) (p q : List ℕ) → Chosen g key a b p → Path g a b q → Lower (rank g key q) (rank g key p) → ⊥

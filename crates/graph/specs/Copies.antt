@@ -1,14 +1,13 @@
 -- Group frames: copies sent down the chosen paths from a sender to its receivers reach each receiver once, no bridge twice,
 -- and never the sender (demand 3).
 -- Assumes nothing.
-use Prim.Native.Nat.{ℕ, zero, suc, _+_, _-_, _≤_, _<_}
+use Prim.Native.Nat.{ℕ, zero, suc, _+_, _≤_, _<_}
 use native.Mathlib.Omega.{arith}
-use native.Mathlib.Nat.{suc-inj}
 use mathlib.Core.Path.{_≡_, refl, sym, ap, _∙_, subst}
-use mathlib.Core.List.{List, [], _∷_, _++_, flatMap, append-assoc, append-cancel-right}
+use mathlib.Core.List.{List, [], _∷_, _++_, append-assoc, append-cancel-right}
 use mathlib.Core.Logic.{_⊎_, inl, inr}
 use lib.ListN.{length, length-append}
-use Rattle.graph.specs.Graph.{Graph, GraphLaws, Path, hops}
+use Rattle.graph.specs.Graph.{Graph, GraphLaws, hops}
 use Rattle.graph.specs.Chosen.{Chosen}
 use Rattle.graph.specs.Members.{In, Distinct, lastOf, times}
 use Rattle.graph.specs.Notions.{Least, Leaves}
@@ -16,7 +15,7 @@ use Rattle.graph.specs.Moves.{copies, entered, Feeds, HandsDown}
 use Rattle.graph.specs.ListLaws.{le-or-gt, in-left, in-right, in-here, in-append, in-flatMap, flatMap-in, distinct-append, distinct-flatMap, nothing-in, same-last, times-none, times-one, times-at-most-one}
 use Rattle.graph.specs.Paths.{ends, stays-inside}
 use Rattle.graph.specs.ChosenPaths.{chosen-unique, chosen-first, chosen-stay, chosen-start, chosen-bounded}
-use Rattle.graph.specs.Forwarding.{leaves-split, split-leaves}
+use Rattle.graph.specs.Forwarding.{leaves-split, split-leaves, arrival}
 
 -- `v` is the bridge after `n` hops of its chosen path from `s`.
 abbrev Placed : Graph → (ℕ → ℕ) → ℕ → ℕ → ℕ → Type 0
@@ -73,6 +72,14 @@ module _ (g : Graph) (key : ℕ → ℕ) (s : ℕ) where
 
       copy-inside : (n v : ℕ) → In v (copies children s n) → v < g .size
       copy-inside n v h = placed-inside n v (copy-placed n v h)
+
+      -- "At each bridge that the frame from a enters, the entry for a names the arrival port" (demand 3), for copies and their sender:
+      -- from a bridge entered from `c` the chosen path back to the sender begins with the hop to `c`.
+      pub copy-arrival : (c v : ℕ) → c < g .size → In v (children c) → (t : List ℕ) × Chosen g key v s (v ∷ c ∷ t)
+      copy-arrival c v l h = go (H .fed c v l h)
+        where
+          go : Feeds g key s Receives c v → (t : List ℕ) × Chosen g key v s (v ∷ c ∷ t)
+          go (r, k, p, P, i) = arrival g L key s r p c v P i
 
       -- Within a round no bridge is entered twice.
       pub round-distinct : (n : ℕ) → Distinct (copies children s n)

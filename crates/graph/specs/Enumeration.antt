@@ -1,20 +1,19 @@
 -- The definition by enumeration gives exactly the chosen path, and none exactly where no path exists (01, "The chosen path").
 -- Assumes nothing.
-use Prim.Native.Nat.{ℕ, zero, suc, _+_, _-_, _≤_, _<_}
+use Prim.Native.Nat.{ℕ, zero, suc, _-_, _≤_, _<_}
 use native.Mathlib.Omega.{arith}
 use mathlib.Core.Path.{_≡_, refl, sym, ap, _∙_, subst}
-use mathlib.Core.List.{List, [], _∷_, _++_, map, flatMap}
+use mathlib.Core.List.{List, [], _∷_, map, flatMap}
 use mathlib.Core.Option.{Option, none, some}
 use mathlib.Core.Logic.{_⊎_, inl, inr}
-use mathlib.Core.Bool.{Bool, true, false}
 use lib.Dec.{T, ltb, eqb, ltb→lt, lt→ltb, eqb→eq, eqb-refl}
 use lib.ListN.{length}
-use Rattle.graph.specs.Lists.{rising, consIf, filter, lowestBy}
+use Rattle.graph.specs.Lists.{rising, filter}
 use Rattle.graph.specs.Order.{Lower, lower}
 use Rattle.graph.specs.Graph.{Graph, GraphLaws, KeyLaws, Joined, GoesOn, Onward, Path, costOnward, cost, rank}
 use Rattle.graph.specs.Chosen.{Chosen, neighbours, goesOn, onward, paths, chosen}
 use Rattle.graph.specs.Members.{In, Distinct}
-use Rattle.graph.specs.ListLaws.{none-not-some, in-map, map-in, in-flatMap, flatMap-in, filter-in, in-filter, in-consIf, consIf-here, consIf-there, in-rising, lowest-is, lowest-none}
+use Rattle.graph.specs.ListLaws.{in-map, map-in, in-flatMap, flatMap-in, filter-in, in-filter, in-consIf, consIf-here, consIf-there, in-rising, lowest-is, lowest-none}
 use Rattle.graph.specs.OrderLaws.{lower-never, lower-chained, lower-between, lower-test, test-lower}
 use Rattle.graph.specs.Paths.{entered-inside, path-first}
 use Rattle.graph.specs.LeastPaths.{without-repeats, distinct-bounded}

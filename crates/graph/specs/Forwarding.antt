@@ -1,19 +1,19 @@
 -- Individual frames: following at each bridge the second bridge of its chosen path to b visits exactly the chosen path (demand 3).
 -- Assumes nothing.
-use Prim.Native.Nat.{ℕ, zero, suc, _+_, _-_, _≤_, _<_}
+use Prim.Native.Nat.{ℕ, zero, suc, _≤_, _<_}
 use native.Mathlib.Omega.{arith}
 use mathlib.Core.Path.{_≡_, refl, sym, ap, _∙_, subst}
-use mathlib.Core.List.{List, [], _∷_, _++_, reverse, append-assoc, reverse-append}
-use mathlib.Core.Option.{Option, none, some}
-use mathlib.Core.Logic.{_⊎_, inl, inr}
+use mathlib.Core.List.{List, [], _∷_, _++_, reverse, append-assoc, reverse-append, reverse-cons}
+use mathlib.Core.Option.{Option, some}
+use mathlib.Core.Logic.{inl, inr}
 use mathlib.Core.Bool.{cond}
 use lib.Dec.{eqb}
-use lib.ListN.{length}
+use lib.ListN.{length, length-reverse}
 use Rattle.graph.specs.Graph.{Graph, GraphLaws, KeyLaws, hops}
-use Rattle.graph.specs.Chosen.{Chosen, chosen}
+use Rattle.graph.specs.Chosen.{Chosen}
 use Rattle.graph.specs.Notions.{Least, Leaves}
 use Rattle.graph.specs.Moves.{second, nextHop, enters, stood}
-use Rattle.graph.specs.ListLaws.{nil-not-cons, eqb-same, eqb-other, same-or-not}
+use Rattle.graph.specs.ListLaws.{eqb-same, eqb-other}
 use Rattle.graph.specs.ChosenPaths.{chosen-first, chosen-self, chosen-rest, chosen-start, chosen-reverse}
 use Rattle.graph.specs.Enumeration.{is-chosen}
 
@@ -29,6 +29,20 @@ pub split-leaves : (xs : List ℕ) (c v : ℕ) (ys : List ℕ) → Leaves c v (x
 split-leaves [] c v ys = inl (refl, refl)
 split-leaves (x ∷ []) c v ys = inr (split-leaves [] c v ys)
 split-leaves (x ∷ y ∷ xs) c v ys = inr (split-leaves (y ∷ xs) c v ys)
+
+-- A tree rooted at `r` carries paths to `r`. The chosen path from `r` is the reverse, and its second bridge falls out
+-- when a bridge is settled: it is the bridge itself next to the root, and its next hop's elsewhere.
+pub second-beside : (u r : ℕ) → second (some (reverse (u ∷ r ∷ []))) ≡ some u
+second-beside u r = refl
+
+second-more : (xs ys : List ℕ) → 1 < length xs → second (some (xs ++ ys)) ≡ second (some xs)
+second-more [] ys l = absurd (omega arith)
+second-more (x ∷ []) ys l = absurd (omega arith)
+second-more (x ∷ y ∷ xs) ys l = refl
+
+pub second-beyond : (u v w : ℕ) (t : List ℕ) → second (some (reverse (u ∷ v ∷ w ∷ t))) ≡ second (some (reverse (v ∷ w ∷ t)))
+second-beyond u v w t = ap (λ (p : List ℕ). second (some p)) (reverse-cons u (v ∷ w ∷ t))
+    ∙ second-more (reverse (v ∷ w ∷ t)) (u ∷ []) (omega (arith, length-reverse (v ∷ w ∷ t)))
 
 module _ (g : Graph) (key : ℕ → ℕ) where
   -- The rest of the chosen path after a hop is the chosen path from there.

@@ -3,14 +3,14 @@
 use Prim.Native.Nat.{ℕ, zero, suc, _+_, _≤_, _<_}
 use native.Mathlib.Omega.{arith}
 use mathlib.Core.Path.{_≡_, refl, sym, ap, _∙_, subst}
-use mathlib.Core.List.{List, [], _∷_, _++_, map, flatMap, reverse, append-nil, append-assoc, reverse-cons, reverse-append, reverse-reverse, map-append}
+use mathlib.Core.List.{List, [], _∷_, _++_, map, flatMap, reverse, append-assoc, reverse-cons, map-append}
 use mathlib.Core.Option.{Option, none, some}
 use mathlib.Core.Logic.{_⊎_, inl, inr}
 use mathlib.Core.Bool.{Bool, true, false, cond, not}
-use lib.Dec.{T, T-not, not-T, leb, ltb, eqb, leb→le, nleb→lt, eqb→eq, eqb-refl, ltb→lt, lt→ltb}
-use lib.ListN.{length, length-append, length-map}
+use lib.Dec.{T, leb, eqb, leb→le, nleb→lt, eqb→eq, eqb-refl}
+use lib.ListN.{length, length-append}
 use Rattle.graph.specs.Lists.{rising, consIf, filter, lowerOf, lowestBy}
-use Rattle.graph.specs.Members.{In, Distinct, lastOf, times}
+use Rattle.graph.specs.Members.{In, Distinct, lastOf, along, times}
 
 -- Numbers
 
@@ -166,6 +166,25 @@ module _ {A B : Type 0} where
   map-reverse f (x ∷ xs) =
       ap (λ (t : List A). map f t) (reverse-cons x xs) ∙ map-append f (reverse xs) (x ∷ [])
       ∙ ap (λ (t : List B). t ++ (f x ∷ [])) (map-reverse f xs) ∙ sym (reverse-cons (f x) (map f xs))
+
+-- Neighbours of a list
+
+module _ {A B : Type 0} (f : A → A → B) where
+  along-end : (xs : List A) (y z : A) → along f (xs ++ (y ∷ z ∷ [])) ≡ along f (xs ++ (y ∷ [])) ++ (f y z ∷ [])
+  along-end [] y z = refl
+  along-end (x ∷ []) y z = refl
+  along-end (x ∷ w ∷ xs) y z = ap (λ (t : List B). f x w ∷ t) (along-end (w ∷ xs) y z)
+
+  -- What is the same in both directions comes in reverse order along the reversed list.
+  pub along-reverse : ((x y : A) → f x y ≡ f y x) → (p : List A) → along f (reverse p) ≡ reverse (along f p)
+  along-reverse symmetric [] = refl
+  along-reverse symmetric (x ∷ []) = refl
+  along-reverse symmetric (x ∷ y ∷ t) =
+      ap (along f) (reverse-cons x (y ∷ t) ∙ ap (λ (s : List A). s ++ (x ∷ [])) (reverse-cons y t) ∙ append-assoc (reverse t) (y ∷ []) (x ∷ []))
+      ∙ along-end (reverse t) y x
+      ∙ ap (λ (s : List B). s ++ (f y x ∷ [])) (ap (along f) (sym (reverse-cons y t)) ∙ along-reverse symmetric (y ∷ t))
+      ∙ ap (λ (b : B). reverse (along f (y ∷ t)) ++ (b ∷ [])) (symmetric y x)
+      ∙ sym (reverse-cons (f x y) (along f (y ∷ t)))
 
 -- Those that pass a test
 

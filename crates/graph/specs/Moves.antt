@@ -1,7 +1,6 @@
 -- How frames move over a graph (01, "Frames"): an individual frame from bridge to bridge, and the rounds of a group frame's copies.
 -- Neither knows a table, an entry or a port: where a frame goes from a bridge is a parameter. Assumes nothing.
 use Prim.Native.Nat.{ℕ, zero, suc, _<_}
-use mathlib.Core.Path.{_≡_}
 use mathlib.Core.List.{List, [], _∷_, _++_, flatMap}
 use mathlib.Core.Option.{Option, none, some}
 use mathlib.Core.Bool.{cond}

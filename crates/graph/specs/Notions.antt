@@ -16,6 +16,11 @@ abbrev pub Chain : Graph → ℕ → List ℕ → ℕ → Type 0
 Chain g u [] b = u ≡ b
 Chain g u (v ∷ t) b = Joined g u v × Chain g v t b
 
+-- "A path is a list of bridges, each joined to the next", from `a` to `b`.
+abbrev pub Linked : Graph → ℕ → ℕ → List ℕ → Type 0
+Linked g a b [] = ⊥
+Linked g a b (u ∷ t) = (u ≡ a) × Chain g u t b
+
 -- "the least cost": the list `t` leads on from `u` to `b`, and no list that does so costs less.
 pub record Least (g : Graph) (u : ℕ) (t : List ℕ) (b : ℕ) : Type 0 where
   pub way : Onward g u t b

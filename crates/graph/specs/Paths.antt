@@ -1,18 +1,17 @@
 -- Parts of paths, paths joined to one, reversed paths, and costs along a path (01, "The chosen path").
 -- Assumes nothing.
-use Prim.Native.Nat.{ℕ, zero, suc, _+_, _-_, _≤_, _<_}
+use Prim.Native.Nat.{ℕ, suc, _+_, _<_}
 use native.Mathlib.Omega.{arith}
 use mathlib.Core.Path.{_≡_, refl, sym, ap, _∙_, subst}
-use mathlib.Core.List.{List, [], _∷_, _++_, reverse, append-nil, append-assoc, reverse-cons, reverse-reverse}
-use mathlib.Core.Logic.{_⊎_, inl, inr}
-use mathlib.Core.Bool.{Bool}
+use mathlib.Core.List.{List, [], _∷_, _++_, reverse, reverse-cons}
+use mathlib.Core.Logic.{inl, inr}
 use lib.Dec.{T}
 use lib.ListN.{length, length-append}
 use Rattle.graph.specs.Graph.{Graph, GraphLaws, Joined, GoesOn, Onward, Path, costOnward}
 use Rattle.graph.specs.Members.{In, lastOf}
-use Rattle.graph.specs.Notions.{Joint, Chain}
+use Rattle.graph.specs.Notions.{Joint, Chain, Linked}
 use Rattle.graph.specs.ListLaws.{nil-not-cons, append-empty}
-use Rattle.graph.specs.Ranks.{cost-step, cost-stay, cost-behind}
+use Rattle.graph.specs.Ranks.{cost-step, cost-behind}
 
 module _ (g : Graph) where
   -- Which bridges may lie between: every place of a list but the first and the last.
@@ -80,6 +79,12 @@ module _ (g : Graph) where
       on : (t : List ℕ) → GoesOn g v t
       on [] = tt
       on (w ∷ t) = all v
+
+  pub path-linked : (a b : ℕ) (p : List ℕ) → Path g a b p → Linked g a b p
+  path-linked a b (u ∷ t) (e, o) = (e, onward-chain u t b o)
+
+  pub linked-path : ((v : ℕ) → T (g .between v)) → (a b : ℕ) (p : List ℕ) → Linked g a b p → Path g a b p
+  linked-path all a b (u ∷ t) (e, o) = (e, chain-onward all u t b o)
 
   -- Cost along a path
 

@@ -1,10 +1,10 @@
 -- Laws of cost and rank over any lists of bridges, joined or not (01, "The chosen path").
 -- Assumes nothing.
-use Prim.Native.Nat.{ℕ, zero, suc, _+_, _-_, _≤_, _<_}
+use Prim.Native.Nat.{ℕ, _+_, _-_, _<_}
 use native.Mathlib.Omega.{arith}
-use mathlib.Core.Path.{_≡_, refl, sym, ap, _∙_, subst}
-use mathlib.Core.List.{List, [], _∷_, _++_, map, reverse, append-nil, append-assoc, reverse-cons, map-append}
-use mathlib.Core.Logic.{_⊎_, inl, inr}
+use mathlib.Core.Path.{_≡_, refl, sym, ap, _∙_}
+use mathlib.Core.List.{List, [], _∷_, _++_, map, reverse, append-assoc, reverse-cons, map-append}
+use mathlib.Core.Logic.{inl, inr}
 use lib.ListN.{length, length-append, length-map, length-reverse}
 use Rattle.graph.specs.Order.{Lower, sorted}
 use Rattle.graph.specs.Graph.{Graph, costOnward, cost, hops, pathId, rank}

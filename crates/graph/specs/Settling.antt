@@ -1,9 +1,9 @@
 -- Why the next bridge may be settled: the argument under every search for shortest path trees, for any data structure.
 -- Assumes nothing.
-use Prim.Native.Nat.{ℕ, zero, suc, _+_, _-_, _≤_, _<_}
+use Prim.Native.Nat.{ℕ, suc, _+_, _-_, _≤_}
 use native.Mathlib.Omega.{arith}
 use mathlib.Core.Path.{_≡_, refl, sym, ap, _∙_, subst}
-use mathlib.Core.List.{List, [], _∷_, _++_, map}
+use mathlib.Core.List.{List, [], _∷_, map}
 use mathlib.Core.Logic.{_⊎_, inl, inr}
 use lib.Dec.{T}
 use lib.ListN.{length, length-map}
@@ -12,11 +12,10 @@ use Rattle.graph.specs.Graph.{Graph, GraphLaws, KeyLaws, Joined, GoesOn,
 use Rattle.graph.specs.Chosen.{Chosen}
 use Rattle.graph.specs.Notions.{Least}
 use Rattle.graph.specs.Search.{Settling, Candidate, candidateRank}
-use Rattle.graph.specs.ListLaws.{same-or-not, nil-not-cons}
 use Rattle.graph.specs.OrderLaws.{lower-never, lower-chained, lower-one-way, lower-compared, insert-lower, length-sorted, sorted-cons}
 use Rattle.graph.specs.Ranks.{cost-step, rank-kept, rank-in-front}
 use Rattle.graph.specs.Paths.{path-first, entered-inside}
-use Rattle.graph.specs.ChosenPaths.{lower-cost, chosen-cost, chosen-first, chosen-self, chosen-stay, lowest-chosen, chosen-apart}
+use Rattle.graph.specs.ChosenPaths.{lower-cost, chosen-first, chosen-self, lowest-chosen, chosen-apart}
 
 -- Comparing two candidates of one bridge
 
