@@ -17,10 +17,12 @@ use Rattle.graph.specs.Paths.{path-first, stays-inside}
 use Rattle.graph.specs.ChosenPaths.{chosen-stay}
 use Rattle.graph.specs.Enumeration.{chosen-is, is-chosen, none-no-path, no-path-none}
 
+-- Agreement goes both ways.
 pub agree-back : (g h : Graph) → Agree g h → Agree h g
 agree-back g h A = record { hops-agree = λ u v. sym (A .hops-agree u v); between-agree = λ u. sym (A .between-agree u) }
 
 module _ (g h : Graph) (A : Agree g h) where
+  -- The same paths, of the same cost and rank.
   pub onward-agrees : (u : ℕ) (t : List ℕ) (b : ℕ) → Onward g u t b → Onward h u t b
   onward-agrees u [] b e = e
   onward-agrees u (v ∷ t) b (j, m, o) = (rw (A .hops-agree u v) at j, on t m, onward-agrees v t b o)
@@ -43,7 +45,7 @@ module _ (g h : Graph) (A : Agree g h) where
   pub rank-agrees : (key : ℕ → ℕ) (p : List ℕ) → rank g key p ≡ rank h key p
   rank-agrees key p = ap (λ (c : ℕ). c ∷ hops p ∷ pathId key p) (cost-agrees p)
 
--- Two graphs whose hops agree have the same chosen paths.
+-- Two graphs whose hops agree have the same chosen paths: cost, hop count and PATHID look at nothing else (01, "The chosen path").
 pub chosen-agrees : (g h : Graph) → Agree g h → (key : ℕ → ℕ) (a b : ℕ) (p : List ℕ) → Chosen g key a b p → Chosen h key a b p
 chosen-agrees g h A key a b p P = record {
   path = path-agrees g h A a b p (P .path);
@@ -55,6 +57,7 @@ chosen-agrees g h A key a b p P = record {
     go q (inr l) = inr (subst (λ (z : List ℕ). Lower z (rank h key q)) (rank-agrees g h A key p)
         (subst (λ (z : List ℕ). Lower (rank g key p) z) (rank-agrees g h A key q) l))
 
+-- The same by enumeration, though the graphs may have different sizes.
 pub enumeration-agrees : (g h : Graph) → Agree g h → GraphLaws g → GraphLaws h → (key : ℕ → ℕ) → KeyLaws g key → KeyLaws h key
     → (a b : ℕ) → chosen g key a b ≡ chosen h key a b
 enumeration-agrees g h A L M key K N a b = go (chosen g key a b) refl

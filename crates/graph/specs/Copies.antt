@@ -18,7 +18,7 @@ use Rattle.graph.specs.ChosenPaths.{chosen-unique, chosen-first, chosen-
 use Rattle.graph.specs.Forwarding.{leaves-split, split-leaves, arrival}
 
 -- `v` is the bridge after `n` hops of its chosen path from `s`.
-abbrev Placed : Graph → (ℕ → ℕ) → ℕ → ℕ → ℕ → Type 0
+abbrev pub Placed : Graph → (ℕ → ℕ) → ℕ → ℕ → ℕ → Type 0
 Placed g key s n v = (xs : List ℕ) × (length xs ≡ n) × Chosen g key s v (xs ++ (v ∷ []))
 
 module _ (g : Graph) (key : ℕ → ℕ) (s : ℕ) where
@@ -136,7 +136,7 @@ module _ (g : Graph) (key : ℕ → ℕ) (s : ℕ) where
       pub sender-never : (n : ℕ) → times s (entered children s n) ≡ 0
       sender-never n = times-none s (entered children s n) (sender-not-entered n)
 
-      -- From as many rounds as the graph has bridges on no copy is left.
+      -- From as many rounds as the graph has bridges on no copy is left ("With no such entry it ends there": 01, "Frames").
       pub no-copy-left : (n : ℕ) → g .size ≤ n → copies children s n ≡ []
       no-copy-left n l = nothing-in (copies children s n) (λ v h. go v (copy-placed n v h))
         where
@@ -174,6 +174,8 @@ module _ (g : Graph) (key : ℕ → ℕ) (s : ℕ) where
               count : 0 + suc (length t) ≡ suc (length t)
               count = omega arith
 
+      -- The same from as many rounds as the graph has bridges on, counted: "A bridge is reached once for each copy that enters it"
+      -- (01, "Frames").
       pub receiver-once : (r : ℕ) → Receives r → (r ≡ s → ⊥) → (p : List ℕ) → Chosen g key s r p → (n : ℕ) → g .size ≤ n → times r (entered children s n) ≡ 1
       receiver-once r k f p P n l = times-one r (entered children s n) (entered-distinct n)
           (receiver-entered r k f p P n (omega (arith, chosen-bounded g L key s r p P)))

@@ -28,7 +28,7 @@ module _ (g : Graph) where
   test-goes-on v [] h = tt
   test-goes-on v (w ∷ t) h = h
 
-  -- "Two bridges are joined": the neighbours of a bridge are those that a hop joins to it.
+  -- "Two bridges are joined when a usable link connects them" (01, "Links"): the neighbours of a bridge are those that a hop joins to it.
   pub neighbour-joined : (u v : ℕ) → In v (neighbours g u) → Joined g u v
   unfolding neighbours
   neighbour-joined u v h = ltb→lt 0 (g .hop u v) (filter-in (λ v. ltb 0 (g .hop u v)) v (rising 0 (g .size)) h .1)
@@ -136,7 +136,7 @@ module _ (g : Graph) (L : GraphLaws g) (key : ℕ → ℕ) where
           any : (q : List ℕ) → ((t : List ℕ) × (q ≡ a ∷ t) × Onward g a t b) → Lower (rank g key q) (rank g key p) → ⊥
           any q (t, e, o) h = shorter q t e h (without-repeats g a t b o)
 
-  -- "12: No path exists": the enumeration gives none exactly where no path exists.
+  -- "12. No path exists." (01, "Refusals in checking order"): the enumeration gives none exactly where no path exists.
   pub none-no-path : (a b : ℕ) → chosen g key a b ≡ none → (p : List ℕ) → Path g a b p → ⊥
   unfolding chosen
   none-no-path a b e p o = go (path-first g a b p o)
@@ -154,8 +154,8 @@ module _ (g : Graph) (L : GraphLaws g) (key : ℕ → ℕ) where
       go (some p) e = absurd (f p (enumerated-lowest a b p e .0))
 
   module _ (K : KeyLaws g key) where
-    -- The definition by enumeration gives the path that ranks below every other list of bridges from `a` to `b`,
-    -- each joined to the next, repeats included.
+    -- "Every other list of bridges from a to b, each joined to the next, costs more, or ties .." (demand 3): the definition by
+    -- enumeration gives exactly the path that ranks below every other such list, repeats included.
     pub chosen-is : (a b : ℕ) (p : List ℕ) → chosen g key a b ≡ some p → Chosen g key a b p
     chosen-is a b p e = let r = enumerated-lowest a b p e in lowest-chosen g L key K a b p (r .0) (r .1)
 

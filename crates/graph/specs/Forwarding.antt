@@ -31,7 +31,8 @@ split-leaves (x ∷ []) c v ys = inr (split-leaves [] c v ys)
 split-leaves (x ∷ y ∷ xs) c v ys = inr (split-leaves (y ∷ xs) c v ys)
 
 -- A tree rooted at `r` carries paths to `r`. The chosen path from `r` is the reverse, and its second bridge falls out
--- when a bridge is settled: it is the bridge itself next to the root, and its next hop's elsewhere.
+-- when a bridge is settled: it is the bridge itself beside the root, and its next hop's elsewhere
+-- ("the port of the first hop's link": 01, "Entries").
 pub second-beside : (u r : ℕ) → second (some (reverse (u ∷ r ∷ []))) ≡ some u
 second-beside u r = refl
 
@@ -79,7 +80,7 @@ module _ (g : Graph) (key : ℕ → ℕ) where
       go : ((t : List ℕ) × (p ≡ a ∷ t) × Least g a t b) → stood next b n a ≡ p
       go (t, e, W) = stands-on-path b next follows n a t (rw e at P) (omega (arith, ap hops e)) ∙ sym e
 
-  -- From each bridge on the way the frame goes where the chosen path from there goes.
+  -- From each bridge on the way the frame goes where the chosen path from there goes ("the port of the first hop's link": 01, "Entries").
   pub departure : (a b : ℕ) (p : List ℕ) (c v : ℕ) → Chosen g key a b p → Leaves c v p → (t : List ℕ) × Chosen g key c b (c ∷ v ∷ t)
   departure a b p c v P h = go (leaves-split c v p h)
     where
@@ -107,6 +108,7 @@ module _ (g : Graph) (L : GraphLaws g) (key : ℕ → ℕ) where
     pub second-is-next : (b u v : ℕ) (t : List ℕ) → Chosen g key u b (u ∷ v ∷ t) → nextHop g key b u ≡ some v
     second-is-next b u v t P = ap second (is-chosen g L key K u b (u ∷ v ∷ t) P)
 
-    -- Following at each bridge the second bridge of its chosen path to b visits exactly the chosen path.
+    -- Following at each bridge the second bridge of its chosen path to b visits exactly the chosen path
+    -- ("the bridges where it stood, in order, are that path": 01, "Frames").
     pub following-visits : (b n a : ℕ) (p : List ℕ) → Chosen g key a b p → hops p ≤ n → stood (nextHop g key b) b n a ≡ p
     following-visits b n a p P l = stands-on-chosen g key b (nextHop g key b) (second-is-next b) n a p P l

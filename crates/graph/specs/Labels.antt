@@ -4,14 +4,16 @@ use Prim.Native.Nat.{ℕ, _≤_, _<_}
 use native.Mathlib.Omega.{arith}
 use mathlib.Core.Path.{_≡_, sym, _∙_, subst}
 use mathlib.Core.List.{List, [], _∷_}
+use mathlib.Core.Option.{none, some}
 use mathlib.Core.Logic.{_⊎_, inl, inr}
 use Rattle.graph.specs.Order.{Lower}
 use Rattle.graph.specs.Graph.{Graph, GraphLaws, KeyLaws, Path, cost, rank}
-use Rattle.graph.specs.Chosen.{Chosen}
+use Rattle.graph.specs.Chosen.{Chosen, chosen}
 use Rattle.graph.specs.Search.{Settling, Candidate, Labels, Step, Relaxed}
 use Rattle.graph.specs.ListLaws.{same-or-not}
 use Rattle.graph.specs.OrderLaws.{lower-never, lower-between}
 use Rattle.graph.specs.ChosenPaths.{not-lower-cost, chosen-stay}
+use Rattle.graph.specs.Enumeration.{is-chosen, no-path-none}
 use Rattle.graph.specs.Settling.{settles, complete}
 
 -- A search starts with the root alone settled, and every other bridge open.
@@ -71,6 +73,18 @@ module _ (g : Graph) (key : ℕ → ℕ) (r : ℕ) (Open : ℕ → Type 0) (Sett
       where
         go : {u : ℕ} → ((v : ℕ) × (p : List ℕ) × Label u v p) → ⊥
         go {u} (v, p, l) = no-label u v p l
+
+    -- Then a bridge of the graph is settled with the path that the definition gives, or open where it gives none.
+    pub search-ends : GraphLaws g → KeyLaws g key → Settling g key r Open Settled → ((u v : ℕ) (p : List ℕ) → Label u v p → ⊥)
+        → (u : ℕ) → u < g .size → ((p : List ℕ) × Settled u p × (chosen g key u r ≡ some p)) ⊎ (Open u × (chosen g key u r ≡ none))
+    search-ends L K S no-label u l = go (S .each u l)
+      where
+        shut : Open u → ((p : List ℕ) × Settled u p) → ⊥
+        shut w (p, k) = S .apart u p w k
+
+        go : Open u ⊎ ((p : List ℕ) × Settled u p) → ((p : List ℕ) × Settled u p × (chosen g key u r ≡ some p)) ⊎ (Open u × (chosen g key u r ≡ none))
+        go (inl w) = inr (w, no-path-none g L key u r (λ q o. shut w (none-left L S no-label u q o)))
+        go (inr (p, k)) = inl (p, k, is-chosen g L key K u r p (S .final u p k))
 
   module _ (u : ℕ) (p : List ℕ) (Open′ : ℕ → Type 0) (Settled′ : ℕ → List ℕ → Type 0) (N : Step u p Open Settled Open′ Settled′) where
     -- Settling a bridge with its chosen path leaves the search in order.

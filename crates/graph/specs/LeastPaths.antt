@@ -16,11 +16,7 @@ use Rattle.graph.specs.Ranks.{cost-step, cost-stay}
 use Rattle.graph.specs.Paths.{ends, split, replaced, goes-on, cost-of-parts, cost-positive, cost-falls, rest-of, path-inside}
 
 module _ (g : Graph) where
-  -- "a path from a bridge to itself is that bridge, cost 0, hops 0".
-  pub least-stay : (u : ℕ) → Least g u [] u
-  least-stay u = record { way = refl; no-less = λ s o. omega (arith, cost-stay g u) }
-
-  -- A part of a least path is least between its own ends.
+  -- A part of a path of "the least cost" (01, "The chosen path") is of least cost between its own ends.
   pub least-part : (a : ℕ) (t₁ t₂ t₃ : List ℕ) (b : ℕ) → Least g a (t₁ ++ (t₂ ++ t₃)) b
       → Least g (lastOf a t₁) t₂ (lastOf (lastOf a t₁) t₂)
   least-part a t₁ t₂ t₃ b W = go (lastOf a t₁) (split g a t₁ (t₂ ++ t₃) b (W .way))
@@ -56,7 +52,7 @@ module _ (g : Graph) where
   pub least-rest : (u v : ℕ) (t : List ℕ) (b : ℕ) → Least g u (v ∷ t) b → Least g v t b
   least-rest u v t b W = least-suffix u (v ∷ []) t b W
 
-  -- A least path has no bridge twice.
+  -- A least path has no bridge twice ("It reaches no bridge twice": demand 3).
   pub least-distinct : (u : ℕ) (t : List ℕ) (b : ℕ) → Least g u t b → Distinct (u ∷ t)
   least-distinct u [] b W = (λ h. h, tt)
   least-distinct u (v ∷ t) b W = (λ k. back (rest-of g u (v ∷ t) b u (W .way) k), least-distinct v t b (least-rest u v t b W))

@@ -63,10 +63,6 @@ module _ {A : Type 0} where
   pub none-not-some : {x : A} → none ≡ some x → ⊥
   none-not-some {x} e = let z : _≡_ {A = ℕ} 0 1 = cc in omega arith
 
-  pub length-zero : (xs : List A) → length xs ≡ 0 → xs ≡ []
-  length-zero [] e = refl
-  length-zero (x ∷ xs) e = absurd (omega arith)
-
   pub append-empty : (xs ys : List A) → xs ++ ys ≡ [] → (xs ≡ []) × (ys ≡ [])
   append-empty [] ys e = (refl, e)
   append-empty (x ∷ xs) ys e = absurd (nil-not-cons (sym e))
@@ -106,10 +102,6 @@ module _ {A : Type 0} where
 
   pub in-here : (a : A) (xs ys : List A) → In a (xs ++ (a ∷ ys))
   in-here a xs ys = in-right a xs (a ∷ ys) (inl refl)
-
-  pub in-reverse : (a : A) (xs : List A) → In a xs → In a (reverse xs)
-  in-reverse a (x ∷ xs) (inl e) = rw reverse-cons (in-right a (reverse xs) (x ∷ []) (inl e))
-  in-reverse a (x ∷ xs) (inr h) = rw reverse-cons (in-left a (reverse xs) (x ∷ []) (in-reverse a xs h))
 
   -- Of two places of a list one is not after the other.
   pub two-in : (a b : A) (xs : List A) → In a xs → In b xs
@@ -245,10 +237,6 @@ module _ {A : Type 0} where
   distinct-right [] ys d = d
   distinct-right (x ∷ xs) ys d = distinct-right xs ys (d .1)
 
-  pub distinct-apart : (xs ys : List A) (a : A) → Distinct (xs ++ ys) → In a xs → In a ys → ⊥
-  distinct-apart (x ∷ xs) ys a d (inl e) k = d .0 (subst (λ (y : A). In y (xs ++ ys)) e (in-right a xs ys k))
-  distinct-apart (x ∷ xs) ys a d (inr h) k = distinct-apart xs ys a (d .1) h k
-
   pub in-around : (x : A) (xs : List A) (a : A) (ys : List A) → In x (xs ++ ys) → In x (xs ++ (a ∷ ys))
   in-around x xs a ys k = go (in-append x xs ys k)
     where
@@ -308,23 +296,6 @@ at-most (suc n) xs d h = go (in-or-not n xs) (at-most n)
         → length xs ≤ suc n
     go (inl k) ih = without (in-split n xs k) ih
     go (inr f) ih = omega (arith, ih xs d (below-but n xs f h))
-
--- A list of numbers has nothing twice, or one of them at two places.
-pub distinct-or-twice : (xs : List ℕ)
-    → Distinct xs ⊎ ((ys : List ℕ) × (a : ℕ) × (t : List ℕ) × (zs : List ℕ) × (xs ≡ ys ++ (a ∷ (t ++ (a ∷ zs)))))
-distinct-or-twice [] = inl tt
-distinct-or-twice (x ∷ xs) = go (in-or-not x xs) (distinct-or-twice xs)
-  where
-    here : ((t : List ℕ) × (zs : List ℕ) × (xs ≡ t ++ (x ∷ zs)))
-        → (ys : List ℕ) × (a : ℕ) × (t : List ℕ) × (zs : List ℕ) × (x ∷ xs ≡ ys ++ (a ∷ (t ++ (a ∷ zs))))
-    here (t, zs, e) = ([], x, t, zs, ap (λ (s : List ℕ). x ∷ s) e)
-
-    go : In x xs ⊎ (In x xs → ⊥)
-        → Distinct xs ⊎ ((ys : List ℕ) × (a : ℕ) × (t : List ℕ) × (zs : List ℕ) × (xs ≡ ys ++ (a ∷ (t ++ (a ∷ zs)))))
-        → Distinct (x ∷ xs) ⊎ ((ys : List ℕ) × (a : ℕ) × (t : List ℕ) × (zs : List ℕ) × (x ∷ xs ≡ ys ++ (a ∷ (t ++ (a ∷ zs)))))
-    go (inl k) r = inr (here (in-split x xs k))
-    go (inr f) (inl d) = inl (f, d)
-    go (inr f) (inr (ys, a, t, zs, e)) = inr (x ∷ ys, a, t, zs, ap (λ (s : List ℕ). x ∷ s) e)
 
 module _ {A B : Type 0} where
   -- Lists that have nothing twice, none of them anything of another, have nothing twice together.

@@ -14,7 +14,7 @@ use Rattle.graph.specs.ListLaws.{nil-not-cons, append-empty}
 use Rattle.graph.specs.Ranks.{cost-step, cost-behind}
 
 module _ (g : Graph) where
-  -- Which bridges may lie between: every place of a list but the first and the last.
+  -- Which bridges may lie between goes by place: every place of a list but the first and the last. In document 01 all may.
 
   -- A bridge that may have a list after it may have any other that is empty where the first is.
   pub goes-on : (v : ℕ) (s t : List ℕ) → (s ≡ [] → t ≡ []) → GoesOn g v s → GoesOn g v t
@@ -22,10 +22,6 @@ module _ (g : Graph) where
   goes-on v [] (x ∷ t) f h = absurd (nil-not-cons (sym (f refl)))
   goes-on v (x ∷ s) [] f h = tt
   goes-on v (x ∷ s) (y ∷ t) f h = h
-
-  pub joint : (t : List ℕ) (c : ℕ) (s : List ℕ) → GoesOn g c s → Joint g t c s
-  joint [] c s h = tt
-  joint (v ∷ t) c s h = h
 
   -- A list that leads on to `b` ends there.
   pub ends : (u : ℕ) (t : List ℕ) (b : ℕ) → Onward g u t b → lastOf u t ≡ b
@@ -88,14 +84,15 @@ module _ (g : Graph) where
 
   -- Cost along a path
 
+  -- The cost of a path is the sum of its two parts' costs.
   pub cost-of-parts : (u : ℕ) (t : List ℕ) (c : ℕ) (s : List ℕ) → Onward g u t c → costOnward g u (t ++ s) ≡ costOnward g u t + costOnward g c s
   cost-of-parts u t c s o = cost-behind g u t s ∙ ap (λ (d : ℕ). costOnward g u t + costOnward g d s) (ends u t c o)
 
-  -- Every hop costs at least 1.
+  -- Every hop costs at least 1 ("metric 1 to 16,777,215": 01, "The table").
   pub cost-positive : (u v : ℕ) (t : List ℕ) (b : ℕ) → Onward g u (v ∷ t) b → 0 < costOnward g u (v ∷ t)
   cost-positive u v t b o = omega (arith, cost-step g u v t)
 
-  -- Costs strictly rise along a path.
+  -- Costs strictly rise along a path (01, "The chosen path").
   pub cost-rises : (u : ℕ) (t : List ℕ) (c v : ℕ) (s : List ℕ) (b : ℕ) → Onward g u t c → Onward g c (v ∷ s) b
       → costOnward g u t < costOnward g u (t ++ (v ∷ s))
   cost-rises u t c v s b o p = omega (arith, cost-of-parts u t c (v ∷ s) o, cost-positive c v s b p)
@@ -121,9 +118,6 @@ module _ (g : Graph) where
   -- A path as its first bridge and the list after it.
   pub path-first : (a b : ℕ) (p : List ℕ) → Path g a b p → (t : List ℕ) × (p ≡ a ∷ t) × Onward g a t b
   path-first a b (u ∷ t) (e, o) = (t, ap (λ (x : ℕ). x ∷ t) e, subst (λ (x : ℕ). Onward g x t b) e o)
-
-  pub first-path : (a b : ℕ) (t : List ℕ) → Onward g a t b → Path g a b (a ∷ t)
-  first-path a b t o = (refl, o)
 
 module _ (g : Graph) (L : GraphLaws g) where
   -- A bridge that a path comes to is a bridge of the graph, and so is one that it leaves.

@@ -30,7 +30,7 @@ module _ (g : Graph) (key : ℕ → ℕ) where
   pub candidate-pathId : (u : ℕ) (p : List ℕ) → pathId key (u ∷ p) ≡ insert (key u) (pathId key p)
   candidate-pathId u p = sorted-cons (key u) (map key p)
 
-  -- "the least cost, then the fewest hops, then the lowest masked PATHID": two candidates of one bridge compare as
+  -- "the least cost, then the fewest hops, then the lowest masked PATHID" (01, "The chosen path"): two candidates of one bridge compare as
   -- their costs, then their next hops' hop counts, then their next hops' PATHIDs do.
   pub candidates-compare : (u v : ℕ) (t : List ℕ) (w : ℕ) (s : List ℕ) → Lower (candidateRank g key u (v ∷ t)) (candidateRank g key u (w ∷ s))
       → Lower (rank g key (u ∷ v ∷ t)) (rank g key (u ∷ w ∷ s))
@@ -151,11 +151,11 @@ module _ (g : Graph) (L : GraphLaws g) (key : ℕ → ℕ) (r : ℕ) (Open : ℕ
         any q h ([], e, o) = S .apart r (r ∷ []) (subst (λ (z : ℕ). Open z) o (C .waits)) (S .root)
         any q h (x ∷ t, e, o) = side q x t e o h (S .each x (entered-inside g L u x (o .0)))
 
-    -- Two candidates of one bridge through different next hops never tie.
-    pub candidates-apart : (u v w : ℕ) (p q : List ℕ) → Settled v p → Settled w q → pathId key p ≡ pathId key q → v ≡ w
-    candidates-apart u v w p q h k e = chosen-apart g L key K v w r p q (S .final v p h) (S .final w q k) e
+    -- Two candidates of one bridge through different next hops never tie: settled bridges have different PATHIDs.
+    pub settled-apart : (v w : ℕ) (p q : List ℕ) → Settled v p → Settled w q → pathId key p ≡ pathId key q → v ≡ w
+    settled-apart v w p q h k e = chosen-apart g L key K v w r p q (S .final v p h) (S .final w q k) e
 
-  -- With no candidate left, every bridge with a path to the root is settled.
+  -- With no candidate left, every bridge with a path to the root is settled,
   pub complete : ((u v : ℕ) (p : List ℕ) → Candidate g r Open Settled u v p → ⊥) → (u : ℕ) (q : List ℕ) → Path g u r q → (p : List ℕ) × Settled u p
   complete no-more u q o = go (path-first g u r q o)
     where
