@@ -12,7 +12,7 @@ use Rattle.graph.specs.Order.{Lower}
 use Rattle.graph.specs.Graph.{Graph, GraphLaws, KeyLaws, Onward, Path, cost, hops, pathId, rank}
 use Rattle.graph.specs.Chosen.{Chosen}
 use Rattle.graph.specs.Members.{In, Distinct, lastOf}
-use Rattle.graph.specs.Notions.{Joint, Linked, Least}
+use Rattle.graph.specs.Notions.{Joint, Linked, Least, RanksAbove}
 use Rattle.graph.specs.ListLaws.{le-or-gt, nil-not-cons, lastOf-append, two-in}
 use Rattle.graph.specs.OrderLaws.{lower-never, lower-one-way, lower-compared, length-sorted}
 use Rattle.graph.specs.Ranks.{rank-places, rank-around, rank-around-same, rank-reverse, cost-stay}
@@ -43,14 +43,10 @@ module _ (g : Graph) (key : ℕ → ℕ) where
 
   -- "Every other list of bridges from a to b, each joined to the next, costs more, or ties and has more hops,
   -- or ties in both and has a higher masked PATHID" (demand 3). All lists, repeats included.
-  pub chosen-below : (a b : ℕ) (p q : List ℕ) → Chosen g key a b p → Path g a b q → (q ≡ p → ⊥)
-      → (cost g p < cost g q) ⊎ ((cost g p ≡ cost g q) × (hops p < hops q))
-      ⊎ ((cost g p ≡ cost g q) × (hops p ≡ hops q) × Lower (pathId key p) (pathId key q))
+  pub chosen-below : (a b : ℕ) (p q : List ℕ) → Chosen g key a b p → Path g a b q → (q ≡ p → ⊥) → RanksAbove g key q p
   chosen-below a b p q P o n = go (P .least q o)
     where
-      go : (q ≡ p) ⊎ Lower (rank g key p) (rank g key q)
-          → (cost g p < cost g q) ⊎ ((cost g p ≡ cost g q) × (hops p < hops q))
-          ⊎ ((cost g p ≡ cost g q) × (hops p ≡ hops q) × Lower (pathId key p) (pathId key q))
+      go : (q ≡ p) ⊎ Lower (rank g key p) (rank g key q) → RanksAbove g key q p
       go (inl e) = absurd (n e)
       go (inr (inl h)) = inl h
       go (inr (inr (h, inl k))) = inr (inl (h, k))
@@ -63,8 +59,7 @@ module _ (g : Graph) (key : ℕ → ℕ) where
 
   -- The same where all bridges may lie between, with the part about lying between gone.
   pub chosen-below-linked : ((v : ℕ) → T (g .between v)) → (a b : ℕ) (p q : List ℕ) → Chosen g key a b p → Linked g a b q → (q ≡ p → ⊥)
-      → (cost g p < cost g q) ⊎ ((cost g p ≡ cost g q) × (hops p < hops q))
-      ⊎ ((cost g p ≡ cost g q) × (hops p ≡ hops q) × Lower (pathId key p) (pathId key q))
+      → RanksAbove g key q p
   chosen-below-linked all a b p q P o n = chosen-below a b p q P (linked-path g all a b q o) n
 
   -- No path is lower than the chosen one.

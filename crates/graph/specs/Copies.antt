@@ -144,13 +144,13 @@ module _ (g : Graph) (key : ℕ → ℕ) (s : ℕ) where
           go v (xs, e, P) = omega (arith, chosen-bounded g L key s v (xs ++ (v ∷ [])) P, length-append xs (v ∷ []))
 
       -- A copy is handed down the chosen path to a receiver, hop by hop.
-      handed-down : (r : ℕ) → Receives r → (p : List ℕ) → Chosen g key s r p → (ys xs : List ℕ) (c : ℕ) → p ≡ xs ++ (c ∷ ys)
+      passed-on : (r : ℕ) → Receives r → (p : List ℕ) → Chosen g key s r p → (ys xs : List ℕ) (c : ℕ) → p ≡ xs ++ (c ∷ ys)
           → In c (copies children s (length xs)) → In (lastOf c ys) (copies children s (length xs + length ys))
       unfolding copies
-      handed-down r k p P [] xs c e h = let f : length xs ≡ length xs + 0 = omega arith in subst (λ (z : ℕ). In c (copies children s z)) f h
-      handed-down r k p P (v ∷ ys) xs c e h = let f : length (xs ++ (c ∷ [])) + length ys ≡ length xs + suc (length ys) = omega (arith, length-append xs (c ∷ [])) in
+      passed-on r k p P [] xs c e h = let f : length xs ≡ length xs + 0 = omega arith in subst (λ (z : ℕ). In c (copies children s z)) f h
+      passed-on r k p P (v ∷ ys) xs c e h = let f : length (xs ++ (c ∷ [])) + length ys ≡ length xs + suc (length ys) = omega (arith, length-append xs (c ∷ [])) in
           subst (λ (z : ℕ). In (lastOf v ys) (copies children s z)) f
-          (handed-down r k p P ys (xs ++ (c ∷ [])) v (e ∙ sym (append-assoc xs (c ∷ []) (v ∷ ys))) next)
+          (passed-on r k p P ys (xs ++ (c ∷ [])) v (e ∙ sym (append-assoc xs (c ∷ []) (v ∷ ys))) next)
         where
           fed : In v (children c)
           fed = H .feeds c v (copy-inside (length xs) c h)
@@ -169,7 +169,7 @@ module _ (g : Graph) (key : ℕ → ℕ) (s : ℕ) where
           go ([], e, W) = absurd (f (sym (W .way)))
           go (v ∷ t, e, W) = in-entered (suc (length t)) n r (omega arith) (omega (arith, ap hops e))
               (subst (λ (z : ℕ). In z (copies children s (suc (length t)))) (ends g s (v ∷ t) r (W .way))
-              (subst (λ (z : ℕ). In (lastOf v t) (copies children s z)) count (handed-down r k p P (v ∷ t) [] s e (inl refl))))
+              (subst (λ (z : ℕ). In (lastOf v t) (copies children s z)) count (passed-on r k p P (v ∷ t) [] s e (inl refl))))
             where
               count : 0 + suc (length t) ≡ suc (length t)
               count = omega arith

@@ -181,3 +181,7 @@ module _ (g : Graph) (L : GraphLaws g) (key : ℕ → ℕ) where
         go : ((p : List ℕ) × Chosen g key a b p) ⊎ ((p : List ℕ) → Path g a b p → ⊥) → (p : List ℕ) × Chosen g key a b p
         go (inl r) = r
         go (inr f) = absurd (f q o)
+
+-- Whether a path exists does not depend on the key.
+pub none-any-key : (g : Graph) → GraphLaws g → (key key′ : ℕ → ℕ) (a b : ℕ) → chosen g key a b ≡ none → chosen g key′ a b ≡ none
+none-any-key g L key key′ a b e = no-path-none g L key′ a b (none-no-path g L key a b e)

@@ -17,6 +17,7 @@ pub mod Agreement
 pub mod Moves
 pub mod Forwarding
 pub mod Copies
+pub mod Handing
 pub mod Search
 pub mod Settling
 pub mod Labels

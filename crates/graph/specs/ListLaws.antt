@@ -6,10 +6,10 @@ use mathlib.Core.Path.{_≡_, refl, sym, ap, _∙_, subst}
 use mathlib.Core.List.{List, [], _∷_, _++_, map, flatMap, reverse, append-assoc, reverse-cons, map-append}
 use mathlib.Core.Option.{Option, none, some}
 use mathlib.Core.Logic.{_⊎_, inl, inr}
-use mathlib.Core.Bool.{Bool, true, false, cond, not}
+use mathlib.Core.Bool.{Bool, true, false, cond, not, _||_}
 use lib.Dec.{T, leb, eqb, leb→le, nleb→lt, eqb→eq, eqb-refl}
 use lib.ListN.{length, length-append}
-use Rattle.graph.specs.Lists.{rising, consIf, filter, lowerOf, lowestBy}
+use Rattle.graph.specs.Lists.{rising, consIf, filter, any, lowerOf, lowestBy}
 use Rattle.graph.specs.Members.{In, Distinct, lastOf, along, times}
 
 -- Numbers
@@ -210,7 +210,36 @@ module _ {A : Type 0} where
       (consIf-here (test x) x (filter test xs) (subst (λ (y : A). T (test y)) e p))
   in-filter test a (x ∷ xs) (inr h) p = consIf-there (test x) a x (filter test xs) (in-filter test a xs h p)
 
+  -- A test that one of a list passes.
+  pub any-in : (test : A → Bool) (xs : List A) → T (any test xs) → (a : A) × In a xs × T (test a)
+  unfolding any
+  any-in test [] h = absurd h
+  any-in test (x ∷ xs) h = go (test x) (λ p. p) h (any-in test xs)
+    where
+      go : (b : Bool) → (T b → T (test x)) → T (b || any test xs) → (T (any test xs) → (a : A) × In a xs × T (test a))
+          → (a : A) × In a (x ∷ xs) × T (test a)
+      go true f h ih = (x, inl refl, f tt)
+      go false f h ih = let r = ih h in (r .0, inr (r .1), r .2)
+
+  pub in-any : (test : A → Bool) (a : A) (xs : List A) → In a xs → T (test a) → T (any test xs)
+  unfolding any
+  in-any test a (x ∷ xs) (inl e) p = go (test x) (subst (λ (y : A). T (test y)) e p)
+    where
+      go : (b : Bool) → T b → T (b || any test xs)
+      go true h = tt
+      go false h = absurd h
+  in-any test a (x ∷ xs) (inr h) p = go (test x) (in-any test a xs h p)
+    where
+      go : (b : Bool) → T (any test xs) → T (b || any test xs)
+      go true h = tt
+      go false h = h
+
 -- The numbers below a bound
+
+pub rising-in : (k n m : ℕ) → In m (rising k n) → (k ≤ m) × (m < k + n)
+unfolding rising
+rising-in k (suc n) m (inl e) = (omega arith, omega arith)
+rising-in k (suc n) m (inr h) = let r = rising-in (suc k) n m h in (omega (arith, r .0), omega (arith, r .1))
 
 pub in-rising : (k n m : ℕ) → k ≤ m → m < k + n → In m (rising k n)
 unfolding rising
@@ -255,6 +284,20 @@ module _ {A : Type 0} where
 
       go : (Distinct (xs ++ ys) × (In a (xs ++ ys) → ⊥)) → Distinct (x ∷ (xs ++ ys)) × (In a (x ∷ (xs ++ ys)) → ⊥)
       go (e, n) = ((λ k. d .0 (in-around x xs a ys k), e), none-of n)
+
+  pub distinct-filter : (test : A → Bool) (xs : List A) → Distinct xs → Distinct (filter test xs)
+  unfolding filter
+  distinct-filter test [] d = tt
+  distinct-filter test (x ∷ xs) d = go (test x) (distinct-filter test xs (d .1))
+    where
+      go : (b : Bool) → Distinct (filter test xs) → Distinct (consIf b x (filter test xs))
+      go true e = (λ k. d .0 (filter-in test x xs k .0), e)
+      go false e = e
+
+pub distinct-rising : (k n : ℕ) → Distinct (rising k n)
+unfolding rising
+distinct-rising k zero = tt
+distinct-rising k (suc n) = (λ h. omega (arith, rising-in (suc k) n k h .0), distinct-rising (suc k) n)
 
 -- Of a number and a list, the number is in the list or not.
 pub in-or-not : (a : ℕ) (xs : List ℕ) → In a xs ⊎ (In a xs → ⊥)

@@ -132,6 +132,10 @@ module _ (g : Graph) (L : GraphLaws g) where
   path-inside u v t b (j, m, o) x (inl e) = rw e (L .inside u v j)
   path-inside u v t b (j, m, o) x (inr k) = rest-inside u (v ∷ t) b (j, m, o) x k
 
+  pub end-inside : (u v : ℕ) (t : List ℕ) (b : ℕ) → Onward g u (v ∷ t) b → b < g .size
+  end-inside u v [] b (j, m, e) = rw (← e) (entered-inside u v j)
+  end-inside u v (w ∷ t) b (j, m, o) = end-inside v w t b o
+
   -- A path from a bridge of the graph stays among the bridges of the graph.
   pub stays-inside : (a b : ℕ) (p : List ℕ) → a < g .size → Path g a b p → (x : ℕ) → In x p → x < g .size
   stays-inside a b (u ∷ t) h (e, o) x (inl f) = rw (f, e) h
