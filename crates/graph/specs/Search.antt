@@ -25,9 +25,9 @@ pub record Candidate (g : Graph) (r : ℕ) (Open : ℕ → Type 0) (Settled : �
   pub joined : Joined g u v
   pub passes : (v ≡ r) ⊎ T (g .between v)
 
--- What a search knows of the candidate `u ∷ p` without a copy of it: its cost, and its next hop's hop count and PATHID.
+-- What a search knows of the candidate `u ∷ p` without a copy of it: its cost, its hop count, and its next hop's PATHID.
 abbrev pub candidateRank : Graph → (ℕ → ℕ) → ℕ → List ℕ → List ℕ
-candidateRank g key u p = cost g (u ∷ p) ∷ hops p ∷ pathId key p
+candidateRank g key u p = cost g (u ∷ p) ∷ hops (u ∷ p) ∷ pathId key p
 
 -- Each open bridge with a candidate has a label: one of its candidates, `u ∷ p` through `v`, than which none is lower.
 pub record Labels (g : Graph) (key : ℕ → ℕ) (r : ℕ) (Open : ℕ → Type 0) (Settled : ℕ → List ℕ → Type 0)

@@ -31,22 +31,22 @@ module _ (g : Graph) (key : ℕ → ℕ) where
   candidate-pathId u p = sorted-cons (key u) (map key p)
 
   -- "the least cost, then the fewest hops, then the lowest masked PATHID" (01, "The chosen path"): two candidates of one bridge compare as
-  -- their costs, then their next hops' hop counts, then their next hops' PATHIDs do.
+  -- their costs, then their hop counts, then the PATHIDs of their next hops do.
   pub candidates-compare : (u v : ℕ) (t : List ℕ) (w : ℕ) (s : List ℕ) → Lower (candidateRank g key u (v ∷ t)) (candidateRank g key u (w ∷ s))
       → Lower (rank g key (u ∷ v ∷ t)) (rank g key (u ∷ w ∷ s))
   candidates-compare u v t w s = rank-kept (pathId key (v ∷ t)) (pathId key (w ∷ s)) (pathId key (u ∷ v ∷ t)) (pathId key (u ∷ w ∷ s))
-      (λ h. h) (λ e. e) (omega arith) (omega arith) ids
+      (λ h. h) (λ e. e) (λ h. h) (λ e. e) ids
     where
-      ids : length (v ∷ t) - 1 ≡ length (w ∷ s) - 1 → Lower (pathId key (v ∷ t)) (pathId key (w ∷ s))
+      ids : length (u ∷ v ∷ t) - 1 ≡ length (u ∷ w ∷ s) - 1 → Lower (pathId key (v ∷ t)) (pathId key (w ∷ s))
           → Lower (pathId key (u ∷ v ∷ t)) (pathId key (u ∷ w ∷ s))
       ids e h = rw (candidate-pathId u (v ∷ t), candidate-pathId u (w ∷ s))
           (insert-lower (key u) (pathId key (v ∷ t)) (pathId key (w ∷ s))
           (omega (arith, length-sorted (map key (v ∷ t)), length-sorted (map key (w ∷ s)), length-map t key, length-map s key)) h)
 
-  -- Of equal cost and hops they compare by the PATHIDs of their next hops alone.
+  -- Of equal cost and hops they compare by the PATHIDs of their next hops alone, two sorted lists of equal length.
   pub candidates-tie : (u v : ℕ) (t : List ℕ) (w : ℕ) (s : List ℕ) → cost g (u ∷ v ∷ t) ≡ cost g (u ∷ w ∷ s) → hops (v ∷ t) ≡ hops (w ∷ s)
       → Lower (pathId key (v ∷ t)) (pathId key (w ∷ s)) → Lower (rank g key (u ∷ v ∷ t)) (rank g key (u ∷ w ∷ s))
-  candidates-tie u v t w s c h l = candidates-compare u v t w s (inr (c, inr (h, l)))
+  candidates-tie u v t w s c h l = candidates-compare u v t w s (inr (c, inr (omega arith, l)))
 
   -- The comparison misses nothing: where the rank is lower it says so.
   pub candidates-compared : (u v : ℕ) (t : List ℕ) (w : ℕ) (s : List ℕ) → Lower (rank g key (u ∷ v ∷ t)) (rank g key (u ∷ w ∷ s))
@@ -60,7 +60,7 @@ module _ (g : Graph) (key : ℕ → ℕ) where
           costs = cc
 
           steps : hops (u ∷ v ∷ t) ≡ hops (u ∷ w ∷ s)
-          steps = let f : hops (v ∷ t) ≡ hops (w ∷ s) = cc in omega arith
+          steps = cc
 
           ids : insert (key u) (pathId key (v ∷ t)) ≡ insert (key u) (pathId key (w ∷ s))
           ids = let f : pathId key (v ∷ t) ≡ pathId key (w ∷ s) = cc in ap (insert (key u)) f
