@@ -21,3 +21,5 @@ pub mod Handing
 pub mod Search
 pub mod Settling
 pub mod Labels
+pub mod Lookups
+pub mod LookupLaws

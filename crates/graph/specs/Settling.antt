@@ -1,6 +1,6 @@
 -- Why the next bridge may be settled: the argument under every search for shortest path trees, for any data structure.
 -- Assumes nothing.
-use Prim.Native.Nat.{ℕ, suc, _+_, _-_, _≤_}
+use Prim.Native.Nat.{ℕ, _-_, _≤_}
 use native.Mathlib.Omega.{arith}
 use mathlib.Core.Path.{_≡_, refl, sym, ap, _∙_, subst}
 use mathlib.Core.List.{List, [], _∷_, map}
@@ -20,13 +20,7 @@ use Rattle.graph.specs.ChosenPaths.{lower-cost, chosen-first, chosen-sel
 -- Comparing two candidates of one bridge
 
 module _ (g : Graph) (key : ℕ → ℕ) where
-  -- A candidate's cost and hops: those of its first hop and of its next hop's path.
-  pub candidate-cost : (u v : ℕ) (t : List ℕ) → cost g (u ∷ v ∷ t) ≡ g .hop u v + cost g (v ∷ t)
-  candidate-cost u v t = cost-step g u v t
-
-  pub candidate-hops : (u v : ℕ) (t : List ℕ) → hops (u ∷ v ∷ t) ≡ suc (hops (v ∷ t))
-  candidate-hops u v t = omega arith
-
+  -- The PATHID of a candidate: its own key inserted into its next hop's.
   pub candidate-pathId : (u : ℕ) (p : List ℕ) → pathId key (u ∷ p) ≡ insert (key u) (pathId key p)
   candidate-pathId u p = sorted-cons (key u) (map key p)
 
