@@ -30,20 +30,10 @@ split-leaves [] c v ys = inl (refl, refl)
 split-leaves (x ∷ []) c v ys = inr (split-leaves [] c v ys)
 split-leaves (x ∷ y ∷ xs) c v ys = inr (split-leaves (y ∷ xs) c v ys)
 
--- A tree rooted at `r` carries paths to `r`. The chosen path from `r` is the reverse, and its second bridge falls out
--- when a bridge is settled: it is the bridge itself beside the root, and its next hop's elsewhere
--- ("the port of the first hop's link": 01, "Entries").
-pub second-beside : (u r : ℕ) → second (some (reverse (u ∷ r ∷ []))) ≡ some u
-second-beside u r = refl
-
 second-more : (xs ys : List ℕ) → 1 < length xs → second (some (xs ++ ys)) ≡ second (some xs)
 second-more [] ys l = absurd (omega arith)
 second-more (x ∷ []) ys l = absurd (omega arith)
 second-more (x ∷ y ∷ xs) ys l = refl
-
-pub second-beyond : (u v w : ℕ) (t : List ℕ) → second (some (reverse (u ∷ v ∷ w ∷ t))) ≡ second (some (reverse (v ∷ w ∷ t)))
-second-beyond u v w t = ap (λ (p : List ℕ). second (some p)) (reverse-cons u (v ∷ w ∷ t))
-    ∙ second-more (reverse (v ∷ w ∷ t)) (u ∷ []) (omega (arith, length-reverse (v ∷ w ∷ t)))
 
 module _ (g : Graph) (key : ℕ → ℕ) where
   -- The rest of the chosen path after a hop is the chosen path from there.
@@ -112,3 +102,22 @@ module _ (g : Graph) (L : GraphLaws g) (key : ℕ → ℕ) where
     -- ("the bridges where it stood, in order, are that path": 01, "Frames").
     pub following-visits : (b n a : ℕ) (p : List ℕ) → Chosen g key a b p → hops p ≤ n → stood (nextHop g key b) b n a ≡ p
     following-visits b n a p P l = stands-on-chosen g key b (nextHop g key b) (second-is-next b) n a p P l
+
+    -- "the port of the first hop's link" (01, "Entries"), from a tree rooted at `r` that carries paths to `r`: where a frame from the
+    -- root for `u` goes first falls out when `u` is settled. It is `u` itself beside the root, and where a frame for the next hop goes elsewhere.
+    root-next : (u r : ℕ) (p : List ℕ) → Chosen g key u r p → nextHop g key u r ≡ second (some (reverse p))
+    root-next u r p P = ap second (is-chosen g L key K r u (reverse p) (chosen-reverse g L key u r p P))
+
+    pub first-hop-beside : (u r : ℕ) → Chosen g key u r (u ∷ r ∷ []) → nextHop g key u r ≡ some u
+    first-hop-beside u r P = root-next u r (u ∷ r ∷ []) P
+
+    pub first-hop-beyond : (u v r : ℕ) (q : List ℕ) → (v ≡ r → ⊥) → Chosen g key v r q → Chosen g key u r (u ∷ q) → nextHop g key u r ≡ nextHop g key v r
+    first-hop-beyond u v r q n Q P =
+        root-next u r (u ∷ q) P ∙ ap (λ (p : List ℕ). second (some p)) (reverse-cons u q) ∙ second-more (reverse q) (u ∷ []) longer ∙ sym (root-next v r q Q)
+      where
+        longer : 1 < length (reverse q)
+        longer = go (chosen-first g key v r q Q)
+          where
+            go : ((t : List ℕ) × (q ≡ v ∷ t) × Least g v t r) → 1 < length (reverse q)
+            go ([], e, W) = absurd (n (W .way))
+            go (x ∷ t, e, W) = omega (arith, length-reverse q, ap (λ (z : List ℕ). length z) e)

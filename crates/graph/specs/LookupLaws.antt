@@ -93,6 +93,14 @@ module _ (g : Graph) (L : GraphLaws g) (key : ℕ → ℕ) (r : ℕ) (st : State
           (subst (λ (z : List ℕ). Lower (rank g key (x ∷ z)) (rank g key (x ∷ v ∷ t))) f′
           (subst (λ (z : List ℕ). Lower (rank g key (x ∷ q)) (rank g key (x ∷ z))) f l))))))
 
+  -- The label of an open bridge, with the path of its next hop.
+  label-of : (u : ℕ) → Open g st u → T (st .labelled u) → (p : List ℕ) × Label g key r st u (st .next u) p
+  label-of u o h =
+      let f = M .offered u (o .0) (o .1) h in
+      let l = entered-inside g L u (st .next u) (f .joined) in
+      let p = M .found (st .next u) l (f .done) in
+      (p .0, (o, h, refl, (l, f .done, p .1)))
+
   -- Each open bridge that is labelled has its lowest candidate.
   pub kept-labels : Labels g key r (Open g st) (Settled g key r st) (Label g key r st)
   kept-labels = record {
@@ -108,23 +116,12 @@ module _ (g : Graph) (L : GraphLaws g) (key : ℕ → ℕ) (r : ℕ) (st : State
       labelled : (u w : ℕ) (q : List ℕ) → Candidate g r (Open g st) (Settled g key r st) u w q → (v : ℕ) × (p : List ℕ) × Label g key r st u v p
       labelled u w q C =
           let o = C .waits in
-          let h = M .reached u w (o .0) (C .settled .0) (o .1) (candidate-offers u w q C) in
-          let f = M .offered u (o .0) (o .1) h in
-          let l = entered-inside g L u (st .next u) (f .joined) in
-          let p = M .found (st .next u) l (f .done) in
-          (st .next u, p .0, (o, h, refl, (l, f .done, p .1)))
+          let f = label-of u o (M .reached u w (o .0) (C .settled .0) (o .1) (candidate-offers u w q C)) in
+          (st .next u, f .0, f .1)
 
   label-far : (x v : ℕ) (p : List ℕ) → Label g key r st x v p → st .far x ≡ cost g (x ∷ p)
   label-far x v p (o, h, e, k) =
       let f : label st x ≡ candidateRank g key x p = label-is x p o h (subst (λ (z : ℕ). Settled g key r st z p) e k) in cc
-
-  -- The label of an open bridge, with the path of its next hop.
-  label-of : (u : ℕ) → Open g st u → T (st .labelled u) → (p : List ℕ) × Label g key r st u (st .next u) p
-  label-of u o h =
-      let f = M .offered u (o .0) (o .1) h in
-      let l = entered-inside g L u (st .next u) (f .joined) in
-      let p = M .found (st .next u) l (f .done) in
-      (p .0, (o, h, refl, (l, f .done, p .1)))
 
   -- The nearest labelled bridge may be settled: the path of its next hop with the bridge itself in front is its chosen path,
   -- and its lookups, with its own key inserted into its next hop's row, say so.
