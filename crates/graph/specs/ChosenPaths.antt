@@ -11,7 +11,7 @@ use lib.ListN.{length, length-map}
 use Rattle.graph.specs.Order.{Lower}
 use Rattle.graph.specs.Graph.{Graph, GraphLaws, KeyLaws, Onward, Path, cost, hops, pathId, rank}
 use Rattle.graph.specs.Chosen.{Chosen}
-use Rattle.graph.specs.Members.{In, Distinct, lastOf}
+use Rattle.graph.specs.Members.{In, Distinct, lastOf, HasPart}
 use Rattle.graph.specs.Notions.{Joint, Linked, Least, RanksAbove}
 use Rattle.graph.specs.ListLaws.{le-or-gt, nil-not-cons, lastOf-append, two-in}
 use Rattle.graph.specs.OrderLaws.{lower-never, lower-one-way, lower-compared, length-sorted}
@@ -223,8 +223,7 @@ module _ (g : Graph) (L : GraphLaws g) (key : ℕ → ℕ) where
       → (xs : List ℕ) × (part : List ℕ) × (ys : List ℕ) × (p ≡ xs ++ (part ++ ys)) × (Chosen g key c d part ⊎ Chosen g key c d (reverse part))
   chosen-of-two a b p P c d h k = go (two-in c d p h k)
     where
-      go : ((xs : List ℕ) × (t : List ℕ) × (ys : List ℕ) × (p ≡ xs ++ ((c ∷ t) ++ ys)) × (lastOf c t ≡ d))
-          ⊎ ((xs : List ℕ) × (t : List ℕ) × (ys : List ℕ) × (p ≡ xs ++ ((d ∷ t) ++ ys)) × (lastOf d t ≡ c))
+      go : HasPart c d p ⊎ HasPart d c p
           → (xs : List ℕ) × (part : List ℕ) × (ys : List ℕ) × (p ≡ xs ++ (part ++ ys)) × (Chosen g key c d part ⊎ Chosen g key c d (reverse part))
       go (inl (xs, t, ys, e, f)) = (xs, c ∷ t, ys, e, inl (subst (λ (z : ℕ). Chosen g key c z (c ∷ t)) f (chosen-part g key a b xs c t ys (rw e at P))))
       go (inr (xs, t, ys, e, f)) = (xs, d ∷ t, ys, e, inr (subst (λ (z : ℕ). Chosen g key z d (reverse (d ∷ t))) f (chosen-part-back a b xs d t ys (rw e at P))))

@@ -6,14 +6,14 @@ use mathlib.Core.Path.{_≡_, refl, sym, ap, _∙_, subst}
 use mathlib.Core.List.{List, [], _∷_, map, flatMap}
 use mathlib.Core.Option.{Option, none, some}
 use mathlib.Core.Logic.{_⊎_, inl, inr}
-use lib.Dec.{T, ltb, eqb, ltb→lt, lt→ltb, eqb→eq, eqb-refl}
+use lib.Dec.{T, ltb, eqb, ltb→lt, lt→ltb, eqb→eq}
 use lib.ListN.{length}
 use Rattle.graph.specs.Lists.{rising, filter}
 use Rattle.graph.specs.Order.{Lower, lower}
 use Rattle.graph.specs.Graph.{Graph, GraphLaws, KeyLaws, Joined, GoesOn, Onward, Path, costOnward, cost, rank}
 use Rattle.graph.specs.Chosen.{Chosen, neighbours, goesOn, onward, paths, chosen}
 use Rattle.graph.specs.Members.{In, Distinct}
-use Rattle.graph.specs.ListLaws.{in-map, map-in, in-flatMap, flatMap-in, filter-in, in-filter, in-consIf, consIf-here, consIf-there, in-rising, lowest-is, lowest-none}
+use Rattle.graph.specs.ListLaws.{in-map, map-in, in-flatMap, flatMap-in, filter-in, in-filter, in-consIf, consIf-here, consIf-there, in-rising, lowest-is, lowest-none, eq-eqb}
 use Rattle.graph.specs.OrderLaws.{lower-never, lower-chained, lower-between, lower-test, test-lower}
 use Rattle.graph.specs.Paths.{entered-inside, path-first}
 use Rattle.graph.specs.LeastPaths.{without-repeats, distinct-bounded}
@@ -70,15 +70,12 @@ module _ (g : Graph) where
       go (inl (p, e)) ih = subst (λ (z : List ℕ). Onward g u z b × (length z ≤ suc n)) (sym e) (eqb→eq u b p, omega arith)
       go (inr k) ih = hop (flatMap-in (through n b) t (neighbours g u) k) ih
 
-  same-test : (u b : ℕ) → u ≡ b → T (eqb u b)
-  same-test u b e = subst (λ (z : ℕ). T (eqb u z)) e (eqb-refl u)
-
   -- Every list that leads on to `b` by at most `n` hops is enumerated.
   pub onward-enumerated : GraphLaws g → (n u b : ℕ) (t : List ℕ) → Onward g u t b → length t ≤ n → In t (onward g n u b)
   unfolding onward
-  onward-enumerated L zero u b [] e l = consIf-here (eqb u b) [] [] (same-test u b e)
+  onward-enumerated L zero u b [] e l = consIf-here (eqb u b) [] [] (eq-eqb u b e)
   onward-enumerated L zero u b (v ∷ t) o l = absurd (omega arith)
-  onward-enumerated L (suc n) u b [] e l = consIf-here (eqb u b) [] (flatMap (through n b) (neighbours g u)) (same-test u b e)
+  onward-enumerated L (suc n) u b [] e l = consIf-here (eqb u b) [] (flatMap (through n b) (neighbours g u)) (eq-eqb u b e)
   onward-enumerated L (suc n) u b (v ∷ t) (j, m, o) l =
       consIf-there (eqb u b) (v ∷ t) [] (flatMap (through n b) (neighbours g u))
       (in-flatMap (through n b) (v ∷ t) v (neighbours g u) (joined-neighbour L u v j)

@@ -7,14 +7,14 @@ use mathlib.Core.List.{List, [], _∷_}
 use mathlib.Core.Option.{Option, none, some}
 use mathlib.Core.Logic.{inl, inr}
 use mathlib.Core.Bool.{Bool, true, false, _&&_, _||_}
-use lib.Dec.{T, eqb, eqb→eq, eqb-refl}
+use lib.Dec.{T, eqb, eqb→eq}
 use Rattle.graph.specs.Lists.{rising, filter, any}
 use Rattle.graph.specs.Graph.{Graph, GraphLaws, KeyLaws}
 use Rattle.graph.specs.Chosen.{Chosen, chosen}
 use Rattle.graph.specs.Members.{In}
 use Rattle.graph.specs.Notions.{Leaves}
 use Rattle.graph.specs.Moves.{leaves, leavesOn, handed, Feeds, HandsDown}
-use Rattle.graph.specs.ListLaws.{filter-in, in-filter, any-in, in-any, in-rising, distinct-filter, distinct-rising}
+use Rattle.graph.specs.ListLaws.{filter-in, in-filter, any-in, in-any, in-rising, distinct-filter, distinct-rising, eq-eqb}
 use Rattle.graph.specs.Paths.{entered-inside, end-inside}
 use Rattle.graph.specs.Enumeration.{chosen-is, is-chosen}
 use Rattle.graph.specs.Forwarding.{departure}
@@ -48,11 +48,8 @@ pub leaves-test : (c v : ℕ) (p : List ℕ) → Leaves c v p → T (leaves c v 
 unfolding leaves
 leaves-test c v [] h = h
 leaves-test c v (x ∷ []) h = h
-leaves-test c v (x ∷ y ∷ t) (inl (e, f)) = here (eqb c x) (eqb v y) (same c x e) (same v y f)
+leaves-test c v (x ∷ y ∷ t) (inl (e, f)) = here (eqb c x) (eqb v y) (eq-eqb c x e) (eq-eqb v y f)
   where
-    same : (m n : ℕ) → m ≡ n → T (eqb m n)
-    same m n e = subst (λ (k : ℕ). T (eqb m k)) e (eqb-refl m)
-
     here : (a b : Bool) → T a → T b → T ((a && b) || leaves c v (y ∷ t))
     here true true h k = tt
     here true false h k = absurd k

@@ -10,7 +10,7 @@ use mathlib.Core.Bool.{Bool, true, false, cond, not, _||_}
 use lib.Dec.{T, leb, eqb, leb→le, nleb→lt, eqb→eq, eqb-refl}
 use lib.ListN.{length, length-append}
 use Rattle.graph.specs.Lists.{rising, consIf, filter, any, lowerOf, lowestBy}
-use Rattle.graph.specs.Members.{In, Distinct, lastOf, along, times}
+use Rattle.graph.specs.Members.{In, Distinct, lastOf, HasPart, along, times}
 
 -- Numbers
 
@@ -38,8 +38,11 @@ same-or-not m n = go (compared m n)
     go (inr (inl e)) = inl e
     go (inr (inr h)) = inr (λ e. omega arith)
 
+pub eq-eqb : (m n : ℕ) → m ≡ n → T (eqb m n)
+eq-eqb m n e = subst (λ (k : ℕ). T (eqb m k)) e (eqb-refl m)
+
 module _ {A : Type 0} where
-  -- A test that gives no wrong answer, by its two answers.
+  -- What a test for equality decides, by its two answers.
   pub eqb-same : (n : ℕ) (x y : A) → cond (eqb n n) x y ≡ x
   eqb-same n x y = go (eqb n n) (eqb-refl n)
     where
@@ -103,29 +106,25 @@ module _ {A : Type 0} where
   pub in-here : (a : A) (xs ys : List A) → In a (xs ++ (a ∷ ys))
   in-here a xs ys = in-right a xs (a ∷ ys) (inl refl)
 
-  -- Of two places of a list one is not after the other.
-  pub two-in : (a b : A) (xs : List A) → In a xs → In b xs
-      → ((ys : List A) × (t : List A) × (zs : List A) × (xs ≡ ys ++ ((a ∷ t) ++ zs)) × (lastOf a t ≡ b))
-      ⊎ ((ys : List A) × (t : List A) × (zs : List A) × (xs ≡ ys ++ ((b ∷ t) ++ zs)) × (lastOf b t ≡ a))
-  two-in a b (x ∷ xs) (inl e) (inl f) = inl ([], [], xs, ap (λ (y : A). y ∷ xs) (sym e), e ∙ sym f)
-  two-in a b (x ∷ xs) (inl e) (inr k) = inl (go (in-split b xs k))
+  part-later : (a b x : A) (p : List A) → HasPart a b p → HasPart a b (x ∷ p)
+  part-later a b x p (xs, t, ys, e, f) = (x ∷ xs, t, ys, ap (λ (s : List A). x ∷ s) e, f)
+
+  part-here : (a b x : A) (p : List A) → a ≡ x → In b p → HasPart a b (x ∷ p)
+  part-here a b x p e k = go (in-split b p k)
     where
-      go : ((ys : List A) × (zs : List A) × (xs ≡ ys ++ (b ∷ zs)))
-          → (ys : List A) × (t : List A) × (zs : List A) × (x ∷ xs ≡ ys ++ ((a ∷ t) ++ zs)) × (lastOf a t ≡ b)
+      go : ((ys : List A) × (zs : List A) × (p ≡ ys ++ (b ∷ zs))) → HasPart a b (x ∷ p)
       go (ys, zs, f) = ([], ys ++ (b ∷ []), zs, cc (append-assoc ys (b ∷ []) zs), lastOf-append a ys b [])
-  two-in a b (x ∷ xs) (inr h) (inl f) = inr (go (in-split a xs h))
+
+  -- Of two places of a list one is not after the other.
+  pub two-in : (a b : A) (p : List A) → In a p → In b p → HasPart a b p ⊎ HasPart b a p
+  two-in a b (x ∷ p) (inl e) (inl f) = inl ([], [], p, ap (λ (y : A). y ∷ p) (sym e), e ∙ sym f)
+  two-in a b (x ∷ p) (inl e) (inr k) = inl (part-here a b x p e k)
+  two-in a b (x ∷ p) (inr h) (inl f) = inr (part-here b a x p f h)
+  two-in a b (x ∷ p) (inr h) (inr k) = go (two-in a b p h k)
     where
-      go : ((ys : List A) × (zs : List A) × (xs ≡ ys ++ (a ∷ zs)))
-          → (ys : List A) × (t : List A) × (zs : List A) × (x ∷ xs ≡ ys ++ ((b ∷ t) ++ zs)) × (lastOf b t ≡ a)
-      go (ys, zs, e) = ([], ys ++ (a ∷ []), zs, cc (append-assoc ys (a ∷ []) zs), lastOf-append b ys a [])
-  two-in a b (x ∷ xs) (inr h) (inr k) = go (two-in a b xs h k)
-    where
-      go : ((ys : List A) × (t : List A) × (zs : List A) × (xs ≡ ys ++ ((a ∷ t) ++ zs)) × (lastOf a t ≡ b))
-          ⊎ ((ys : List A) × (t : List A) × (zs : List A) × (xs ≡ ys ++ ((b ∷ t) ++ zs)) × (lastOf b t ≡ a))
-          → ((ys : List A) × (t : List A) × (zs : List A) × (x ∷ xs ≡ ys ++ ((a ∷ t) ++ zs)) × (lastOf a t ≡ b))
-          ⊎ ((ys : List A) × (t : List A) × (zs : List A) × (x ∷ xs ≡ ys ++ ((b ∷ t) ++ zs)) × (lastOf b t ≡ a))
-      go (inl (ys, t, zs, e, f)) = inl (x ∷ ys, t, zs, ap (λ (s : List A). x ∷ s) e, f)
-      go (inr (ys, t, zs, e, f)) = inr (x ∷ ys, t, zs, ap (λ (s : List A). x ∷ s) e, f)
+      go : HasPart a b p ⊎ HasPart b a p → HasPart a b (x ∷ p) ⊎ HasPart b a (x ∷ p)
+      go (inl k) = inl (part-later a b x p k)
+      go (inr k) = inr (part-later b a x p k)
 
 module _ {A B : Type 0} where
   pub in-map : (f : A → B) (a : A) (xs : List A) → In a xs → In (f a) (map f xs)

@@ -4,7 +4,7 @@ use Prim.Native.Nat.{ℕ, suc, _+_, _<_}
 use native.Mathlib.Omega.{arith}
 use mathlib.Core.Path.{_≡_, refl, sym, ap, _∙_, subst}
 use mathlib.Core.List.{List, [], _∷_, _++_, reverse, reverse-cons}
-use mathlib.Core.Logic.{inl, inr}
+use mathlib.Core.Logic.{_⊎_, inl, inr}
 use lib.Dec.{T}
 use lib.ListN.{length, length-append}
 use Rattle.graph.specs.Graph.{Graph, GraphLaws, Joined, GoesOn, Onward, Path, costOnward}
@@ -41,6 +41,21 @@ module _ (g : Graph) where
   join u (v ∷ []) c s b (j, m, e) o h =
       (j, subst (λ (x : ℕ). GoesOn g x s) (sym e) h, subst (λ (x : ℕ). Onward g x s b) (sym e) o)
   join u (v ∷ w ∷ t) c s b (j, m, p) o h = (j, m, join v (w ∷ t) c s b p o h)
+
+  -- The same for whole paths.
+  pub path-part : (a b : ℕ) (xs : List ℕ) (c : ℕ) (t ys : List ℕ) → Path g a b (xs ++ ((c ∷ t) ++ ys)) → Path g c (lastOf c t) (c ∷ t)
+  path-part a b [] c t ys (e, o) = (refl, split c t ys b o .0)
+  path-part a b (x ∷ xs) c t ys (e, o) = (refl, split c t ys b (split x xs (c ∷ (t ++ ys)) b o .1 .2) .0)
+
+  pub path-join : (a c b : ℕ) (p s : List ℕ) → Path g a c p → Path g c b (c ∷ s) → T (g .between c) ⊎ (length p ≡ 1) ⊎ (s ≡ []) → Path g a b (p ++ s)
+  path-join a c b (u ∷ t) s (e, o) (f, o′) h = (e, join u t c s b o o′ (joint t s h))
+    where
+      joint : (t s : List ℕ) → T (g .between c) ⊎ (length (u ∷ t) ≡ 1) ⊎ (s ≡ []) → Joint g t c s
+      joint [] s h = tt
+      joint (v ∷ t) [] h = tt
+      joint (v ∷ t) (w ∷ s) (inl h) = h
+      joint (v ∷ t) (w ∷ s) (inr (inl k)) = absurd (omega arith)
+      joint (v ∷ t) (w ∷ s) (inr (inr k)) = absurd (nil-not-cons (sym k))
 
   -- A part of an allowed path may be replaced by another allowed part with the same ends;
   -- a part of no hop, at an end of the path, only by itself.
