@@ -1,21 +1,22 @@
 -- The chosen path: it is unique, of least cost, without a bridge twice; its parts and its reverse are chosen;
 -- its cost and hop count do not depend on the key (01, "The chosen path").
 -- Assumes nothing.
-use Prim.Native.Nat.{ℕ, zero, suc, _+_, _-_, _≤_, _<_}
+use Prim.Native.Nat.{ℕ, _-_, _≤_, _<_}
 use native.Mathlib.Omega.{arith}
 use mathlib.Core.Path.{_≡_, refl, sym, ap, _∙_, subst}
 use mathlib.Core.List.{List, [], _∷_, _++_, map, reverse, append-nil, append-assoc, append-cancel-left, append-cancel-right, reverse-reverse}
 use mathlib.Core.Logic.{_⊎_, inl, inr}
-use lib.ListN.{length}
+use lib.Dec.{T}
+use lib.ListN.{length, length-map}
 use Rattle.graph.specs.Order.{Lower}
-use Rattle.graph.specs.Graph.{Graph, GraphLaws, KeyLaws, Onward, Path, costOnward, cost, hops, pathId, rank}
+use Rattle.graph.specs.Graph.{Graph, GraphLaws, KeyLaws, Onward, Path, cost, hops, pathId, rank}
 use Rattle.graph.specs.Chosen.{Chosen}
-use Rattle.graph.specs.Members.{In, Distinct, lastOf}
-use Rattle.graph.specs.Notions.{Joint, Least, Leaves}
-use Rattle.graph.specs.ListLaws.{le-or-gt, compared, nil-not-cons, lastOf-append, in-here, two-in}
-use Rattle.graph.specs.OrderLaws.{lower-never, lower-one-way, lower-compared}
+use Rattle.graph.specs.Members.{In, Distinct, lastOf, HasPart}
+use Rattle.graph.specs.Notions.{Joint, Linked, Least, RanksAbove}
+use Rattle.graph.specs.ListLaws.{le-or-gt, nil-not-cons, lastOf-append, two-in}
+use Rattle.graph.specs.OrderLaws.{lower-never, lower-one-way, lower-compared, length-sorted}
 use Rattle.graph.specs.Ranks.{rank-places, rank-around, rank-around-same, rank-reverse, cost-stay}
-use Rattle.graph.specs.Paths.{ends, split, replaced, cost-positive, path-first, path-reverse}
+use Rattle.graph.specs.Paths.{ends, split, replaced, cost-positive, path-first, path-reverse, linked-path}
 use Rattle.graph.specs.LeastPaths.{least-distinct, distinct-bounded, no-tie, least-apart}
 
 module _ (g : Graph) (key : ℕ → ℕ) where
@@ -31,7 +32,7 @@ module _ (g : Graph) (key : ℕ → ℕ) where
       go (inl h) = h
       go (inr h) = absurd (f (inl h))
 
-  -- The chosen path is unique.
+  -- "The chosen path" (01): there is at most one.
   pub chosen-unique : (a b : ℕ) (p q : List ℕ) → Chosen g key a b p → Chosen g key a b q → p ≡ q
   chosen-unique a b p q P Q = go (P .least q (Q .path)) (Q .least p (P .path))
     where
@@ -39,6 +40,27 @@ module _ (g : Graph) (key : ℕ → ℕ) where
       go (inl e) r = sym e
       go (inr h) (inl e) = e
       go (inr h) (inr k) = absurd (lower-one-way (rank g key p) (rank g key q) h k)
+
+  -- "Every other list of bridges from a to b, each joined to the next, costs more, or ties and has more hops,
+  -- or ties in both and has a higher masked PATHID" (demand 3). All lists, repeats included.
+  pub chosen-below : (a b : ℕ) (p q : List ℕ) → Chosen g key a b p → Path g a b q → (q ≡ p → ⊥) → RanksAbove g key q p
+  chosen-below a b p q P o n = go (P .least q o)
+    where
+      go : (q ≡ p) ⊎ Lower (rank g key p) (rank g key q) → RanksAbove g key q p
+      go (inl e) = absurd (n e)
+      go (inr (inl h)) = inl h
+      go (inr (inr (h, inl k))) = inr (inl (h, k))
+      go (inr (inr (h, inr k))) = inr (inr (h, k .0, k .1))
+
+  -- "compared place by place" (01, "The chosen path"): PATHIDs are compared only where they have equal lengths.
+  pub pathId-lengths : (a b : ℕ) (p q : List ℕ) → Path g a b p → Path g a b q → hops p ≡ hops q → length (pathId key p) ≡ length (pathId key q)
+  pathId-lengths a b (x ∷ p) (y ∷ q) P Q e =
+      omega (arith, length-sorted (map key (x ∷ p)), length-sorted (map key (y ∷ q)), length-map p key, length-map q key)
+
+  -- The same where all bridges may lie between, with the part about lying between gone.
+  pub chosen-below-linked : ((v : ℕ) → T (g .between v)) → (a b : ℕ) (p q : List ℕ) → Chosen g key a b p → Linked g a b q → (q ≡ p → ⊥)
+      → RanksAbove g key q p
+  chosen-below-linked all a b p q P o n = chosen-below a b p q P (linked-path g all a b q o) n
 
   -- No path is lower than the chosen one.
   pub chosen-lowest : (a b : ℕ) (p q : List ℕ) → Chosen g key a b p → Path g a b q → Lower (rank g key q) (rank g key p) → ⊥
@@ -48,7 +70,7 @@ module _ (g : Graph) (key : ℕ → ℕ) where
       go (inl e) = lower-never (rank g key p) (subst (λ (z : List ℕ). Lower (rank g key z) (rank g key p)) e h)
       go (inr k) = lower-one-way (rank g key p) (rank g key q) k h
 
-  -- "The chosen path has the least cost".
+  -- "The chosen path has the least cost" (01, "The chosen path").
   pub chosen-cost : (a b : ℕ) (p q : List ℕ) → Chosen g key a b p → Path g a b q → cost g p ≤ cost g q
   chosen-cost a b p q P o = not-lower-cost p q (chosen-lowest a b p q P o)
 
@@ -62,7 +84,7 @@ module _ (g : Graph) (key : ℕ → ℕ) where
   pub chosen-least : (a b : ℕ) (t : List ℕ) → Chosen g key a b (a ∷ t) → Least g a t b
   chosen-least a b t P = record { way = P .path .1; no-less = λ s k. chosen-cost a b (a ∷ t) (a ∷ s) P (refl, k) }
 
-  -- "a path from a bridge to itself is that bridge, cost 0, hops 0": it is the chosen one.
+  -- "a path from a bridge to itself is that bridge, cost 0, hops 0" (01, "The chosen path"): it is the chosen one.
   pub chosen-stay : (a : ℕ) → Chosen g key a a (a ∷ [])
   chosen-stay a = record { path = (refl, refl); least = λ q o. go q (path-first g a a q o) }
     where
@@ -73,7 +95,7 @@ module _ (g : Graph) (key : ℕ → ℕ) where
   pub chosen-self : (a : ℕ) (p : List ℕ) → Chosen g key a a p → p ≡ a ∷ []
   chosen-self a p P = chosen-unique a a p (a ∷ []) P (chosen-stay a)
 
-  -- The chosen path has no bridge twice.
+  -- The chosen path has no bridge twice (demand 3: the frame stands at no bridge twice).
   pub chosen-distinct : (a b : ℕ) (p : List ℕ) → Chosen g key a b p → Distinct p
   chosen-distinct a b p P = go (chosen-first a b p P)
     where
@@ -150,7 +172,8 @@ module _ (g : Graph) (key : ℕ → ℕ) where
       (subst (λ (z : ℕ). Chosen g key x z (x ∷ (xs ++ (c ∷ [])))) (lastOf-append x xs c [])
       (chosen-part a b [] x (xs ++ (c ∷ [])) ys (subst (λ (z : List ℕ). Chosen g key a b (x ∷ z)) (sym (append-assoc xs (c ∷ []) ys)) P)))
 
--- Cost and hop count of the chosen path do not depend on the key.
+-- Cost and hop count of the chosen path do not depend on the key: "least cost, then the fewest hops" come before the PATHID
+-- (01, "The chosen path").
 pub chosen-any-key : (g : Graph) (key key′ : ℕ → ℕ) (a b : ℕ) (p q : List ℕ) → Chosen g key a b p → Chosen g key′ a b q
     → (cost g p ≡ cost g q) × (hops p ≡ hops q)
 chosen-any-key g key key′ a b p q P Q = go (P .least q (Q .path)) (Q .least p (P .path))
@@ -167,7 +190,7 @@ chosen-any-key g key key′ a b p q P Q = go (P .least q (Q .path)) (Q .least p 
     go (inr (inr (h, inr l))) (inr (inr (k, inr m))) = (h, l .0)
 
 module _ (g : Graph) (L : GraphLaws g) (key : ℕ → ℕ) where
-  -- The chosen path has at most as many bridges as the graph.
+  -- The chosen path has at most as many bridges as the graph, so the lists enumerated suffice (01, "The chosen path").
   pub chosen-bounded : (a b : ℕ) (p : List ℕ) → Chosen g key a b p → hops p ≤ g .size - 1
   chosen-bounded a b p P = go (chosen-first g key a b p P)
     where
@@ -195,8 +218,18 @@ module _ (g : Graph) (L : GraphLaws g) (key : ℕ → ℕ) where
       → Chosen g key (lastOf c t) c (reverse (c ∷ t))
   chosen-part-back a b xs c t ys P = chosen-reverse c (lastOf c t) (c ∷ t) (chosen-part g key a b xs c t ys P)
 
+  -- Of any two bridges on the way one is not after the other: the chosen path between them is that part, or that part reversed.
+  pub chosen-of-two : (a b : ℕ) (p : List ℕ) → Chosen g key a b p → (c d : ℕ) → In c p → In d p
+      → (xs : List ℕ) × (part : List ℕ) × (ys : List ℕ) × (p ≡ xs ++ (part ++ ys)) × (Chosen g key c d part ⊎ Chosen g key c d (reverse part))
+  chosen-of-two a b p P c d h k = go (two-in c d p h k)
+    where
+      go : HasPart c d p ⊎ HasPart d c p
+          → (xs : List ℕ) × (part : List ℕ) × (ys : List ℕ) × (p ≡ xs ++ (part ++ ys)) × (Chosen g key c d part ⊎ Chosen g key c d (reverse part))
+      go (inl (xs, t, ys, e, f)) = (xs, c ∷ t, ys, e, inl (subst (λ (z : ℕ). Chosen g key c z (c ∷ t)) f (chosen-part g key a b xs c t ys (rw e at P))))
+      go (inr (xs, t, ys, e, f)) = (xs, d ∷ t, ys, e, inr (subst (λ (z : ℕ). Chosen g key z d (reverse (d ∷ t))) f (chosen-part-back a b xs d t ys (rw e at P))))
+
   module _ (K : KeyLaws g key) where
-    -- A path than which no other is lower is the chosen path, because no two tie.
+    -- A path than which no other is lower is the chosen path, because no two tie (01, "The chosen path").
     pub lowest-chosen : (a b : ℕ) (p : List ℕ) → Path g a b p → ((q : List ℕ) → Path g a b q → Lower (rank g key q) (rank g key p) → ⊥) → Chosen g key a b p
     lowest-chosen a b p o f = record { path = o; least = λ q k. go q k (lower-compared (rank g key p) (rank g key q)) }
       where
@@ -221,7 +254,7 @@ module _ (g : Graph) (L : GraphLaws g) (key : ℕ → ℕ) where
         go q k (inr (inl e)) = inl (tie q e (path-first g a b p o) (path-first g a b q k))
         go q k (inr (inr h)) = absurd (f q k h)
 
-    -- Chosen paths from two different bridges to one have different PATHIDs.
+    -- Chosen paths from two different bridges to one have different PATHIDs (01, "The chosen path").
     pub chosen-apart : (v w b : ℕ) (p q : List ℕ) → Chosen g key v b p → Chosen g key w b q → pathId key p ≡ pathId key q → v ≡ w
     chosen-apart v w b p q P Q e = go (chosen-first g key v b p P) (chosen-first g key w b q Q)
       where

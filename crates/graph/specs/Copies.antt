@@ -1,14 +1,13 @@
 -- Group frames: copies sent down the chosen paths from a sender to its receivers reach each receiver once, no bridge twice,
 -- and never the sender (demand 3).
 -- Assumes nothing.
-use Prim.Native.Nat.{ℕ, zero, suc, _+_, _-_, _≤_, _<_}
+use Prim.Native.Nat.{ℕ, zero, suc, _+_, _≤_, _<_}
 use native.Mathlib.Omega.{arith}
-use native.Mathlib.Nat.{suc-inj}
 use mathlib.Core.Path.{_≡_, refl, sym, ap, _∙_, subst}
-use mathlib.Core.List.{List, [], _∷_, _++_, flatMap, append-assoc, append-cancel-right}
+use mathlib.Core.List.{List, [], _∷_, _++_, append-assoc, append-cancel-right}
 use mathlib.Core.Logic.{_⊎_, inl, inr}
 use lib.ListN.{length, length-append}
-use Rattle.graph.specs.Graph.{Graph, GraphLaws, Path, hops}
+use Rattle.graph.specs.Graph.{Graph, GraphLaws, hops}
 use Rattle.graph.specs.Chosen.{Chosen}
 use Rattle.graph.specs.Members.{In, Distinct, lastOf, times}
 use Rattle.graph.specs.Notions.{Least, Leaves}
@@ -16,10 +15,10 @@ use Rattle.graph.specs.Moves.{copies, entered, Feeds, HandsDown}
 use Rattle.graph.specs.ListLaws.{le-or-gt, in-left, in-right, in-here, in-append, in-flatMap, flatMap-in, distinct-append, distinct-flatMap, nothing-in, same-last, times-none, times-one, times-at-most-one}
 use Rattle.graph.specs.Paths.{ends, stays-inside}
 use Rattle.graph.specs.ChosenPaths.{chosen-unique, chosen-first, chosen-stay, chosen-start, chosen-bounded}
-use Rattle.graph.specs.Forwarding.{leaves-split, split-leaves}
+use Rattle.graph.specs.Forwarding.{leaves-split, split-leaves, arrival}
 
 -- `v` is the bridge after `n` hops of its chosen path from `s`.
-abbrev Placed : Graph → (ℕ → ℕ) → ℕ → ℕ → ℕ → Type 0
+abbrev pub Placed : Graph → (ℕ → ℕ) → ℕ → ℕ → ℕ → Type 0
 Placed g key s n v = (xs : List ℕ) × (length xs ≡ n) × Chosen g key s v (xs ++ (v ∷ []))
 
 module _ (g : Graph) (key : ℕ → ℕ) (s : ℕ) where
@@ -73,6 +72,14 @@ module _ (g : Graph) (key : ℕ → ℕ) (s : ℕ) where
 
       copy-inside : (n v : ℕ) → In v (copies children s n) → v < g .size
       copy-inside n v h = placed-inside n v (copy-placed n v h)
+
+      -- "At each bridge that the frame from a enters, the entry for a names the arrival port" (demand 3), for copies and their sender:
+      -- from a bridge entered from `c` the chosen path back to the sender begins with the hop to `c`.
+      pub copy-arrival : (c v : ℕ) → c < g .size → In v (children c) → (t : List ℕ) × Chosen g key v s (v ∷ c ∷ t)
+      copy-arrival c v l h = go (H .fed c v l h)
+        where
+          go : Feeds g key s Receives c v → (t : List ℕ) × Chosen g key v s (v ∷ c ∷ t)
+          go (r, k, p, P, i) = arrival g L key s r p c v P i
 
       -- Within a round no bridge is entered twice.
       pub round-distinct : (n : ℕ) → Distinct (copies children s n)
@@ -129,7 +136,7 @@ module _ (g : Graph) (key : ℕ → ℕ) (s : ℕ) where
       pub sender-never : (n : ℕ) → times s (entered children s n) ≡ 0
       sender-never n = times-none s (entered children s n) (sender-not-entered n)
 
-      -- From as many rounds as the graph has bridges on no copy is left.
+      -- From as many rounds as the graph has bridges on no copy is left ("With no such entry it ends there": 01, "Frames").
       pub no-copy-left : (n : ℕ) → g .size ≤ n → copies children s n ≡ []
       no-copy-left n l = nothing-in (copies children s n) (λ v h. go v (copy-placed n v h))
         where
@@ -137,13 +144,13 @@ module _ (g : Graph) (key : ℕ → ℕ) (s : ℕ) where
           go v (xs, e, P) = omega (arith, chosen-bounded g L key s v (xs ++ (v ∷ [])) P, length-append xs (v ∷ []))
 
       -- A copy is handed down the chosen path to a receiver, hop by hop.
-      handed-down : (r : ℕ) → Receives r → (p : List ℕ) → Chosen g key s r p → (ys xs : List ℕ) (c : ℕ) → p ≡ xs ++ (c ∷ ys)
+      passed-on : (r : ℕ) → Receives r → (p : List ℕ) → Chosen g key s r p → (ys xs : List ℕ) (c : ℕ) → p ≡ xs ++ (c ∷ ys)
           → In c (copies children s (length xs)) → In (lastOf c ys) (copies children s (length xs + length ys))
       unfolding copies
-      handed-down r k p P [] xs c e h = let f : length xs ≡ length xs + 0 = omega arith in subst (λ (z : ℕ). In c (copies children s z)) f h
-      handed-down r k p P (v ∷ ys) xs c e h = let f : length (xs ++ (c ∷ [])) + length ys ≡ length xs + suc (length ys) = omega (arith, length-append xs (c ∷ [])) in
+      passed-on r k p P [] xs c e h = let f : length xs ≡ length xs + 0 = omega arith in subst (λ (z : ℕ). In c (copies children s z)) f h
+      passed-on r k p P (v ∷ ys) xs c e h = let f : length (xs ++ (c ∷ [])) + length ys ≡ length xs + suc (length ys) = omega (arith, length-append xs (c ∷ [])) in
           subst (λ (z : ℕ). In (lastOf v ys) (copies children s z)) f
-          (handed-down r k p P ys (xs ++ (c ∷ [])) v (e ∙ sym (append-assoc xs (c ∷ []) (v ∷ ys))) next)
+          (passed-on r k p P ys (xs ++ (c ∷ [])) v (e ∙ sym (append-assoc xs (c ∷ []) (v ∷ ys))) next)
         where
           fed : In v (children c)
           fed = H .feeds c v (copy-inside (length xs) c h)
@@ -162,11 +169,13 @@ module _ (g : Graph) (key : ℕ → ℕ) (s : ℕ) where
           go ([], e, W) = absurd (f (sym (W .way)))
           go (v ∷ t, e, W) = in-entered (suc (length t)) n r (omega arith) (omega (arith, ap hops e))
               (subst (λ (z : ℕ). In z (copies children s (suc (length t)))) (ends g s (v ∷ t) r (W .way))
-              (subst (λ (z : ℕ). In (lastOf v t) (copies children s z)) count (handed-down r k p P (v ∷ t) [] s e (inl refl))))
+              (subst (λ (z : ℕ). In (lastOf v t) (copies children s z)) count (passed-on r k p P (v ∷ t) [] s e (inl refl))))
             where
               count : 0 + suc (length t) ≡ suc (length t)
               count = omega arith
 
+      -- The same from as many rounds as the graph has bridges on, counted: "A bridge is reached once for each copy that enters it"
+      -- (01, "Frames").
       pub receiver-once : (r : ℕ) → Receives r → (r ≡ s → ⊥) → (p : List ℕ) → Chosen g key s r p → (n : ℕ) → g .size ≤ n → times r (entered children s n) ≡ 1
       receiver-once r k f p P n l = times-one r (entered children s n) (entered-distinct n)
           (receiver-entered r k f p P n (omega (arith, chosen-bounded g L key s r p P)))

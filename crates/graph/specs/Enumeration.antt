@@ -1,20 +1,19 @@
 -- The definition by enumeration gives exactly the chosen path, and none exactly where no path exists (01, "The chosen path").
 -- Assumes nothing.
-use Prim.Native.Nat.{ℕ, zero, suc, _+_, _-_, _≤_, _<_}
+use Prim.Native.Nat.{ℕ, zero, suc, _-_, _≤_, _<_}
 use native.Mathlib.Omega.{arith}
 use mathlib.Core.Path.{_≡_, refl, sym, ap, _∙_, subst}
-use mathlib.Core.List.{List, [], _∷_, _++_, map, flatMap}
+use mathlib.Core.List.{List, [], _∷_, map, flatMap}
 use mathlib.Core.Option.{Option, none, some}
 use mathlib.Core.Logic.{_⊎_, inl, inr}
-use mathlib.Core.Bool.{Bool, true, false}
-use lib.Dec.{T, ltb, eqb, ltb→lt, lt→ltb, eqb→eq, eqb-refl}
+use lib.Dec.{T, ltb, eqb, ltb→lt, lt→ltb, eqb→eq}
 use lib.ListN.{length}
-use Rattle.graph.specs.Lists.{rising, consIf, filter, lowestBy}
+use Rattle.graph.specs.Lists.{rising, filter}
 use Rattle.graph.specs.Order.{Lower, lower}
 use Rattle.graph.specs.Graph.{Graph, GraphLaws, KeyLaws, Joined, GoesOn, Onward, Path, costOnward, cost, rank}
 use Rattle.graph.specs.Chosen.{Chosen, neighbours, goesOn, onward, paths, chosen}
 use Rattle.graph.specs.Members.{In, Distinct}
-use Rattle.graph.specs.ListLaws.{none-not-some, in-map, map-in, in-flatMap, flatMap-in, filter-in, in-filter, in-consIf, consIf-here, consIf-there, in-rising, lowest-is, lowest-none}
+use Rattle.graph.specs.ListLaws.{in-map, map-in, in-flatMap, flatMap-in, filter-in, in-filter, in-consIf, consIf-here, consIf-there, in-rising, lowest-is, lowest-none, eq-eqb}
 use Rattle.graph.specs.OrderLaws.{lower-never, lower-chained, lower-between, lower-test, test-lower}
 use Rattle.graph.specs.Paths.{entered-inside, path-first}
 use Rattle.graph.specs.LeastPaths.{without-repeats, distinct-bounded}
@@ -29,7 +28,7 @@ module _ (g : Graph) where
   test-goes-on v [] h = tt
   test-goes-on v (w ∷ t) h = h
 
-  -- "Two bridges are joined": the neighbours of a bridge are those that a hop joins to it.
+  -- "Two bridges are joined when a usable link connects them" (01, "Links"): the neighbours of a bridge are those that a hop joins to it.
   pub neighbour-joined : (u v : ℕ) → In v (neighbours g u) → Joined g u v
   unfolding neighbours
   neighbour-joined u v h = ltb→lt 0 (g .hop u v) (filter-in (λ v. ltb 0 (g .hop u v)) v (rising 0 (g .size)) h .1)
@@ -71,15 +70,12 @@ module _ (g : Graph) where
       go (inl (p, e)) ih = subst (λ (z : List ℕ). Onward g u z b × (length z ≤ suc n)) (sym e) (eqb→eq u b p, omega arith)
       go (inr k) ih = hop (flatMap-in (through n b) t (neighbours g u) k) ih
 
-  same-test : (u b : ℕ) → u ≡ b → T (eqb u b)
-  same-test u b e = subst (λ (z : ℕ). T (eqb u z)) e (eqb-refl u)
-
   -- Every list that leads on to `b` by at most `n` hops is enumerated.
   pub onward-enumerated : GraphLaws g → (n u b : ℕ) (t : List ℕ) → Onward g u t b → length t ≤ n → In t (onward g n u b)
   unfolding onward
-  onward-enumerated L zero u b [] e l = consIf-here (eqb u b) [] [] (same-test u b e)
+  onward-enumerated L zero u b [] e l = consIf-here (eqb u b) [] [] (eq-eqb u b e)
   onward-enumerated L zero u b (v ∷ t) o l = absurd (omega arith)
-  onward-enumerated L (suc n) u b [] e l = consIf-here (eqb u b) [] (flatMap (through n b) (neighbours g u)) (same-test u b e)
+  onward-enumerated L (suc n) u b [] e l = consIf-here (eqb u b) [] (flatMap (through n b) (neighbours g u)) (eq-eqb u b e)
   onward-enumerated L (suc n) u b (v ∷ t) (j, m, o) l =
       consIf-there (eqb u b) (v ∷ t) [] (flatMap (through n b) (neighbours g u))
       (in-flatMap (through n b) (v ∷ t) v (neighbours g u) (joined-neighbour L u v j)
@@ -137,7 +133,7 @@ module _ (g : Graph) (L : GraphLaws g) (key : ℕ → ℕ) where
           any : (q : List ℕ) → ((t : List ℕ) × (q ≡ a ∷ t) × Onward g a t b) → Lower (rank g key q) (rank g key p) → ⊥
           any q (t, e, o) h = shorter q t e h (without-repeats g a t b o)
 
-  -- "12: No path exists": the enumeration gives none exactly where no path exists.
+  -- "12. No path exists." (01, "Refusals in checking order"): the enumeration gives none exactly where no path exists.
   pub none-no-path : (a b : ℕ) → chosen g key a b ≡ none → (p : List ℕ) → Path g a b p → ⊥
   unfolding chosen
   none-no-path a b e p o = go (path-first g a b p o)
@@ -155,8 +151,8 @@ module _ (g : Graph) (L : GraphLaws g) (key : ℕ → ℕ) where
       go (some p) e = absurd (f p (enumerated-lowest a b p e .0))
 
   module _ (K : KeyLaws g key) where
-    -- The definition by enumeration gives the path that ranks below every other list of bridges from `a` to `b`,
-    -- each joined to the next, repeats included.
+    -- "Every other list of bridges from a to b, each joined to the next, costs more, or ties .." (demand 3): the definition by
+    -- enumeration gives exactly the path that ranks below every other such list, repeats included.
     pub chosen-is : (a b : ℕ) (p : List ℕ) → chosen g key a b ≡ some p → Chosen g key a b p
     chosen-is a b p e = let r = enumerated-lowest a b p e in lowest-chosen g L key K a b p (r .0) (r .1)
 
@@ -182,3 +178,7 @@ module _ (g : Graph) (L : GraphLaws g) (key : ℕ → ℕ) where
         go : ((p : List ℕ) × Chosen g key a b p) ⊎ ((p : List ℕ) → Path g a b p → ⊥) → (p : List ℕ) × Chosen g key a b p
         go (inl r) = r
         go (inr f) = absurd (f q o)
+
+-- Whether a path exists does not depend on the key.
+pub none-any-key : (g : Graph) → GraphLaws g → (key key′ : ℕ → ℕ) (a b : ℕ) → chosen g key a b ≡ none → chosen g key′ a b ≡ none
+none-any-key g L key key′ a b e = no-path-none g L key′ a b (none-no-path g L key a b e)

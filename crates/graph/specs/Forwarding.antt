@@ -1,19 +1,19 @@
 -- Individual frames: following at each bridge the second bridge of its chosen path to b visits exactly the chosen path (demand 3).
 -- Assumes nothing.
-use Prim.Native.Nat.{ℕ, zero, suc, _+_, _-_, _≤_, _<_}
+use Prim.Native.Nat.{ℕ, zero, suc, _≤_, _<_}
 use native.Mathlib.Omega.{arith}
 use mathlib.Core.Path.{_≡_, refl, sym, ap, _∙_, subst}
-use mathlib.Core.List.{List, [], _∷_, _++_, reverse, append-assoc, reverse-append}
-use mathlib.Core.Option.{Option, none, some}
-use mathlib.Core.Logic.{_⊎_, inl, inr}
+use mathlib.Core.List.{List, [], _∷_, _++_, reverse, append-assoc, reverse-append, reverse-cons}
+use mathlib.Core.Option.{Option, some}
+use mathlib.Core.Logic.{inl, inr}
 use mathlib.Core.Bool.{cond}
 use lib.Dec.{eqb}
-use lib.ListN.{length}
+use lib.ListN.{length, length-reverse}
 use Rattle.graph.specs.Graph.{Graph, GraphLaws, KeyLaws, hops}
-use Rattle.graph.specs.Chosen.{Chosen, chosen}
+use Rattle.graph.specs.Chosen.{Chosen}
 use Rattle.graph.specs.Notions.{Least, Leaves}
 use Rattle.graph.specs.Moves.{second, nextHop, enters, stood}
-use Rattle.graph.specs.ListLaws.{nil-not-cons, eqb-same, eqb-other, same-or-not}
+use Rattle.graph.specs.ListLaws.{eqb-same, eqb-other}
 use Rattle.graph.specs.ChosenPaths.{chosen-first, chosen-self, chosen-rest, chosen-start, chosen-reverse}
 use Rattle.graph.specs.Enumeration.{is-chosen}
 
@@ -29,6 +29,11 @@ pub split-leaves : (xs : List ℕ) (c v : ℕ) (ys : List ℕ) → Leaves c v (x
 split-leaves [] c v ys = inl (refl, refl)
 split-leaves (x ∷ []) c v ys = inr (split-leaves [] c v ys)
 split-leaves (x ∷ y ∷ xs) c v ys = inr (split-leaves (y ∷ xs) c v ys)
+
+second-more : (xs ys : List ℕ) → 1 < length xs → second (some (xs ++ ys)) ≡ second (some xs)
+second-more [] ys l = absurd (omega arith)
+second-more (x ∷ []) ys l = absurd (omega arith)
+second-more (x ∷ y ∷ xs) ys l = refl
 
 module _ (g : Graph) (key : ℕ → ℕ) where
   -- The rest of the chosen path after a hop is the chosen path from there.
@@ -65,7 +70,7 @@ module _ (g : Graph) (key : ℕ → ℕ) where
       go : ((t : List ℕ) × (p ≡ a ∷ t) × Least g a t b) → stood next b n a ≡ p
       go (t, e, W) = stands-on-path b next follows n a t (rw e at P) (omega (arith, ap hops e)) ∙ sym e
 
-  -- From each bridge on the way the frame goes where the chosen path from there goes.
+  -- From each bridge on the way the frame goes where the chosen path from there goes ("the port of the first hop's link": 01, "Entries").
   pub departure : (a b : ℕ) (p : List ℕ) (c v : ℕ) → Chosen g key a b p → Leaves c v p → (t : List ℕ) × Chosen g key c b (c ∷ v ∷ t)
   departure a b p c v P h = go (leaves-split c v p h)
     where
@@ -93,6 +98,26 @@ module _ (g : Graph) (L : GraphLaws g) (key : ℕ → ℕ) where
     pub second-is-next : (b u v : ℕ) (t : List ℕ) → Chosen g key u b (u ∷ v ∷ t) → nextHop g key b u ≡ some v
     second-is-next b u v t P = ap second (is-chosen g L key K u b (u ∷ v ∷ t) P)
 
-    -- Following at each bridge the second bridge of its chosen path to b visits exactly the chosen path.
+    -- Following at each bridge the second bridge of its chosen path to b visits exactly the chosen path
+    -- ("the bridges where it stood, in order, are that path": 01, "Frames").
     pub following-visits : (b n a : ℕ) (p : List ℕ) → Chosen g key a b p → hops p ≤ n → stood (nextHop g key b) b n a ≡ p
     following-visits b n a p P l = stands-on-chosen g key b (nextHop g key b) (second-is-next b) n a p P l
+
+    -- "the port of the first hop's link" (01, "Entries"), from a tree rooted at `r` that carries paths to `r`: where a frame from the
+    -- root for `u` goes first falls out when `u` is settled. It is `u` itself beside the root, and where a frame for the next hop goes elsewhere.
+    root-next : (u r : ℕ) (p : List ℕ) → Chosen g key u r p → nextHop g key u r ≡ second (some (reverse p))
+    root-next u r p P = ap second (is-chosen g L key K r u (reverse p) (chosen-reverse g L key u r p P))
+
+    pub first-hop-beside : (u r : ℕ) → Chosen g key u r (u ∷ r ∷ []) → nextHop g key u r ≡ some u
+    first-hop-beside u r P = root-next u r (u ∷ r ∷ []) P
+
+    pub first-hop-beyond : (u v r : ℕ) (q : List ℕ) → (v ≡ r → ⊥) → Chosen g key v r q → Chosen g key u r (u ∷ q) → nextHop g key u r ≡ nextHop g key v r
+    first-hop-beyond u v r q n Q P =
+        root-next u r (u ∷ q) P ∙ ap (λ (p : List ℕ). second (some p)) (reverse-cons u q) ∙ second-more (reverse q) (u ∷ []) longer ∙ sym (root-next v r q Q)
+      where
+        longer : 1 < length (reverse q)
+        longer = go (chosen-first g key v r q Q)
+          where
+            go : ((t : List ℕ) × (q ≡ v ∷ t) × Least g v t r) → 1 < length (reverse q)
+            go ([], e, W) = absurd (n (W .way))
+            go (x ∷ t, e, W) = omega (arith, length-reverse q, ap (λ (z : List ℕ). length z) e)

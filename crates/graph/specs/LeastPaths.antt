@@ -1,27 +1,22 @@
 -- Paths of least cost: their parts, no tie between two of them, no bridge twice, at most as many bridges as the graph (01, "The chosen path").
 -- Assumes nothing.
-use Prim.Native.Nat.{ℕ, zero, suc, _+_, _-_, _≤_, _<_}
+use Prim.Native.Nat.{ℕ, _-_, _≤_, _<_}
 use native.Mathlib.Omega.{arith}
-use native.Mathlib.Nat.{suc-inj}
 use mathlib.Core.Path.{_≡_, refl, sym, ap, _∙_, subst}
-use mathlib.Core.List.{List, [], _∷_, _++_, map, append-nil, append-assoc}
+use mathlib.Core.List.{List, [], _∷_, _++_, map, append-nil}
 use mathlib.Core.Logic.{_⊎_, inl, inr}
-use lib.ListN.{length, length-append, length-map}
+use lib.ListN.{length, length-map}
 use Rattle.graph.specs.Order.{sorted}
-use Rattle.graph.specs.Graph.{Graph, GraphLaws, KeyLaws, GoesOn, Onward, Path, costOnward, pathId}
+use Rattle.graph.specs.Graph.{Graph, GraphLaws, KeyLaws, Onward, costOnward, pathId}
 use Rattle.graph.specs.Members.{In, Distinct, lastOf}
 use Rattle.graph.specs.Notions.{Joint, Least}
 use Rattle.graph.specs.ListLaws.{nil-not-cons, in-map, map-in, in-split, in-or-not, distinct-right, at-most}
 use Rattle.graph.specs.OrderLaws.{insert-same, sorted-cons, length-sorted, in-sorted, sorted-in}
 use Rattle.graph.specs.Ranks.{cost-step, cost-stay}
-use Rattle.graph.specs.Paths.{ends, split, join, replaced, goes-on, cost-of-parts, cost-positive, cost-falls, rest-of, path-inside, rest-inside}
+use Rattle.graph.specs.Paths.{ends, split, replaced, goes-on, cost-of-parts, cost-positive, cost-falls, rest-of, path-inside}
 
 module _ (g : Graph) where
-  -- "a path from a bridge to itself is that bridge, cost 0, hops 0".
-  pub least-stay : (u : ℕ) → Least g u [] u
-  least-stay u = record { way = refl; no-less = λ s o. omega (arith, cost-stay g u) }
-
-  -- A part of a least path is least between its own ends.
+  -- A part of a path of "the least cost" (01, "The chosen path") is of least cost between its own ends.
   pub least-part : (a : ℕ) (t₁ t₂ t₃ : List ℕ) (b : ℕ) → Least g a (t₁ ++ (t₂ ++ t₃)) b
       → Least g (lastOf a t₁) t₂ (lastOf (lastOf a t₁) t₂)
   least-part a t₁ t₂ t₃ b W = go (lastOf a t₁) (split g a t₁ (t₂ ++ t₃) b (W .way))
@@ -57,7 +52,7 @@ module _ (g : Graph) where
   pub least-rest : (u v : ℕ) (t : List ℕ) (b : ℕ) → Least g u (v ∷ t) b → Least g v t b
   least-rest u v t b W = least-suffix u (v ∷ []) t b W
 
-  -- A least path has no bridge twice.
+  -- A least path has no bridge twice ("It reaches no bridge twice": demand 3).
   pub least-distinct : (u : ℕ) (t : List ℕ) (b : ℕ) → Least g u t b → Distinct (u ∷ t)
   least-distinct u [] b W = (λ h. h, tt)
   least-distinct u (v ∷ t) b W = (λ k. back (rest-of g u (v ∷ t) b u (W .way) k), least-distinct v t b (least-rest u v t b W))

@@ -17,6 +17,9 @@ pub mod Agreement
 pub mod Moves
 pub mod Forwarding
 pub mod Copies
+pub mod Handing
 pub mod Search
 pub mod Settling
 pub mod Labels
+pub mod Lookups
+pub mod LookupLaws

@@ -3,14 +3,14 @@
 use Prim.Native.Nat.{ℕ, zero, suc, _+_, _≤_, _<_}
 use native.Mathlib.Omega.{arith}
 use mathlib.Core.Path.{_≡_, refl, sym, ap, _∙_, subst}
-use mathlib.Core.List.{List, [], _∷_, _++_, map, flatMap, reverse, append-nil, append-assoc, reverse-cons, reverse-append, reverse-reverse, map-append}
+use mathlib.Core.List.{List, [], _∷_, _++_, map, flatMap, reverse, append-assoc, reverse-cons, map-append}
 use mathlib.Core.Option.{Option, none, some}
 use mathlib.Core.Logic.{_⊎_, inl, inr}
-use mathlib.Core.Bool.{Bool, true, false, cond, not}
-use lib.Dec.{T, T-not, not-T, leb, ltb, eqb, leb→le, nleb→lt, eqb→eq, eqb-refl, ltb→lt, lt→ltb}
-use lib.ListN.{length, length-append, length-map}
-use Rattle.graph.specs.Lists.{rising, consIf, filter, lowerOf, lowestBy}
-use Rattle.graph.specs.Members.{In, Distinct, lastOf, times}
+use mathlib.Core.Bool.{Bool, true, false, cond, not, _||_}
+use lib.Dec.{T, leb, eqb, leb→le, nleb→lt, eqb→eq, eqb-refl}
+use lib.ListN.{length, length-append}
+use Rattle.graph.specs.Lists.{rising, consIf, filter, any, lowerOf, lowestBy}
+use Rattle.graph.specs.Members.{In, Distinct, lastOf, HasPart, along, times}
 
 -- Numbers
 
@@ -38,8 +38,11 @@ same-or-not m n = go (compared m n)
     go (inr (inl e)) = inl e
     go (inr (inr h)) = inr (λ e. omega arith)
 
+pub eq-eqb : (m n : ℕ) → m ≡ n → T (eqb m n)
+eq-eqb m n e = subst (λ (k : ℕ). T (eqb m k)) e (eqb-refl m)
+
 module _ {A : Type 0} where
-  -- A test that gives no wrong answer, by its two answers.
+  -- What a test for equality decides, by its two answers.
   pub eqb-same : (n : ℕ) (x y : A) → cond (eqb n n) x y ≡ x
   eqb-same n x y = go (eqb n n) (eqb-refl n)
     where
@@ -62,10 +65,6 @@ module _ {A : Type 0} where
 
   pub none-not-some : {x : A} → none ≡ some x → ⊥
   none-not-some {x} e = let z : _≡_ {A = ℕ} 0 1 = cc in omega arith
-
-  pub length-zero : (xs : List A) → length xs ≡ 0 → xs ≡ []
-  length-zero [] e = refl
-  length-zero (x ∷ xs) e = absurd (omega arith)
 
   pub append-empty : (xs ys : List A) → xs ++ ys ≡ [] → (xs ≡ []) × (ys ≡ [])
   append-empty [] ys e = (refl, e)
@@ -107,33 +106,25 @@ module _ {A : Type 0} where
   pub in-here : (a : A) (xs ys : List A) → In a (xs ++ (a ∷ ys))
   in-here a xs ys = in-right a xs (a ∷ ys) (inl refl)
 
-  pub in-reverse : (a : A) (xs : List A) → In a xs → In a (reverse xs)
-  in-reverse a (x ∷ xs) (inl e) = rw reverse-cons (in-right a (reverse xs) (x ∷ []) (inl e))
-  in-reverse a (x ∷ xs) (inr h) = rw reverse-cons (in-left a (reverse xs) (x ∷ []) (in-reverse a xs h))
+  part-later : (a b x : A) (p : List A) → HasPart a b p → HasPart a b (x ∷ p)
+  part-later a b x p (xs, t, ys, e, f) = (x ∷ xs, t, ys, ap (λ (s : List A). x ∷ s) e, f)
+
+  part-here : (a b x : A) (p : List A) → a ≡ x → In b p → HasPart a b (x ∷ p)
+  part-here a b x p e k = go (in-split b p k)
+    where
+      go : ((ys : List A) × (zs : List A) × (p ≡ ys ++ (b ∷ zs))) → HasPart a b (x ∷ p)
+      go (ys, zs, f) = ([], ys ++ (b ∷ []), zs, cc (append-assoc ys (b ∷ []) zs), lastOf-append a ys b [])
 
   -- Of two places of a list one is not after the other.
-  pub two-in : (a b : A) (xs : List A) → In a xs → In b xs
-      → ((ys : List A) × (t : List A) × (zs : List A) × (xs ≡ ys ++ ((a ∷ t) ++ zs)) × (lastOf a t ≡ b))
-      ⊎ ((ys : List A) × (t : List A) × (zs : List A) × (xs ≡ ys ++ ((b ∷ t) ++ zs)) × (lastOf b t ≡ a))
-  two-in a b (x ∷ xs) (inl e) (inl f) = inl ([], [], xs, ap (λ (y : A). y ∷ xs) (sym e), e ∙ sym f)
-  two-in a b (x ∷ xs) (inl e) (inr k) = inl (go (in-split b xs k))
+  pub two-in : (a b : A) (p : List A) → In a p → In b p → HasPart a b p ⊎ HasPart b a p
+  two-in a b (x ∷ p) (inl e) (inl f) = inl ([], [], p, ap (λ (y : A). y ∷ p) (sym e), e ∙ sym f)
+  two-in a b (x ∷ p) (inl e) (inr k) = inl (part-here a b x p e k)
+  two-in a b (x ∷ p) (inr h) (inl f) = inr (part-here b a x p f h)
+  two-in a b (x ∷ p) (inr h) (inr k) = go (two-in a b p h k)
     where
-      go : ((ys : List A) × (zs : List A) × (xs ≡ ys ++ (b ∷ zs)))
-          → (ys : List A) × (t : List A) × (zs : List A) × (x ∷ xs ≡ ys ++ ((a ∷ t) ++ zs)) × (lastOf a t ≡ b)
-      go (ys, zs, f) = ([], ys ++ (b ∷ []), zs, cc (append-assoc ys (b ∷ []) zs), lastOf-append a ys b [])
-  two-in a b (x ∷ xs) (inr h) (inl f) = inr (go (in-split a xs h))
-    where
-      go : ((ys : List A) × (zs : List A) × (xs ≡ ys ++ (a ∷ zs)))
-          → (ys : List A) × (t : List A) × (zs : List A) × (x ∷ xs ≡ ys ++ ((b ∷ t) ++ zs)) × (lastOf b t ≡ a)
-      go (ys, zs, e) = ([], ys ++ (a ∷ []), zs, cc (append-assoc ys (a ∷ []) zs), lastOf-append b ys a [])
-  two-in a b (x ∷ xs) (inr h) (inr k) = go (two-in a b xs h k)
-    where
-      go : ((ys : List A) × (t : List A) × (zs : List A) × (xs ≡ ys ++ ((a ∷ t) ++ zs)) × (lastOf a t ≡ b))
-          ⊎ ((ys : List A) × (t : List A) × (zs : List A) × (xs ≡ ys ++ ((b ∷ t) ++ zs)) × (lastOf b t ≡ a))
-          → ((ys : List A) × (t : List A) × (zs : List A) × (x ∷ xs ≡ ys ++ ((a ∷ t) ++ zs)) × (lastOf a t ≡ b))
-          ⊎ ((ys : List A) × (t : List A) × (zs : List A) × (x ∷ xs ≡ ys ++ ((b ∷ t) ++ zs)) × (lastOf b t ≡ a))
-      go (inl (ys, t, zs, e, f)) = inl (x ∷ ys, t, zs, ap (λ (s : List A). x ∷ s) e, f)
-      go (inr (ys, t, zs, e, f)) = inr (x ∷ ys, t, zs, ap (λ (s : List A). x ∷ s) e, f)
+      go : HasPart a b p ⊎ HasPart b a p → HasPart a b (x ∷ p) ⊎ HasPart b a (x ∷ p)
+      go (inl k) = inl (part-later a b x p k)
+      go (inr k) = inr (part-later b a x p k)
 
 module _ {A B : Type 0} where
   pub in-map : (f : A → B) (a : A) (xs : List A) → In a xs → In (f a) (map f xs)
@@ -167,6 +158,25 @@ module _ {A B : Type 0} where
       ap (λ (t : List A). map f t) (reverse-cons x xs) ∙ map-append f (reverse xs) (x ∷ [])
       ∙ ap (λ (t : List B). t ++ (f x ∷ [])) (map-reverse f xs) ∙ sym (reverse-cons (f x) (map f xs))
 
+-- Neighbours of a list
+
+module _ {A B : Type 0} (f : A → A → B) where
+  along-end : (xs : List A) (y z : A) → along f (xs ++ (y ∷ z ∷ [])) ≡ along f (xs ++ (y ∷ [])) ++ (f y z ∷ [])
+  along-end [] y z = refl
+  along-end (x ∷ []) y z = refl
+  along-end (x ∷ w ∷ xs) y z = ap (λ (t : List B). f x w ∷ t) (along-end (w ∷ xs) y z)
+
+  -- What is the same in both directions comes in reverse order along the reversed list.
+  pub along-reverse : ((x y : A) → f x y ≡ f y x) → (p : List A) → along f (reverse p) ≡ reverse (along f p)
+  along-reverse symmetric [] = refl
+  along-reverse symmetric (x ∷ []) = refl
+  along-reverse symmetric (x ∷ y ∷ t) =
+      ap (along f) (reverse-cons x (y ∷ t) ∙ ap (λ (s : List A). s ++ (x ∷ [])) (reverse-cons y t) ∙ append-assoc (reverse t) (y ∷ []) (x ∷ []))
+      ∙ along-end (reverse t) y x
+      ∙ ap (λ (s : List B). s ++ (f y x ∷ [])) (ap (along f) (sym (reverse-cons y t)) ∙ along-reverse symmetric (y ∷ t))
+      ∙ ap (λ (b : B). reverse (along f (y ∷ t)) ++ (b ∷ [])) (symmetric y x)
+      ∙ sym (reverse-cons (f x y) (along f (y ∷ t)))
+
 -- Those that pass a test
 
 module _ {A : Type 0} where
@@ -199,7 +209,36 @@ module _ {A : Type 0} where
       (consIf-here (test x) x (filter test xs) (subst (λ (y : A). T (test y)) e p))
   in-filter test a (x ∷ xs) (inr h) p = consIf-there (test x) a x (filter test xs) (in-filter test a xs h p)
 
+  -- A test that one of a list passes.
+  pub any-in : (test : A → Bool) (xs : List A) → T (any test xs) → (a : A) × In a xs × T (test a)
+  unfolding any
+  any-in test [] h = absurd h
+  any-in test (x ∷ xs) h = go (test x) (λ p. p) h (any-in test xs)
+    where
+      go : (b : Bool) → (T b → T (test x)) → T (b || any test xs) → (T (any test xs) → (a : A) × In a xs × T (test a))
+          → (a : A) × In a (x ∷ xs) × T (test a)
+      go true f h ih = (x, inl refl, f tt)
+      go false f h ih = let r = ih h in (r .0, inr (r .1), r .2)
+
+  pub in-any : (test : A → Bool) (a : A) (xs : List A) → In a xs → T (test a) → T (any test xs)
+  unfolding any
+  in-any test a (x ∷ xs) (inl e) p = go (test x) (subst (λ (y : A). T (test y)) e p)
+    where
+      go : (b : Bool) → T b → T (b || any test xs)
+      go true h = tt
+      go false h = absurd h
+  in-any test a (x ∷ xs) (inr h) p = go (test x) (in-any test a xs h p)
+    where
+      go : (b : Bool) → T (any test xs) → T (b || any test xs)
+      go true h = tt
+      go false h = h
+
 -- The numbers below a bound
+
+pub rising-in : (k n m : ℕ) → In m (rising k n) → (k ≤ m) × (m < k + n)
+unfolding rising
+rising-in k (suc n) m (inl e) = (omega arith, omega arith)
+rising-in k (suc n) m (inr h) = let r = rising-in (suc k) n m h in (omega (arith, r .0), omega (arith, r .1))
 
 pub in-rising : (k n m : ℕ) → k ≤ m → m < k + n → In m (rising k n)
 unfolding rising
@@ -226,10 +265,6 @@ module _ {A : Type 0} where
   distinct-right [] ys d = d
   distinct-right (x ∷ xs) ys d = distinct-right xs ys (d .1)
 
-  pub distinct-apart : (xs ys : List A) (a : A) → Distinct (xs ++ ys) → In a xs → In a ys → ⊥
-  distinct-apart (x ∷ xs) ys a d (inl e) k = d .0 (subst (λ (y : A). In y (xs ++ ys)) e (in-right a xs ys k))
-  distinct-apart (x ∷ xs) ys a d (inr h) k = distinct-apart xs ys a (d .1) h k
-
   pub in-around : (x : A) (xs : List A) (a : A) (ys : List A) → In x (xs ++ ys) → In x (xs ++ (a ∷ ys))
   in-around x xs a ys k = go (in-append x xs ys k)
     where
@@ -248,6 +283,20 @@ module _ {A : Type 0} where
 
       go : (Distinct (xs ++ ys) × (In a (xs ++ ys) → ⊥)) → Distinct (x ∷ (xs ++ ys)) × (In a (x ∷ (xs ++ ys)) → ⊥)
       go (e, n) = ((λ k. d .0 (in-around x xs a ys k), e), none-of n)
+
+  pub distinct-filter : (test : A → Bool) (xs : List A) → Distinct xs → Distinct (filter test xs)
+  unfolding filter
+  distinct-filter test [] d = tt
+  distinct-filter test (x ∷ xs) d = go (test x) (distinct-filter test xs (d .1))
+    where
+      go : (b : Bool) → Distinct (filter test xs) → Distinct (consIf b x (filter test xs))
+      go true e = (λ k. d .0 (filter-in test x xs k .0), e)
+      go false e = e
+
+pub distinct-rising : (k n : ℕ) → Distinct (rising k n)
+unfolding rising
+distinct-rising k zero = tt
+distinct-rising k (suc n) = (λ h. omega (arith, rising-in (suc k) n k h .0), distinct-rising (suc k) n)
 
 -- Of a number and a list, the number is in the list or not.
 pub in-or-not : (a : ℕ) (xs : List ℕ) → In a xs ⊎ (In a xs → ⊥)
@@ -289,23 +338,6 @@ at-most (suc n) xs d h = go (in-or-not n xs) (at-most n)
         → length xs ≤ suc n
     go (inl k) ih = without (in-split n xs k) ih
     go (inr f) ih = omega (arith, ih xs d (below-but n xs f h))
-
--- A list of numbers has nothing twice, or one of them at two places.
-pub distinct-or-twice : (xs : List ℕ)
-    → Distinct xs ⊎ ((ys : List ℕ) × (a : ℕ) × (t : List ℕ) × (zs : List ℕ) × (xs ≡ ys ++ (a ∷ (t ++ (a ∷ zs)))))
-distinct-or-twice [] = inl tt
-distinct-or-twice (x ∷ xs) = go (in-or-not x xs) (distinct-or-twice xs)
-  where
-    here : ((t : List ℕ) × (zs : List ℕ) × (xs ≡ t ++ (x ∷ zs)))
-        → (ys : List ℕ) × (a : ℕ) × (t : List ℕ) × (zs : List ℕ) × (x ∷ xs ≡ ys ++ (a ∷ (t ++ (a ∷ zs))))
-    here (t, zs, e) = ([], x, t, zs, ap (λ (s : List ℕ). x ∷ s) e)
-
-    go : In x xs ⊎ (In x xs → ⊥)
-        → Distinct xs ⊎ ((ys : List ℕ) × (a : ℕ) × (t : List ℕ) × (zs : List ℕ) × (xs ≡ ys ++ (a ∷ (t ++ (a ∷ zs)))))
-        → Distinct (x ∷ xs) ⊎ ((ys : List ℕ) × (a : ℕ) × (t : List ℕ) × (zs : List ℕ) × (x ∷ xs ≡ ys ++ (a ∷ (t ++ (a ∷ zs)))))
-    go (inl k) r = inr (here (in-split x xs k))
-    go (inr f) (inl d) = inl (f, d)
-    go (inr f) (inr (ys, a, t, zs, e)) = inr (x ∷ ys, a, t, zs, ap (λ (s : List ℕ). x ∷ s) e)
 
 module _ {A B : Type 0} where
   -- Lists that have nothing twice, none of them anything of another, have nothing twice together.

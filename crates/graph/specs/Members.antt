@@ -1,8 +1,8 @@
--- Being in a list, having nothing twice, how often, and the last of a list: what laws speak of. Their laws stand in ListLaws.
+-- Being in a list, having nothing twice, how often, the last of a list, and its neighbours: what laws speak of. Their laws stand in ListLaws.
 -- Assumes nothing.
 use Prim.Native.Nat.{ℕ, _+_}
 use mathlib.Core.Path.{_≡_}
-use mathlib.Core.List.{List, [], _∷_}
+use mathlib.Core.List.{List, [], _∷_, _++_}
 use mathlib.Core.Logic.{_⊎_}
 use mathlib.Core.Bool.{cond}
 use lib.Dec.{eqb}
@@ -22,6 +22,17 @@ module _ {A : Type 0} where
   abbrev pub lastOf : A → List A → A
   lastOf u [] = u
   lastOf u (v ∷ t) = lastOf v t
+
+  -- The list has a part that begins with `a` and ends with `b`.
+  abbrev pub HasPart : A → A → List A → Type 0
+  HasPart a b p = (xs : List A) × (t : List A) × (ys : List A) × (p ≡ xs ++ ((a ∷ t) ++ ys)) × (lastOf a t ≡ b)
+
+module _ {A B : Type 0} where
+  -- What `f` gives for each two neighbours of a list, in order: with `f` the link of a hop, the links that a path crosses.
+  abbrev pub along : (A → A → B) → List A → List B
+  along f [] = []
+  along f (x ∷ []) = []
+  along f (x ∷ y ∷ t) = f x y ∷ along f (y ∷ t)
 
 -- How often `x` is in the list.
 unfoldable pub times : ℕ → List ℕ → ℕ

@@ -1,11 +1,11 @@
 -- How frames move over a graph (01, "Frames"): an individual frame from bridge to bridge, and the rounds of a group frame's copies.
 -- Neither knows a table, an entry or a port: where a frame goes from a bridge is a parameter. Assumes nothing.
 use Prim.Native.Nat.{ℕ, zero, suc, _<_}
-use mathlib.Core.Path.{_≡_}
 use mathlib.Core.List.{List, [], _∷_, _++_, flatMap}
 use mathlib.Core.Option.{Option, none, some}
-use mathlib.Core.Bool.{cond}
+use mathlib.Core.Bool.{Bool, false, cond, _&&_, _||_}
 use lib.Dec.{eqb}
+use Rattle.graph.specs.Lists.{rising, filter, any}
 use Rattle.graph.specs.Graph.{Graph}
 use Rattle.graph.specs.Chosen.{Chosen, chosen}
 use Rattle.graph.specs.Members.{In, Distinct}
@@ -48,6 +48,21 @@ entered children s (suc n) = entered children s n ++ copies children s (suc n)
 -- the chosen path from the sender `s` to some receiver goes from `c` to `v`.
 abbrev pub Feeds : Graph → (ℕ → ℕ) → ℕ → (ℕ → Type 0) → ℕ → ℕ → Type 0
 Feeds g key s Receives c v = (r : ℕ) × Receives r × (p : List ℕ) × Chosen g key s r p × Leaves c v p
+
+-- `Leaves` as a test that computes, and for a path that there may be.
+unfoldable pub leaves : ℕ → ℕ → List ℕ → Bool
+leaves c v [] = false
+leaves c v (x ∷ []) = false
+leaves c v (x ∷ y ∷ t) = (eqb c x && eqb v y) || leaves c v (y ∷ t)
+
+abbrev pub leavesOn : ℕ → ℕ → Option (List ℕ) → Bool
+leavesOn c v none = false
+leavesOn c v (some p) = leaves c v p
+
+-- The bridges that a copy from `s` at the bridge `c` enters next, by number: "as soon as one receiver behind it is found".
+unfoldable pub handed : Graph → (ℕ → ℕ) → ℕ → (ℕ → Bool) → ℕ → List ℕ
+handed g key s receives c =
+    filter (λ v. any (λ r. receives r && leavesOn c v (chosen g key s r)) (rising 0 (g .size))) (rising 0 (g .size))
 
 -- What every way of handing copies down meets: at each bridge of the graph it lists once each bridge to which
 -- the chosen path from the sender to some receiver goes from there, and no other.

@@ -1,21 +1,20 @@
 -- Parts of paths, paths joined to one, reversed paths, and costs along a path (01, "The chosen path").
 -- Assumes nothing.
-use Prim.Native.Nat.{ℕ, zero, suc, _+_, _-_, _≤_, _<_}
+use Prim.Native.Nat.{ℕ, suc, _+_, _<_}
 use native.Mathlib.Omega.{arith}
 use mathlib.Core.Path.{_≡_, refl, sym, ap, _∙_, subst}
-use mathlib.Core.List.{List, [], _∷_, _++_, reverse, append-nil, append-assoc, reverse-cons, reverse-reverse}
+use mathlib.Core.List.{List, [], _∷_, _++_, reverse, reverse-cons}
 use mathlib.Core.Logic.{_⊎_, inl, inr}
-use mathlib.Core.Bool.{Bool}
 use lib.Dec.{T}
 use lib.ListN.{length, length-append}
 use Rattle.graph.specs.Graph.{Graph, GraphLaws, Joined, GoesOn, Onward, Path, costOnward}
 use Rattle.graph.specs.Members.{In, lastOf}
-use Rattle.graph.specs.Notions.{Joint, Chain}
+use Rattle.graph.specs.Notions.{Joint, Chain, Linked}
 use Rattle.graph.specs.ListLaws.{nil-not-cons, append-empty}
-use Rattle.graph.specs.Ranks.{cost-step, cost-stay, cost-behind}
+use Rattle.graph.specs.Ranks.{cost-step, cost-behind}
 
 module _ (g : Graph) where
-  -- Which bridges may lie between: every place of a list but the first and the last.
+  -- Which bridges may lie between goes by place: every place of a list but the first and the last. In document 01 all may.
 
   -- A bridge that may have a list after it may have any other that is empty where the first is.
   pub goes-on : (v : ℕ) (s t : List ℕ) → (s ≡ [] → t ≡ []) → GoesOn g v s → GoesOn g v t
@@ -23,10 +22,6 @@ module _ (g : Graph) where
   goes-on v [] (x ∷ t) f h = absurd (nil-not-cons (sym (f refl)))
   goes-on v (x ∷ s) [] f h = tt
   goes-on v (x ∷ s) (y ∷ t) f h = h
-
-  pub joint : (t : List ℕ) (c : ℕ) (s : List ℕ) → GoesOn g c s → Joint g t c s
-  joint [] c s h = tt
-  joint (v ∷ t) c s h = h
 
   -- A list that leads on to `b` ends there.
   pub ends : (u : ℕ) (t : List ℕ) (b : ℕ) → Onward g u t b → lastOf u t ≡ b
@@ -46,6 +41,21 @@ module _ (g : Graph) where
   join u (v ∷ []) c s b (j, m, e) o h =
       (j, subst (λ (x : ℕ). GoesOn g x s) (sym e) h, subst (λ (x : ℕ). Onward g x s b) (sym e) o)
   join u (v ∷ w ∷ t) c s b (j, m, p) o h = (j, m, join v (w ∷ t) c s b p o h)
+
+  -- The same for whole paths.
+  pub path-part : (a b : ℕ) (xs : List ℕ) (c : ℕ) (t ys : List ℕ) → Path g a b (xs ++ ((c ∷ t) ++ ys)) → Path g c (lastOf c t) (c ∷ t)
+  path-part a b [] c t ys (e, o) = (refl, split c t ys b o .0)
+  path-part a b (x ∷ xs) c t ys (e, o) = (refl, split c t ys b (split x xs (c ∷ (t ++ ys)) b o .1 .2) .0)
+
+  pub path-join : (a c b : ℕ) (p s : List ℕ) → Path g a c p → Path g c b (c ∷ s) → T (g .between c) ⊎ (length p ≡ 1) ⊎ (s ≡ []) → Path g a b (p ++ s)
+  path-join a c b (u ∷ t) s (e, o) (f, o′) h = (e, join u t c s b o o′ (joint t s h))
+    where
+      joint : (t s : List ℕ) → T (g .between c) ⊎ (length (u ∷ t) ≡ 1) ⊎ (s ≡ []) → Joint g t c s
+      joint [] s h = tt
+      joint (v ∷ t) [] h = tt
+      joint (v ∷ t) (w ∷ s) (inl h) = h
+      joint (v ∷ t) (w ∷ s) (inr (inl k)) = absurd (omega arith)
+      joint (v ∷ t) (w ∷ s) (inr (inr k)) = absurd (nil-not-cons (sym k))
 
   -- A part of an allowed path may be replaced by another allowed part with the same ends;
   -- a part of no hop, at an end of the path, only by itself.
@@ -81,16 +91,23 @@ module _ (g : Graph) where
       on [] = tt
       on (w ∷ t) = all v
 
+  pub path-linked : (a b : ℕ) (p : List ℕ) → Path g a b p → Linked g a b p
+  path-linked a b (u ∷ t) (e, o) = (e, onward-chain u t b o)
+
+  pub linked-path : ((v : ℕ) → T (g .between v)) → (a b : ℕ) (p : List ℕ) → Linked g a b p → Path g a b p
+  linked-path all a b (u ∷ t) (e, o) = (e, chain-onward all u t b o)
+
   -- Cost along a path
 
+  -- The cost of a path is the sum of its two parts' costs.
   pub cost-of-parts : (u : ℕ) (t : List ℕ) (c : ℕ) (s : List ℕ) → Onward g u t c → costOnward g u (t ++ s) ≡ costOnward g u t + costOnward g c s
   cost-of-parts u t c s o = cost-behind g u t s ∙ ap (λ (d : ℕ). costOnward g u t + costOnward g d s) (ends u t c o)
 
-  -- Every hop costs at least 1.
+  -- Every hop costs at least 1 ("metric 1 to 16,777,215": 01, "The table").
   pub cost-positive : (u v : ℕ) (t : List ℕ) (b : ℕ) → Onward g u (v ∷ t) b → 0 < costOnward g u (v ∷ t)
   cost-positive u v t b o = omega (arith, cost-step g u v t)
 
-  -- Costs strictly rise along a path.
+  -- Costs strictly rise along a path (01, "The chosen path").
   pub cost-rises : (u : ℕ) (t : List ℕ) (c v : ℕ) (s : List ℕ) (b : ℕ) → Onward g u t c → Onward g c (v ∷ s) b
       → costOnward g u t < costOnward g u (t ++ (v ∷ s))
   cost-rises u t c v s b o p = omega (arith, cost-of-parts u t c (v ∷ s) o, cost-positive c v s b p)
@@ -117,9 +134,6 @@ module _ (g : Graph) where
   pub path-first : (a b : ℕ) (p : List ℕ) → Path g a b p → (t : List ℕ) × (p ≡ a ∷ t) × Onward g a t b
   path-first a b (u ∷ t) (e, o) = (t, ap (λ (x : ℕ). x ∷ t) e, subst (λ (x : ℕ). Onward g x t b) e o)
 
-  pub first-path : (a b : ℕ) (t : List ℕ) → Onward g a t b → Path g a b (a ∷ t)
-  first-path a b t o = (refl, o)
-
 module _ (g : Graph) (L : GraphLaws g) where
   -- A bridge that a path comes to is a bridge of the graph, and so is one that it leaves.
   pub entered-inside : (u v : ℕ) → Joined g u v → v < g .size
@@ -132,6 +146,10 @@ module _ (g : Graph) (L : GraphLaws g) where
   pub path-inside : (u v : ℕ) (t : List ℕ) (b : ℕ) → Onward g u (v ∷ t) b → (x : ℕ) → In x (u ∷ v ∷ t) → x < g .size
   path-inside u v t b (j, m, o) x (inl e) = rw e (L .inside u v j)
   path-inside u v t b (j, m, o) x (inr k) = rest-inside u (v ∷ t) b (j, m, o) x k
+
+  pub end-inside : (u v : ℕ) (t : List ℕ) (b : ℕ) → Onward g u (v ∷ t) b → b < g .size
+  end-inside u v [] b (j, m, e) = rw (← e) (entered-inside u v j)
+  end-inside u v (w ∷ t) b (j, m, o) = end-inside v w t b o
 
   -- A path from a bridge of the graph stays among the bridges of the graph.
   pub stays-inside : (a b : ℕ) (p : List ℕ) → a < g .size → Path g a b p → (x : ℕ) → In x p → x < g .size

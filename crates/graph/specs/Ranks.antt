@@ -1,10 +1,10 @@
 -- Laws of cost and rank over any lists of bridges, joined or not (01, "The chosen path").
 -- Assumes nothing.
-use Prim.Native.Nat.{ℕ, zero, suc, _+_, _-_, _≤_, _<_}
+use Prim.Native.Nat.{ℕ, _+_, _-_, _<_}
 use native.Mathlib.Omega.{arith}
-use mathlib.Core.Path.{_≡_, refl, sym, ap, _∙_, subst}
-use mathlib.Core.List.{List, [], _∷_, _++_, map, reverse, append-nil, append-assoc, reverse-cons, map-append}
-use mathlib.Core.Logic.{_⊎_, inl, inr}
+use mathlib.Core.Path.{_≡_, refl, sym, ap, _∙_}
+use mathlib.Core.List.{List, [], _∷_, _++_, map, reverse, append-assoc, reverse-cons, map-append}
+use mathlib.Core.Logic.{inl, inr}
 use lib.ListN.{length, length-append, length-map, length-reverse}
 use Rattle.graph.specs.Order.{Lower, sorted}
 use Rattle.graph.specs.Graph.{Graph, costOnward, cost, hops, pathId, rank}
@@ -23,7 +23,7 @@ module _ (g : Graph) where
   unfolding costOnward
   cost-stay u = refl
 
-  -- "Its cost is the sum of its hops' costs": that of two parts one after the other is the sum of theirs.
+  -- "Its cost is the sum of its hops' costs" (01, "The chosen path"): that of two parts one after the other is the sum of theirs.
   pub cost-behind : (u : ℕ) (t s : List ℕ) → costOnward g u (t ++ s) ≡ costOnward g u t + costOnward g (lastOf u t) s
   unfolding costOnward
   cost-behind u [] s = omega arith
@@ -36,6 +36,7 @@ module _ (g : Graph) where
       ∙ ap (λ (d : ℕ). costOnward g x (xs ++ (c ∷ [])) + costOnward g d s) (lastOf-append x xs c [])
 
   module _ (symmetric : (u v : ℕ) → g .hop u v ≡ g .hop v u) where
+    -- The way back costs the same.
     pub cost-reverse : (p : List ℕ) → cost g (reverse p) ≡ cost g p
     cost-reverse [] = refl
     cost-reverse (x ∷ []) = refl
@@ -51,7 +52,7 @@ module _ (g : Graph) where
 
 -- Hop count
 
--- "Its hop count is the number of bridges in the list less one."
+-- "Its hop count is the number of bridges in the list less one" (01, "The chosen path"): that of three parts is the sum of theirs.
 pub hops-around : (xs : List ℕ) (c : ℕ) (s ys : List ℕ) → hops (xs ++ ((c ∷ s) ++ ys)) ≡ length xs + (length s + length ys)
 hops-around xs c s ys = omega (arith, length-append xs ((c ∷ s) ++ ys), length-append (c ∷ s) ys)
 
@@ -76,11 +77,11 @@ module _ (g : Graph) (key : ℕ → ℕ) where
       steps : hops (reverse p) ≡ hops p
       steps = ap (λ (n : ℕ). n - 1) (length-reverse p)
 
-  -- The three places of two equal ranks.
+  -- "the least cost, then the fewest hops, then the lowest masked PATHID" (01, "The chosen path"): paths of one rank agree in all three.
   pub rank-places : (p q : List ℕ) → rank g key p ≡ rank g key q → (cost g p ≡ cost g q) × (hops p ≡ hops q) × (pathId key p ≡ pathId key q)
   rank-places p q e = (cc, cc, cc)
 
-  -- Adding the same part in front of two lists that begin with the same bridge keeps the order of their ranks.
+  -- Adding the same bridge or part in front of two lists that begin with the same bridge keeps the order of their ranks.
   pub rank-in-front : (xs : List ℕ) (c : ℕ) (s t : List ℕ) → Lower (rank g key (c ∷ s)) (rank g key (c ∷ t))
       → Lower (rank g key (xs ++ (c ∷ s))) (rank g key (xs ++ (c ∷ t)))
   rank-in-front xs c s t = rank-kept (pathId key (c ∷ s)) (pathId key (c ∷ t)) (pathId key (xs ++ (c ∷ s))) (pathId key (xs ++ (c ∷ t)))
@@ -93,7 +94,7 @@ module _ (g : Graph) (key : ℕ → ℕ) where
       ids e h = rw (map-append key xs (c ∷ s), map-append key xs (c ∷ t))
           (sorted-in-front (map key xs) (map key (c ∷ s)) (map key (c ∷ t)) (omega (arith, length-map s key, length-map t key)) h)
 
-  -- Adding the same part behind two lists that end with the same bridge keeps the order of their ranks.
+  -- Adding the same bridge or part behind two lists that end with the same bridge keeps the order of their ranks.
   pub rank-behind : (c : ℕ) (s : List ℕ) (d : ℕ) (t ys : List ℕ) → lastOf c s ≡ lastOf d t
       → Lower (rank g key (c ∷ s)) (rank g key (d ∷ t)) → Lower (rank g key ((c ∷ s) ++ ys)) (rank g key ((d ∷ t) ++ ys))
   rank-behind c s d t ys l = rank-kept (pathId key (c ∷ s)) (pathId key (d ∷ t)) (pathId key ((c ∷ s) ++ ys)) (pathId key ((d ∷ t) ++ ys))

@@ -25,9 +25,9 @@ pub record Candidate (g : Graph) (r : ℕ) (Open : ℕ → Type 0) (Settled : �
   pub joined : Joined g u v
   pub passes : (v ≡ r) ⊎ T (g .between v)
 
--- What a search knows of the candidate `u ∷ p` without a copy of it: its cost, and its next hop's hop count and PATHID.
+-- What a search knows of the candidate `u ∷ p` without a copy of it: its cost, its hop count, and its next hop's PATHID.
 abbrev pub candidateRank : Graph → (ℕ → ℕ) → ℕ → List ℕ → List ℕ
-candidateRank g key u p = cost g (u ∷ p) ∷ hops p ∷ pathId key p
+candidateRank g key u p = cost g (u ∷ p) ∷ hops (u ∷ p) ∷ pathId key p
 
 -- Each open bridge with a candidate has a label: one of its candidates, `u ∷ p` through `v`, than which none is lower.
 pub record Labels (g : Graph) (key : ℕ → ℕ) (r : ℕ) (Open : ℕ → Type 0) (Settled : ℕ → List ℕ → Type 0)
@@ -36,24 +36,3 @@ pub record Labels (g : Graph) (key : ℕ → ℕ) (r : ℕ) (Open : ℕ → Type
   pub lowest : (u v : ℕ) (p : List ℕ) → Label u v p → (w : ℕ) (q : List ℕ) → Candidate g r Open Settled u w q
       → Lower (rank g key (u ∷ q)) (rank g key (u ∷ p)) → ⊥
   pub labelled : (u w : ℕ) (q : List ℕ) → Candidate g r Open Settled u w q → (v : ℕ) × (p : List ℕ) × Label u v p
-
--- One step of a search: the open bridge `u` becomes settled with the path `p`, and nothing else changes.
-pub record Step (u : ℕ) (p : List ℕ) (Open : ℕ → Type 0) (Settled : ℕ → List ℕ → Type 0)
-    (Open′ : ℕ → Type 0) (Settled′ : ℕ → List ℕ → Type 0) : Type 0 where
-  pub added : Settled′ u p
-  pub kept : (v : ℕ) (q : List ℕ) → Settled v q → Settled′ v q
-  pub only : (v : ℕ) (q : List ℕ) → Settled′ v q → Settled v q ⊎ ((v ≡ u) × (q ≡ p))
-  pub left : (v : ℕ) → Open v → (v ≡ u → ⊥) → Open′ v
-  pub closed : (v : ℕ) → Open′ v → Open v × (v ≡ u → ⊥)
-
--- After such a step each label is the lower of the old one and the new candidate through `u`.
-pub record Relaxed (g : Graph) (key : ℕ → ℕ) (r u : ℕ) (p : List ℕ) (Open′ : ℕ → Type 0) (Settled′ : ℕ → List ℕ → Type 0)
-    (Label Label′ : ℕ → ℕ → List ℕ → Type 0) : Type 0 where
-  pub from : (x v : ℕ) (q : List ℕ) → Label′ x v q
-      → (Label x v q × (x ≡ u → ⊥)) ⊎ ((v ≡ u) × (q ≡ p) × Candidate g r Open′ Settled′ x u p)
-  pub below-new : (x v : ℕ) (q : List ℕ) → Label′ x v q → Candidate g r Open′ Settled′ x u p
-      → Lower (rank g key (x ∷ p)) (rank g key (x ∷ q)) → ⊥
-  pub below-old : (x v : ℕ) (q : List ℕ) → Label′ x v q → (w : ℕ) (s : List ℕ) → Label x w s
-      → Lower (rank g key (x ∷ s)) (rank g key (x ∷ q)) → ⊥
-  pub old-labelled : (x w : ℕ) (s : List ℕ) → Label x w s → (x ≡ u → ⊥) → (v : ℕ) × (q : List ℕ) × Label′ x v q
-  pub new-labelled : (x : ℕ) → Candidate g r Open′ Settled′ x u p → (v : ℕ) × (q : List ℕ) × Label′ x v q

@@ -1,9 +1,9 @@
 -- Why the next bridge may be settled: the argument under every search for shortest path trees, for any data structure.
 -- Assumes nothing.
-use Prim.Native.Nat.{ℕ, zero, suc, _+_, _-_, _≤_, _<_}
+use Prim.Native.Nat.{ℕ, _-_, _≤_}
 use native.Mathlib.Omega.{arith}
 use mathlib.Core.Path.{_≡_, refl, sym, ap, _∙_, subst}
-use mathlib.Core.List.{List, [], _∷_, _++_, map}
+use mathlib.Core.List.{List, [], _∷_, map}
 use mathlib.Core.Logic.{_⊎_, inl, inr}
 use lib.Dec.{T}
 use lib.ListN.{length, length-map}
@@ -12,42 +12,35 @@ use Rattle.graph.specs.Graph.{Graph, GraphLaws, KeyLaws, Joined, GoesOn,
 use Rattle.graph.specs.Chosen.{Chosen}
 use Rattle.graph.specs.Notions.{Least}
 use Rattle.graph.specs.Search.{Settling, Candidate, candidateRank}
-use Rattle.graph.specs.ListLaws.{same-or-not, nil-not-cons}
 use Rattle.graph.specs.OrderLaws.{lower-never, lower-chained, lower-one-way, lower-compared, insert-lower, length-sorted, sorted-cons}
 use Rattle.graph.specs.Ranks.{cost-step, rank-kept, rank-in-front}
 use Rattle.graph.specs.Paths.{path-first, entered-inside}
-use Rattle.graph.specs.ChosenPaths.{lower-cost, chosen-cost, chosen-first, chosen-self, chosen-stay, lowest-chosen, chosen-apart}
+use Rattle.graph.specs.ChosenPaths.{lower-cost, chosen-first, chosen-self, lowest-chosen, chosen-apart}
 
 -- Comparing two candidates of one bridge
 
 module _ (g : Graph) (key : ℕ → ℕ) where
-  -- A candidate's cost and hops: those of its first hop and of its next hop's path.
-  pub candidate-cost : (u v : ℕ) (t : List ℕ) → cost g (u ∷ v ∷ t) ≡ g .hop u v + cost g (v ∷ t)
-  candidate-cost u v t = cost-step g u v t
-
-  pub candidate-hops : (u v : ℕ) (t : List ℕ) → hops (u ∷ v ∷ t) ≡ suc (hops (v ∷ t))
-  candidate-hops u v t = omega arith
-
+  -- The PATHID of a candidate: its own key inserted into its next hop's.
   pub candidate-pathId : (u : ℕ) (p : List ℕ) → pathId key (u ∷ p) ≡ insert (key u) (pathId key p)
   candidate-pathId u p = sorted-cons (key u) (map key p)
 
-  -- "the least cost, then the fewest hops, then the lowest masked PATHID": two candidates of one bridge compare as
-  -- their costs, then their next hops' hop counts, then their next hops' PATHIDs do.
+  -- "the least cost, then the fewest hops, then the lowest masked PATHID" (01, "The chosen path"): two candidates of one bridge compare as
+  -- their costs, then their hop counts, then the PATHIDs of their next hops do.
   pub candidates-compare : (u v : ℕ) (t : List ℕ) (w : ℕ) (s : List ℕ) → Lower (candidateRank g key u (v ∷ t)) (candidateRank g key u (w ∷ s))
       → Lower (rank g key (u ∷ v ∷ t)) (rank g key (u ∷ w ∷ s))
   candidates-compare u v t w s = rank-kept (pathId key (v ∷ t)) (pathId key (w ∷ s)) (pathId key (u ∷ v ∷ t)) (pathId key (u ∷ w ∷ s))
-      (λ h. h) (λ e. e) (omega arith) (omega arith) ids
+      (λ h. h) (λ e. e) (λ h. h) (λ e. e) ids
     where
-      ids : length (v ∷ t) - 1 ≡ length (w ∷ s) - 1 → Lower (pathId key (v ∷ t)) (pathId key (w ∷ s))
+      ids : length (u ∷ v ∷ t) - 1 ≡ length (u ∷ w ∷ s) - 1 → Lower (pathId key (v ∷ t)) (pathId key (w ∷ s))
           → Lower (pathId key (u ∷ v ∷ t)) (pathId key (u ∷ w ∷ s))
       ids e h = rw (candidate-pathId u (v ∷ t), candidate-pathId u (w ∷ s))
           (insert-lower (key u) (pathId key (v ∷ t)) (pathId key (w ∷ s))
           (omega (arith, length-sorted (map key (v ∷ t)), length-sorted (map key (w ∷ s)), length-map t key, length-map s key)) h)
 
-  -- Of equal cost and hops they compare by the PATHIDs of their next hops alone.
+  -- Of equal cost and hops they compare by the PATHIDs of their next hops alone, two sorted lists of equal length.
   pub candidates-tie : (u v : ℕ) (t : List ℕ) (w : ℕ) (s : List ℕ) → cost g (u ∷ v ∷ t) ≡ cost g (u ∷ w ∷ s) → hops (v ∷ t) ≡ hops (w ∷ s)
       → Lower (pathId key (v ∷ t)) (pathId key (w ∷ s)) → Lower (rank g key (u ∷ v ∷ t)) (rank g key (u ∷ w ∷ s))
-  candidates-tie u v t w s c h l = candidates-compare u v t w s (inr (c, inr (h, l)))
+  candidates-tie u v t w s c h l = candidates-compare u v t w s (inr (c, inr (omega arith, l)))
 
   -- The comparison misses nothing: where the rank is lower it says so.
   pub candidates-compared : (u v : ℕ) (t : List ℕ) (w : ℕ) (s : List ℕ) → Lower (rank g key (u ∷ v ∷ t)) (rank g key (u ∷ w ∷ s))
@@ -61,7 +54,7 @@ module _ (g : Graph) (key : ℕ → ℕ) where
           costs = cc
 
           steps : hops (u ∷ v ∷ t) ≡ hops (u ∷ w ∷ s)
-          steps = let f : hops (v ∷ t) ≡ hops (w ∷ s) = cc in omega arith
+          steps = cc
 
           ids : insert (key u) (pathId key (v ∷ t)) ≡ insert (key u) (pathId key (w ∷ s))
           ids = let f : pathId key (v ∷ t) ≡ pathId key (w ∷ s) = cc in ap (insert (key u)) f
@@ -152,11 +145,11 @@ module _ (g : Graph) (L : GraphLaws g) (key : ℕ → ℕ) (r : ℕ) (Open : ℕ
         any q h ([], e, o) = S .apart r (r ∷ []) (subst (λ (z : ℕ). Open z) o (C .waits)) (S .root)
         any q h (x ∷ t, e, o) = side q x t e o h (S .each x (entered-inside g L u x (o .0)))
 
-    -- Two candidates of one bridge through different next hops never tie.
-    pub candidates-apart : (u v w : ℕ) (p q : List ℕ) → Settled v p → Settled w q → pathId key p ≡ pathId key q → v ≡ w
-    candidates-apart u v w p q h k e = chosen-apart g L key K v w r p q (S .final v p h) (S .final w q k) e
+    -- Two candidates of one bridge through different next hops never tie: settled bridges have different PATHIDs.
+    pub settled-apart : (v w : ℕ) (p q : List ℕ) → Settled v p → Settled w q → pathId key p ≡ pathId key q → v ≡ w
+    settled-apart v w p q h k e = chosen-apart g L key K v w r p q (S .final v p h) (S .final w q k) e
 
-  -- With no candidate left, every bridge with a path to the root is settled.
+  -- With no candidate left, every bridge with a path to the root is settled,
   pub complete : ((u v : ℕ) (p : List ℕ) → Candidate g r Open Settled u v p → ⊥) → (u : ℕ) (q : List ℕ) → Path g u r q → (p : List ℕ) × Settled u p
   complete no-more u q o = go (path-first g u r q o)
     where
