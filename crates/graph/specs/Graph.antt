@@ -19,7 +19,6 @@ pub record Graph : Type 0 where
 -- What every graph of an accepted table meets.
 pub record GraphLaws (g : Graph) : Type 0 where
   pub symmetric : (u v : ℕ) → g .hop u v ≡ g .hop v u
-  pub apart : (u : ℕ) → g .hop u u ≡ 0
   pub inside : (u v : ℕ) → 0 < g .hop u v → u < g .size
 
 -- What every key of an accepted table meets: different bridges have different keys.
