@@ -1,0 +1,208 @@
+//! Writes a module of the proof checker's language that holds the definitions of
+//! document 01 in `crates/rule` to the reference: for seeded tables, what each
+//! call gives, as equations that the checker computes. The script
+//! `compare-definitions` has it checked.
+
+use reference::arguments::{Arguments, Usage};
+use reference::check::check;
+use reference::entries::entries;
+use reference::generate::damage::damaged;
+use reference::generate::valid::{plan, Size};
+use reference::lookup::lookup;
+use reference::path::{exported_path_cost, path};
+use reference::random::Random;
+use reference::records::Plan;
+use reference::refusal::Refusal;
+use reference::rules::Rules;
+use reference::tree::{tree, TreeLists};
+
+const USAGE: Usage = Usage {
+    text: "definition-vectors [--seed N] [--first N] [--count N] [--bridges N]",
+    values: &["seed", "first", "count", "bridges"],
+    flags: &[],
+};
+
+/// Longer tables take the checker too long.
+const LONGEST: usize = 1_200;
+
+/// What the lent lists hold before a call.
+const OLD: u32 = 7;
+
+const HEADER: &str = "-- Made by reference/compare-definitions. Assumes nothing.
+use Prim.Native.Nat.{ℕ}
+use mathlib.Core.Path.{_≡_, refl}
+use mathlib.Core.List.{List, [], _∷_, flatMap}
+use mathlib.Core.Option.{none, some}
+use Rattle.graph.specs.Lists.{rising, filter, any, lowestBy}
+use Rattle.graph.specs.Order.{insert, sorted, lower}
+use Rattle.graph.specs.Graph.{costOnward}
+use Rattle.graph.specs.Chosen.{neighbours, onward, paths, chosen}
+use Rattle.rule.specs.Words.{wordsOf}
+use Rattle.rule.specs.Records.{layoutOf}
+use Rattle.rule.specs.Outcome.{answered, refused}
+use Rattle.rule.specs.Check.{lowestFault, readOn, verdict}
+use Rattle.rule.specs.Links.{linksOf, usableLinks, countUsable, linksBetween, hopLink}
+use Rattle.rule.specs.Identifiers.{maskedBytes, maskedIdentifier}
+use Rattle.rule.specs.Paths.{chosenPath}
+use Rattle.rule.specs.Entries.{entryListOf, entriesOf, individualEntries, groupEntries, listedPorts, receiverPorts, leavingPort}
+use Rattle.rule.specs.Calls.{checkOutcome, pathAnswer, pathOutcome, entriesAnswer, entriesOutcome, treeOutcome, treeOf, lastButOne}
+use Rattle.rule.specs.Lookup.{lookupOutcome, matchingPorts, faultyList, entriesIn}
+use Rattle.rule.specs.Exported.{exportedPathCost}
+";
+
+/// What the checker opens to compute an outcome.
+const UNFOLDING: &str = "unfolding wordsOf layoutOf lowestFault readOn verdict linksOf usableLinks countUsable linksBetween hopLink
+  maskedBytes maskedIdentifier chosenPath entryListOf entriesOf individualEntries groupEntries listedPorts receiverPorts leavingPort
+  checkOutcome pathAnswer pathOutcome entriesAnswer entriesOutcome treeOutcome treeOf lastButOne lookupOutcome matchingPorts
+  faultyList entriesIn exportedPathCost rising filter any lowestBy insert sorted lower costOnward neighbours onward paths chosen flatMap";
+
+fn main() {
+    let arguments = Arguments::of_process(&USAGE);
+    let seed = arguments.number("seed", 1);
+    let first = arguments.number("first", 0);
+    let bridges = arguments.number("bridges", 4) as usize;
+    println!("{HEADER}");
+    for number in first..first + arguments.number("count", 50) {
+        let mut vectors = Vectors { random: Random::for_case(seed, number), number, written: 0 };
+        if number % 2 == 0 {
+            let size = Size::up_to(bridges, &mut vectors.random);
+            let plan = plan(size, &mut vectors.random);
+            vectors.of_plan(&plan);
+        } else {
+            vectors.of_damaged();
+        }
+    }
+}
+
+/// The equations about one table.
+struct Vectors {
+    random: Random,
+    number: u64,
+    written: usize,
+}
+
+impl Vectors {
+    fn of_damaged(&mut self) {
+        let table = damaged(&mut self.random).table;
+        if table.len() <= LONGEST {
+            self.table(&table);
+        }
+    }
+
+    fn of_plan(&mut self, plan: &Plan) {
+        let table = plan.bytes();
+        self.table(&table);
+        let bridges = plan.bridges.len() as u32;
+        for vid in &plan.vids {
+            let vid = u32::from(vid.vid);
+            for _ in 0..3 {
+                let question = (
+                    vid,
+                    self.random.between(0, bridges.into()) as u32,
+                    self.random.between(0, bridges.into()) as u32,
+                );
+                self.path(&table, question, plan.bridges.len());
+            }
+            let from = self.random.between(0, bridges.into()) as u32;
+            self.tree(&table, vid, from, plan.bridges.len());
+        }
+        for bridge in 0..=bridges {
+            self.entries(&table, bridge);
+        }
+    }
+
+    /// Declares the table, and what check gives.
+    fn table(&mut self, table: &[u8]) {
+        let bytes: Vec<u32> = table.iter().map(|&byte| byte.into()).collect();
+        println!("abbrev table{} : List ℕ\ntable{} = {}\n", self.number, self.number, list(&bytes));
+        let counts = check(Rules::AS_WRITTEN, table).map(|counts| {
+            format!(
+                "(record {{ bridges = {}; «half_links» = {}; «usable_links» = {}; vids = {}; members = {} }})",
+                counts.bridges, counts.half_links, counts.usable_links, counts.vids, counts.members
+            )
+        });
+        self.equation(&format!("checkOutcome table{}", self.number), &outcome(counts));
+    }
+
+    fn path(&mut self, table: &[u8], question: (u32, u32, u32), bridges: usize) {
+        let (vid, from, to) = question;
+        let mut lent = vec![OLD; self.random.below(bridges + 2)];
+        let before = list(&lent);
+        let answer = path(Rules::AS_WRITTEN, table, question, &mut lent);
+        let values =
+            answer.map(|given| format!("(record {{ cost = {}; hops = {} }})", given.cost, given.hops));
+        let call = format!("pathOutcome table{} {vid} {from} {to} ({before})", self.number);
+        self.equation(&call, &format!("({}, {})", outcome(values), list(&lent)));
+        let exported = exported_path_cost(Rules::AS_WRITTEN, table, vid, from, to);
+        self.equation(
+            &format!("exportedPathCost table{} {vid} {from} {to}", self.number),
+            &exported.to_string(),
+        );
+    }
+
+    fn tree(&mut self, table: &[u8], vid: u32, from: u32, bridges: usize) {
+        let mut lists = [(); 3].map(|()| {
+            vec![OLD; bridges + self.random.below(2) - usize::from(self.random.one_in(9) && bridges > 0)]
+        });
+        let before = lists.clone().map(|lent| format!("({})", list(&lent))).join(" ");
+        let [costs, hops, before_last] = &mut lists;
+        let given = tree(Rules::AS_WRITTEN, table, vid, from, TreeLists { costs, hops, before_last });
+        let after = lists.map(|lent| list(&lent)).join(", ");
+        let call = format!("treeOutcome table{} {vid} {from} {before}", self.number);
+        self.equation(&call, &format!("({}, {after})", outcome(given.map(|size| size.to_string()))));
+    }
+
+    fn entries(&mut self, table: &[u8], bridge: u32) {
+        let mut whole = vec![OLD; 20_000];
+        let needed = entries(Rules::AS_WRITTEN, table, bridge, &mut whole).unwrap_or(0);
+        whole.truncate(needed);
+        let mut lent = vec![OLD; (needed + 2).saturating_sub(self.random.below(4))];
+        let before = list(&lent);
+        let given = entries(Rules::AS_WRITTEN, table, bridge, &mut lent);
+        let call = format!("entriesOutcome table{} {bridge} ({before})", self.number);
+        self.equation(
+            &call,
+            &format!("({}, {})", outcome(given.map(|words| words.to_string())), list(&lent)),
+        );
+        self.lookups(whole);
+    }
+
+    /// Two lookups in an entry list, which is damaged at times.
+    fn lookups(&mut self, mut words: Vec<u32>) {
+        for _ in 0..2 {
+            let asked = words.chunks_exact(3).nth(self.random.below(words.len() / 3 + 1));
+            let (vid, address) = asked.map_or((1, 2), |entry| {
+                (entry[0] >> 16 & 0xFFF, u64::from(entry[1]) << 32 | u64::from(entry[2]))
+            });
+            let n = self.random.below(3) as u32;
+            let port = lookup(Rules::AS_WRITTEN, &words, vid, address, n);
+            let values = port.map(|port| port.map_or("none".to_string(), |port| format!("(some {port})")));
+            let call = format!("lookupOutcome ({}) {vid} {address} {n}", list(&words));
+            self.equation(&call, &outcome(values));
+            if !words.is_empty() {
+                let place = self.random.below(words.len());
+                words[place] ^= 1 << self.random.below(32);
+            }
+        }
+    }
+
+    fn equation(&mut self, computed: &str, expected: &str) {
+        let name = format!("table{}-{}", self.number, self.written);
+        println!("{name} : {computed} ≡ {expected}\n{UNFOLDING}\n{name} = refl\n");
+        self.written += 1;
+    }
+}
+
+fn outcome(given: Result<String, Refusal>) -> String {
+    match given {
+        Ok(values) => format!("answered {values}"),
+        Err(refusal) => {
+            let kind = refusal.kind.map_or("none".to_string(), |kind| format!("(some {})", kind.tag() >> 28));
+            format!("refused {} {kind} {}", refusal.number, refusal.word)
+        }
+    }
+}
+
+fn list(numbers: &[u32]) -> String {
+    numbers.iter().map(|number| format!("{number} ∷ ")).chain(["[]".to_string()]).collect()
+}
