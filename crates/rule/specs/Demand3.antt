@@ -14,7 +14,7 @@ use Rattle.rule.specs.Records.{HalfLink, Vid, Member, address}
 use Rattle.rule.specs.Outcome.{answered, refusedAs}
 use Rattle.rule.specs.Plan.{Plan, bridgeAt}
 use Rattle.rule.specs.Check.{verdict}
-use Rattle.rule.specs.Links.{Link, to, joined, graphOf}
+use Rattle.rule.specs.Links.{Link, to, turned, joined, graphOf}
 use Rattle.rule.specs.Identifiers.{keyOf}
 use Rattle.rule.specs.Entries.{groupAddress, entryListOf}
 use Rattle.rule.specs.Answers.{CostAndHops}
@@ -51,10 +51,6 @@ abbrev pub Chain : List HalfLink → ℕ → ℕ → List ℕ → Type 0
 Chain hs a b [] = ⊥
 Chain hs a b (u ∷ []) = (u ≡ a) × (u ≡ b)
 Chain hs a b (u ∷ v ∷ t) = (u ≡ a) × T (joined hs u v) × Chain hs v b (v ∷ t)
-
--- A link seen from its other end.
-abbrev pub turned : Link → Link
-turned l = record { here = l .there; there = l .here }
 
 module _ (s : Setting) where
   abbrev pub ChainIn : ℕ → ℕ → List ℕ → Type 0

@@ -35,6 +35,10 @@ from l = l .here .near
 abbrev pub to : Link → ℕ
 to l = l .here .far
 
+-- A link seen from its other end.
+abbrev pub turned : Link → Link
+turned l = record { here = l .there; there = l .here }
+
 -- "A link costs the greater of its two metrics".
 abbrev pub combinedMetric : ℕ → ℕ → ℕ
 combinedMetric m n = max m n
