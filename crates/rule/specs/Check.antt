@@ -8,7 +8,7 @@ use lib.Dec.{eqb, leb, ltb}
 use lib.ListN.{length, drop}
 use Rattle.graph.specs.Lists.{filter, any}
 use Rattle.rule.specs.Words.{wordsOf, bits}
-use Rattle.rule.specs.Records.{Bridge, HalfLink, Vid, Member, Record, bridge, halfLink, vid, member, end, address, endCount, Layout, layoutOf, Range, inLimits}
+use Rattle.rule.specs.Records.{HalfLink, Record, bridge, halfLink, vid, member, end, address, endCount, Layout, layoutOf, Range, inLimits}
 use Rattle.rule.specs.Outcome.{Outcome, answered, refused, refusedIf}
 use Rattle.rule.specs.Plan.{Plan, noRecords, withRecord, alike, knownBridge, knownVid}
 

@@ -41,7 +41,7 @@ unfoldable pub leavingPort : List HalfLink → ℕ → List ℕ → Option ℕ
 leavingPort hs b [] = none
 leavingPort hs b (u ∷ t) = cond (eqb u b) (firstPort hs (u ∷ t)) (leavingPort hs b t)
 
--- The ports by which the paths of a list leave a bridge, each as `port` gives it.
+-- What `port` gives of a path, where there is a path and it gives one.
 abbrev pub portsOf : (List ℕ → Option ℕ) → Option (List ℕ) → List ℕ
 portsOf port none = []
 portsOf port (some path) = listOf (port path)

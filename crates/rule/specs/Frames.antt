@@ -3,12 +3,12 @@
 use Prim.Native.Nat.{ℕ, zero, suc}
 use mathlib.Core.List.{List, [], _∷_, _++_, map, flatMap}
 use mathlib.Core.Option.{Option, none, some}
-use mathlib.Core.Bool.{Bool, cond, _&&_}
+use mathlib.Core.Bool.{cond, _&&_}
 use lib.Dec.{eqb}
 use Rattle.graph.specs.Lists.{filter}
 use Rattle.rule.specs.Records.{HalfLink}
 use Rattle.rule.specs.Links.{Link, from, to, usableLinks}
-use Rattle.rule.specs.Entries.{Entry, listOf}
+use Rattle.rule.specs.Entries.{listOf}
 use Rattle.rule.specs.Lookup.{entriesIn}
 
 module _ {A : Type 0} where

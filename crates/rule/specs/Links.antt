@@ -57,13 +57,16 @@ usableLinks hs = filter (λ l. usableMetric (linkCost l)) (linksOf hs)
 unfoldable pub countUsable : List HalfLink → ℕ
 countUsable hs = length (filter (λ l. ltb (from l) (to l)) (usableLinks hs))
 
--- The usable links that connect `u` to `v`, seen from `u`.
+-- A link connects `u` to `v`, seen from `u`.
+abbrev pub connects : ℕ → ℕ → Link → Bool
+connects u v l = eqb (from l) u && eqb (to l) v
+
 unfoldable pub linksBetween : List HalfLink → ℕ → ℕ → List Link
-linksBetween hs u v = filter (λ l. eqb (from l) u && eqb (to l) v) (usableLinks hs)
+linksBetween hs u v = filter (connects u v) (usableLinks hs)
 
 -- "Two bridges are joined when a usable link connects them".
 unfoldable pub joined : List HalfLink → ℕ → ℕ → Bool
-joined hs u v = any (λ l. eqb (from l) u && eqb (to l) v) (usableLinks hs)
+joined hs u v = any (connects u v) (usableLinks hs)
 
 -- "the cheapest usable link, of equals the lower link number (a house rule)".
 abbrev pub before : Link → Link → Bool

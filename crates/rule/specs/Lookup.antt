@@ -1,11 +1,11 @@
 -- Entry lists read back, and the outcome of lookup (01, "Calls", and 14 under "Refusals in checking order").
 -- Assumes nothing.
-use Prim.Native.Nat.{ℕ, _+_, _*_, _%_, _^_}
+use Prim.Native.Nat.{ℕ, _+_, _*_, _^_}
 use mathlib.Core.List.{List, [], _∷_, map}
 use mathlib.Core.Option.{Option}
 use mathlib.Core.Bool.{Bool, false, true, not, _&&_, _||_}
 use lib.Dec.{eqb}
-use lib.ListN.{length, getElem?}
+use lib.ListN.{getElem?}
 use Rattle.graph.specs.Lists.{filter}
 use Rattle.rule.specs.Words.{bits}
 use Rattle.rule.specs.Records.{inLimits, vidLimits, portLimits, groupBit}

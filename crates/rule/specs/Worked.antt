@@ -3,7 +3,7 @@
 -- Assumes nothing.
 use Prim.Native.Nat.{ℕ}
 use mathlib.Core.Path.{_≡_, refl}
-use mathlib.Core.List.{List, [], _∷_, map, flatMap}
+use mathlib.Core.List.{List, [], _∷_, flatMap}
 use mathlib.Core.Option.{none, some}
 use mathlib.Core.Bool.{true, false}
 use Rattle.graph.specs.Lists.{rising, filter, any, lowestBy}
@@ -13,7 +13,7 @@ use Rattle.graph.specs.Chosen.{neighbours, onward, paths, chosen}
 use Rattle.rule.specs.Words.{wordsOf}
 use Rattle.rule.specs.Tables.{table}
 use Rattle.rule.specs.Records.{layoutOf}
-use Rattle.rule.specs.Outcome.{Outcome, answered, refusedAs}
+use Rattle.rule.specs.Outcome.{answered, refusedAs}
 use Rattle.rule.specs.Plan.{Plan}
 use Rattle.rule.specs.Check.{lowestFault, readOn, verdict}
 use Rattle.rule.specs.Links.{Link, turned, linksOf, usableLinks, countUsable, linksBetween, hopLink}

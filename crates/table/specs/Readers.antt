@@ -8,7 +8,7 @@ use mathlib.Core.Bool.{Bool, cond, true, false}
 use lib.Dec.{eqb, ltb}
 use borrow.Author.Tests.{lt-ltb, le-ltb, eq-eqb, ne-eqb}
 use lib.ListN.{length}
-use Rattle.rule.specs.Records.{Record, Bridge, HalfLink, Vid, Member, bridge, halfLink, vid, member, end, field, memberOf, Layout, Range, inLimits}
+use Rattle.rule.specs.Records.{Record, Bridge, HalfLink, Vid, bridge, halfLink, vid, member, end, field, memberOf, Layout, Range, inLimits}
 use Rattle.graph.specs.Lists.{any}
 use Rattle.rule.specs.Check.{outsideRange}
 use Rattle.table.specs.declared.bridge.BridgeRead.{BridgeRead}

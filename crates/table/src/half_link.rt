@@ -33,12 +33,12 @@ pub fn read_half_link(part: &[u8]) -> HalfLinkRead
     if first / 16777216 % 16 != 0 {
         return HalfLinkRead::ZeroBit;
     }
-    let metric = first % 16777216;
+    let metric = Metric(first % 16777216);
     let bridges = word_at(part, 1);
     let place = word_at(part, 2);
     let port = place / 65536;
     let link = place % 65536;
-    if !within(metric as u64, 1, 16777215) {
+    if !metric.is_in_range() {
         return HalfLinkRead::OutOfRange;
     }
     if !within(port as u64, 1, 4095) {
@@ -48,7 +48,7 @@ pub fn read_half_link(part: &[u8]) -> HalfLinkRead
         return HalfLinkRead::OutOfRange;
     }
     HalfLinkRead::Record(HalfLink {
-        metric: Metric(metric),
+        metric: metric,
         near: bridges / 65536,
         far: bridges % 65536,
         port: port,

@@ -1,5 +1,7 @@
 //! Figures of IEEE Std 802.1aq-2012: the priorities of Table 28-1, the two
-//! comparisons of 28.5, the complement of 28.7, the group address of 27.15.
+//! comparisons of 28.5, the complement of 28.7, the group address of 27.15. The
+//! rows over all sixteen indexes but Table 28-1's were worked out by brute force
+//! under 28.8.
 
 use super::fixture::{diamond, ends, link, plan, route, FixedLink};
 use super::{equal, Outcome, Setting};

@@ -1,0 +1,13 @@
+-- `rule::metric::Metric::is_in_range` tests the limits, the least first. Assumes nothing.
+use borrow.Author.Tests.{lt-leb, le-leb}
+use Rattle.rule.proofs.metric.Metric.is_in_range.Statement.{statement}
+use Rattle.rule.proofs.metric.Metric.is_in_range.Tie as tie
+
+returns : tie.Need-returns
+returns c = simp (lt-leb _ _ (c .if1 .taken))
+
+returns-2 : tie.Need-returns-2
+returns-2 c = simp (le-leb _ _ (c .before .before .if1 .left))
+
+pub is-in-range-spec : {M : Type 1} → statement M
+is-in-range-spec = tie.close (tie.spec returns returns-2)
