@@ -8,9 +8,13 @@ use mathlib.Core.Bool.{Bool, cond, true, false}
 use lib.Dec.{eqb, ltb}
 use borrow.Author.Tests.{lt-ltb, le-ltb, eq-eqb, ne-eqb}
 use lib.ListN.{length}
-use Rattle.rule.specs.Records.{Record, Bridge, HalfLink, Vid, bridge, halfLink, vid, member, end, field, memberOf, Layout, Range, inLimits}
+use Rattle.rule.specs.Records.{Record, Bridge, HalfLink, Vid, Member, bridge, halfLink, vid, member, end, Layout, Range, inLimits}
 use Rattle.graph.specs.Lists.{any}
 use Rattle.rule.specs.Check.{outsideRange}
+use Rattle.table.specs.declared.bridge.Bridge.{Bridge as table·Bridge}
+use Rattle.table.specs.declared.half_link.HalfLink.{HalfLink as table·HalfLink}
+use Rattle.table.specs.declared.vid.Vid.{Vid as table·Vid}
+use Rattle.table.specs.declared.member.Member.{Member as table·Member}
 use Rattle.table.specs.declared.bridge.BridgeRead.{BridgeRead}
 use Rattle.table.specs.declared.half_link.HalfLinkRead.{HalfLinkRead}
 use Rattle.table.specs.declared.vid.VidRead.{VidRead}
@@ -29,33 +33,43 @@ readOf l r =
     cond (ltb (length r) (l .words)) cut
     (cond (eqb (l .zeroBits r) 0) (cond (outsideRange (l .ranges) r) outOfRange (whole (l .decoded r))) zeroBit)
 
+-- What the structs of the records stand for.
+abbrev pub bridgeValues : table·Bridge → Bridge
+bridgeValues b = record { spSourceId = b .«sp_source_id»; identifier = b .identifier }
+
+abbrev pub halfLinkValues : table·HalfLink → HalfLink
+halfLinkValues h = record { metric = h .metric .0; near = h .near; far = h .far; port = h .port; link = h .link }
+
+abbrev pub vidValues : table·Vid → Vid
+vidValues v = record { vid = v .vid; index = v .index }
+
+abbrev pub memberValues : table·Member → Member
+memberValues m =
+    record { transmits = m .transmits; receives = m .receives; isid = m .isid; bridge = m .bridge; vid = m .vid }
+
 -- What the readers' answers stand for.
 abbrev pub bridgeRead : BridgeRead → Read
 bridgeRead BridgeRead.Cut = cut
 bridgeRead BridgeRead.ZeroBit = zeroBit
 bridgeRead BridgeRead.OutOfRange = outOfRange
-bridgeRead (BridgeRead.Record b) = whole (bridge (record { spSourceId = b .«sp_source_id»; identifier = b .identifier }))
+bridgeRead (BridgeRead.Record b) = whole (bridge (bridgeValues b))
 
 abbrev pub halfLinkRead : HalfLinkRead → Read
 halfLinkRead HalfLinkRead.Cut = cut
 halfLinkRead HalfLinkRead.ZeroBit = zeroBit
 halfLinkRead HalfLinkRead.OutOfRange = outOfRange
-halfLinkRead (HalfLinkRead.Record h) =
-    whole (halfLink (record { metric = h .metric .0; near = h .near; far = h .far; port = h .port; link = h .link }))
+halfLinkRead (HalfLinkRead.Record h) = whole (halfLink (halfLinkValues h))
 
 abbrev pub vidRead : VidRead → Read
 vidRead VidRead.Cut = cut
 vidRead VidRead.OutOfRange = outOfRange
-vidRead (VidRead.Record v) = whole (vid (record { vid = v .vid; index = v .index }))
+vidRead (VidRead.Record v) = whole (vid (vidValues v))
 
 abbrev pub memberRead : MemberRead → Read
 memberRead MemberRead.Cut = cut
 memberRead MemberRead.ZeroBit = zeroBit
 memberRead MemberRead.OutOfRange = outOfRange
-memberRead (MemberRead.Record m) =
-    whole
-    (member
-    (record { transmits = m .transmits; receives = m .receives; isid = m .isid; bridge = m .bridge; vid = m .vid }))
+memberRead (MemberRead.Record m) = whole (member (memberValues m))
 
 abbrev pub endRead : EndRead → Read
 endRead EndRead.Cut = cut
@@ -100,12 +114,10 @@ pub inside-all : (r : List ℕ) → outsideRange [] r ≡ false
 unfolding any
 inside-all r = refl
 
+-- Records are the same where their fields are.
 pub same-bridge :
-    {sp id : ℕ} {b : Bridge} →
-    sp ≡ b .spSourceId →
-    id ≡ b .identifier →
-    whole (bridge (record { spSourceId = sp; identifier = id })) ≡ whole (bridge b)
-same-bridge e f = λ i. whole (bridge (record { spSourceId = e i; identifier = f i }))
+    {s i : ℕ} {b : Bridge} → s ≡ b .spSourceId → i ≡ b .identifier → record { spSourceId = s; identifier = i } ≡ b
+same-bridge e f = λ i. record { spSourceId = e i; identifier = f i }
 
 pub same-half-link :
     {m n f p l : ℕ} {h : HalfLink} →
@@ -114,21 +126,18 @@ pub same-half-link :
     f ≡ h .far →
     p ≡ h .port →
     l ≡ h .link →
-    whole (halfLink (record { metric = m; near = n; far = f; port = p; link = l })) ≡ whole (halfLink h)
-same-half-link a b c d e =
-    λ i. whole (halfLink (record { metric = a i; near = b i; far = c i; port = d i; link = e i }))
+    record { metric = m; near = n; far = f; port = p; link = l } ≡ h
+same-half-link a b c d e = λ i. record { metric = a i; near = b i; far = c i; port = d i; link = e i }
 
-pub same-vid : {n k : ℕ} {v : Vid} → n ≡ v .vid → k ≡ v .index → whole (vid (record { vid = n; index = k })) ≡ whole (vid v)
-same-vid e f = λ i. whole (vid (record { vid = e i; index = f i }))
+pub same-vid : {n k : ℕ} {v : Vid} → n ≡ v .vid → k ≡ v .index → record { vid = n; index = k } ≡ v
+same-vid e f = λ i. record { vid = e i; index = f i }
 
 pub same-member :
-    (t r : ℕ) {s b v : ℕ} (ws : List ℕ) →
-    t ≡ field 0 25 25 ws →
-    r ≡ field 0 24 24 ws →
-    s ≡ memberOf ws .isid →
-    b ≡ memberOf ws .bridge →
-    v ≡ memberOf ws .vid →
-    whole (member (record { transmits = eqb t 1; receives = eqb r 1; isid = s; bridge = b; vid = v }))
-    ≡ whole (member (memberOf ws))
-same-member t r ws a b c d e =
-    λ i. whole (member (record { transmits = eqb (a i) 1; receives = eqb (b i) 1; isid = c i; bridge = d i; vid = e i }))
+    {t r : Bool} {s b v : ℕ} {m : Member} →
+    t ≡ m .transmits →
+    r ≡ m .receives →
+    s ≡ m .isid →
+    b ≡ m .bridge →
+    v ≡ m .vid →
+    record { transmits = t; receives = r; isid = s; bridge = b; vid = v } ≡ m
+same-member a b c d e = λ i. record { transmits = a i; receives = b i; isid = c i; bridge = d i; vid = e i }

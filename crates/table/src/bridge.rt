@@ -1,11 +1,13 @@
-// The reader of bridge records (01, "The table", kind 1).
+// Bridge records (01, "The table", kind 1): the record at the beginning of a part, and the reader that tests it.
 use crate::words::two_words;
 use crate::words::within;
 use crate::words::word_at;
 ghost use mathlib.Core.Path.{_≡_};
+ghost use Prim.Native.Nat.{_≤_};
+ghost use lib.ListN.{length};
 ghost use Rattle.rule.specs.Words.{wordsOf};
-ghost use Rattle.rule.specs.Records.{bridgeLayout};
-ghost use Rattle.table.specs.Readers.{bridgeRead, readOf};
+ghost use Rattle.rule.specs.Records.{bridgeLayout, bridgeOf};
+ghost use Rattle.table.specs.Readers.{bridgeValues, bridgeRead, readOf};
 
 pub struct Bridge {
     pub sp_source_id: u32,
@@ -19,6 +21,19 @@ pub enum BridgeRead {
     Record(Bridge),
 }
 
+// The record whose words the part begins with.
+pub fn bridge_of(part: &[u8]) -> Bridge
+    requires { ⌜ 12 ≤ length (now part) ⌝ }
+    ensures { λ r. ⌜ bridgeValues r ≡ bridgeOf (wordsOf (now (part .entry))) ⌝ }
+{
+    let first = word_at(part, 0);
+    let identifier = two_words(word_at(part, 1), word_at(part, 2));
+    Bridge {
+        sp_source_id: first % 1048576,
+        identifier: identifier,
+    }
+}
+
 // Reads the part of the table that begins at the record's first word.
 pub fn read_bridge(part: &[u8]) -> BridgeRead
     ensures { λ r. ⌜ bridgeRead r ≡ readOf bridgeLayout (wordsOf (now (part .entry))) ⌝ }
@@ -26,14 +41,12 @@ pub fn read_bridge(part: &[u8]) -> BridgeRead
     if part.len() < 12 {
         return BridgeRead::Cut;
     }
-    let first = word_at(part, 0);
-    if first / 1048576 % 256 != 0 {
+    if word_at(part, 0) / 1048576 % 256 != 0 {
         return BridgeRead::ZeroBit;
     }
-    let sp_source_id = first % 1048576;
-    let identifier = two_words(word_at(part, 1), word_at(part, 2));
-    let address = identifier % 281474976710656;
-    if !within(sp_source_id as u64, 1, 1048575) {
+    let b = bridge_of(part);
+    let address = b.identifier % 281474976710656;
+    if !within(b.sp_source_id as u64, 1, 1048575) {
         return BridgeRead::OutOfRange;
     }
     if !within(address, 1, 281474976710655) {
@@ -42,8 +55,5 @@ pub fn read_bridge(part: &[u8]) -> BridgeRead
     if !within(address / 1099511627776 % 2, 0, 0) {
         return BridgeRead::OutOfRange;
     }
-    BridgeRead::Record(Bridge {
-        sp_source_id: sp_source_id,
-        identifier: identifier,
-    })
+    BridgeRead::Record(b)
 }

@@ -1,11 +1,13 @@
-// The reader of half-link records (01, "The table", kind 2).
+// Half-link records (01, "The table", kind 2): the record at the beginning of a part, and the reader that tests it.
 use crate::words::within;
 use crate::words::word_at;
 use rule::metric::Metric;
 ghost use mathlib.Core.Path.{_≡_};
+ghost use Prim.Native.Nat.{_≤_};
+ghost use lib.ListN.{length};
 ghost use Rattle.rule.specs.Words.{wordsOf};
-ghost use Rattle.rule.specs.Records.{halfLinkLayout};
-ghost use Rattle.table.specs.Readers.{halfLinkRead, readOf};
+ghost use Rattle.rule.specs.Records.{halfLinkLayout, halfLinkOf};
+ghost use Rattle.table.specs.Readers.{halfLinkValues, halfLinkRead, readOf};
 
 pub struct HalfLink {
     pub metric: Metric,
@@ -22,6 +24,23 @@ pub enum HalfLinkRead {
     Record(HalfLink),
 }
 
+// The record whose words the part begins with.
+pub fn half_link_of(part: &[u8]) -> HalfLink
+    requires { ⌜ 12 ≤ length (now part) ⌝ }
+    ensures { λ r. ⌜ halfLinkValues r ≡ halfLinkOf (wordsOf (now (part .entry))) ⌝ }
+{
+    let first = word_at(part, 0);
+    let bridges = word_at(part, 1);
+    let place = word_at(part, 2);
+    HalfLink {
+        metric: Metric(first % 16777216),
+        near: bridges / 65536,
+        far: bridges % 65536,
+        port: place / 65536,
+        link: place % 65536,
+    }
+}
+
 // Reads the part of the table that begins at the record's first word.
 pub fn read_half_link(part: &[u8]) -> HalfLinkRead
     ensures { λ r. ⌜ halfLinkRead r ≡ readOf halfLinkLayout (wordsOf (now (part .entry))) ⌝ }
@@ -29,29 +48,18 @@ pub fn read_half_link(part: &[u8]) -> HalfLinkRead
     if part.len() < 12 {
         return HalfLinkRead::Cut;
     }
-    let first = word_at(part, 0);
-    if first / 16777216 % 16 != 0 {
+    if word_at(part, 0) / 16777216 % 16 != 0 {
         return HalfLinkRead::ZeroBit;
     }
-    let metric = Metric(first % 16777216);
-    let bridges = word_at(part, 1);
-    let place = word_at(part, 2);
-    let port = place / 65536;
-    let link = place % 65536;
-    if !metric.is_in_range() {
+    let h = half_link_of(part);
+    if !h.metric.is_in_range() {
         return HalfLinkRead::OutOfRange;
     }
-    if !within(port as u64, 1, 4095) {
+    if !within(h.port as u64, 1, 4095) {
         return HalfLinkRead::OutOfRange;
     }
-    if !within(link as u64, 1, 65535) {
+    if !within(h.link as u64, 1, 65535) {
         return HalfLinkRead::OutOfRange;
     }
-    HalfLinkRead::Record(HalfLink {
-        metric: metric,
-        near: bridges / 65536,
-        far: bridges % 65536,
-        port: port,
-        link: link,
-    })
+    HalfLinkRead::Record(h)
 }

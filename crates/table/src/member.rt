@@ -1,10 +1,12 @@
-// The reader of member records (01, "The table", kind 4).
+// Member records (01, "The table", kind 4): the record at the beginning of a part, and the reader that tests it.
 use crate::words::within;
 use crate::words::word_at;
 ghost use mathlib.Core.Path.{_≡_};
+ghost use Prim.Native.Nat.{_≤_};
+ghost use lib.ListN.{length};
 ghost use Rattle.rule.specs.Words.{wordsOf};
-ghost use Rattle.rule.specs.Records.{memberLayout};
-ghost use Rattle.table.specs.Readers.{memberRead, readOf};
+ghost use Rattle.rule.specs.Records.{memberLayout, memberOf};
+ghost use Rattle.table.specs.Readers.{memberValues, memberRead, readOf};
 
 pub struct Member {
     pub transmits: bool,
@@ -21,6 +23,22 @@ pub enum MemberRead {
     Record(Member),
 }
 
+// The record whose words the part begins with.
+pub fn member_of(part: &[u8]) -> Member
+    requires { ⌜ 8 ≤ length (now part) ⌝ }
+    ensures { λ r. ⌜ memberValues r ≡ memberOf (wordsOf (now (part .entry))) ⌝ }
+{
+    let first = word_at(part, 0);
+    let names = word_at(part, 1);
+    Member {
+        transmits: first / 33554432 % 2 == 1,
+        receives: first / 16777216 % 2 == 1,
+        isid: first % 16777216,
+        bridge: names / 65536,
+        vid: names % 65536,
+    }
+}
+
 // Reads the part of the table that begins at the record's first word.
 pub fn read_member(part: &[u8]) -> MemberRead
     ensures { λ r. ⌜ memberRead r ≡ readOf memberLayout (wordsOf (now (part .entry))) ⌝ }
@@ -28,24 +46,15 @@ pub fn read_member(part: &[u8]) -> MemberRead
     if part.len() < 8 {
         return MemberRead::Cut;
     }
-    let first = word_at(part, 0);
-    if first / 67108864 % 4 != 0 {
+    if word_at(part, 0) / 67108864 % 4 != 0 {
         return MemberRead::ZeroBit;
     }
-    let isid = first % 16777216;
-    let names = word_at(part, 1);
-    let vid = names % 65536;
-    if !within(isid as u64, 256, 16777214) {
+    let m = member_of(part);
+    if !within(m.isid as u64, 256, 16777214) {
         return MemberRead::OutOfRange;
     }
-    if !within(vid as u64, 1, 4094) {
+    if !within(m.vid as u64, 1, 4094) {
         return MemberRead::OutOfRange;
     }
-    MemberRead::Record(Member {
-        transmits: first / 33554432 % 2 == 1,
-        receives: first / 16777216 % 2 == 1,
-        isid: isid,
-        bridge: names / 65536,
-        vid: vid,
-    })
+    MemberRead::Record(m)
 }

@@ -1,10 +1,13 @@
-// The reader of VID records (01, "The table", kind 3). All their bits are in use.
+// VID records (01, "The table", kind 3): the record at the beginning of a part, and the reader that tests it. All their bits are in
+// use.
 use crate::words::within;
 use crate::words::word_at;
 ghost use mathlib.Core.Path.{_≡_};
+ghost use Prim.Native.Nat.{_≤_};
+ghost use lib.ListN.{length};
 ghost use Rattle.rule.specs.Words.{wordsOf};
-ghost use Rattle.rule.specs.Records.{vidLayout};
-ghost use Rattle.table.specs.Readers.{vidRead, readOf};
+ghost use Rattle.rule.specs.Records.{vidLayout, vidOf};
+ghost use Rattle.table.specs.Readers.{vidValues, vidRead, readOf};
 
 pub struct Vid {
     pub vid: u32,
@@ -17,6 +20,18 @@ pub enum VidRead {
     Record(Vid),
 }
 
+// The record whose words the part begins with.
+pub fn vid_of(part: &[u8]) -> Vid
+    requires { ⌜ 4 ≤ length (now part) ⌝ }
+    ensures { λ r. ⌜ vidValues r ≡ vidOf (wordsOf (now (part .entry))) ⌝ }
+{
+    let first = word_at(part, 0);
+    Vid {
+        vid: first / 65536 % 4096,
+        index: first % 65536,
+    }
+}
+
 // Reads the part of the table that begins at the record's first word.
 pub fn read_vid(part: &[u8]) -> VidRead
     ensures { λ r. ⌜ vidRead r ≡ readOf vidLayout (wordsOf (now (part .entry))) ⌝ }
@@ -24,17 +39,12 @@ pub fn read_vid(part: &[u8]) -> VidRead
     if part.len() < 4 {
         return VidRead::Cut;
     }
-    let first = word_at(part, 0);
-    let vid = first / 65536 % 4096;
-    let index = first % 65536;
-    if !within(vid as u64, 1, 4094) {
+    let v = vid_of(part);
+    if !within(v.vid as u64, 1, 4094) {
         return VidRead::OutOfRange;
     }
-    if !within(index as u64, 1, 16) {
+    if !within(v.index as u64, 1, 16) {
         return VidRead::OutOfRange;
     }
-    VidRead::Record(Vid {
-        vid: vid,
-        index: index,
-    })
+    VidRead::Record(v)
 }

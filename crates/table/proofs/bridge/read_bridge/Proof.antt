@@ -1,12 +1,11 @@
 -- `table::bridge::read_bridge` finds what the row of kind 1 lays down: each test of the code is one of `readOf`, in its order. Assumes nothing.
-use Prim.Native.Nat.{_%_, _/_}
-use borrow.Author.Tests.{not-true, not-false}
-use mathlib.Core.Path.{sym, _∙_}
+use mathlib.Core.Path.{refl, sym, ap, _∙_}
 use native.Mathlib.Omega.{arith}
+use borrow.Author.Tests.{not-true, not-false}
 use Rattle.rule.specs.Words.{wordsOf}
-use Rattle.rule.specs.Records.{bridgeLayout}
+use Rattle.rule.specs.Records.{Bridge, bridge, bridgeLayout, address, groupBit}
 use Rattle.table.specs.WordLaws.{count-of-words}
-use Rattle.table.specs.Readers.{read-cut, read-zero-bit, read-outside, read-whole, outside-here, inside-here, inside-all, same-bridge}
+use Rattle.table.specs.Readers.{read-cut, read-zero-bit, read-outside, read-whole, outside-here, inside-here, inside-all, whole}
 use borrow.Author.Needs.{needs}
 use Rattle.table.proofs.bridge.read_bridge.Statement.{statement}
 use Rattle.table.proofs.bridge.read_bridge.Tie as tie
@@ -20,14 +19,8 @@ word-at-requires c κs = search needs
 returns-2 : tie.Need-returns-2
 returns-2 c = sym (read-zero-bit bridgeLayout (wordsOf (c .before .before .before .before .args .part .now)) (omega (arith, count-of-words (c .before .before .before .before .args .part .now))) (λ e. c .if2 .taken (omega arith)))
 
-word-at-requires-2 : tie.Need-word-at-requires-2
-word-at-requires-2 c κs = search needs
-
-word-at-requires-3 : tie.Need-word-at-requires-3
-word-at-requires-3 c κs = search needs
-
-two-words-requires : tie.Need-two-words-requires
-two-words-requires c κs = search needs
+bridge-of-requires : tie.Need-bridge-of-requires
+bridge-of-requires c κs = search needs
 
 cast-within : tie.Need-cast-within
 cast-within c = search needs
@@ -38,7 +31,7 @@ within-requires c κs = search needs
 returns-3 : tie.Need-returns-3
 returns-3 c =
     sym (read-outside bridgeLayout (wordsOf (c .before .before .before .before .before .before .before .before .before .args .part .now)) (omega (arith, count-of-words (c .before .before .before .before .before .before .before .before .before .args .part .now))) (omega arith)
-    (outside-here _ _ (wordsOf (c .before .before .before .before .before .before .before .before .before .args .part .now)) (c .before .within .result) ((c .before .before .before .before .before .before .word-at .result) % 1048576) (c .before .within .ensures) (omega arith) (not-true _ (c .if3 .taken))))
+    (outside-here _ _ (wordsOf (c .before .before .before .before .before .before .before .before .before .args .part .now)) (c .before .within .result) _ (c .before .within .ensures) (ap (λ (x : Bridge). x .spSourceId) (c .before .before .before .before .bridge-of .ensures)) (not-true _ (c .if3 .taken))))
 
 within-requires-2 : tie.Need-within-requires-2
 within-requires-2 c κs = search needs
@@ -46,8 +39,8 @@ within-requires-2 c κs = search needs
 returns-4 : tie.Need-returns-4
 returns-4 c =
     sym (read-outside bridgeLayout (wordsOf (c .before .before .before .before .before .before .before .before .before .before .before .args .part .now)) (omega (arith, count-of-words (c .before .before .before .before .before .before .before .before .before .before .before .args .part .now))) (omega arith)
-    (inside-here _ _ (wordsOf (c .before .before .before .before .before .before .before .before .before .before .before .args .part .now)) (c .before .before .before .within .result) ((c .before .before .before .before .before .before .before .before .word-at .result) % 1048576) (c .before .before .before .within .ensures) (omega arith) (not-false _ (c .before .before .if3 .left))
-    ∙ outside-here _ _ (wordsOf (c .before .before .before .before .before .before .before .before .before .before .before .args .part .now)) (c .before .within2 .result) ((c .before .before .before .before .two-words .result) % 281474976710656) (c .before .within2 .ensures) (omega arith) (not-true _ (c .if4 .taken))))
+    (inside-here _ _ (wordsOf (c .before .before .before .before .before .before .before .before .before .before .before .args .part .now)) (c .before .before .before .within .result) _ (c .before .before .before .within .ensures) (ap (λ (x : Bridge). x .spSourceId) (c .before .before .before .before .before .before .bridge-of .ensures)) (not-false _ (c .before .before .if3 .left))
+    ∙ outside-here _ _ (wordsOf (c .before .before .before .before .before .before .before .before .before .before .before .args .part .now)) (c .before .within2 .result) _ (c .before .within2 .ensures) (ap (λ (x : Bridge). address x) (c .before .before .before .before .before .before .bridge-of .ensures)) (not-true _ (c .if4 .taken))))
 
 within-requires-3 : tie.Need-within-requires-3
 within-requires-3 c κs = search needs
@@ -55,18 +48,18 @@ within-requires-3 c κs = search needs
 returns-5 : tie.Need-returns-5
 returns-5 c =
     sym (read-outside bridgeLayout (wordsOf (c .before .before .before .before .before .before .before .before .before .before .before .before .before .args .part .now)) (omega (arith, count-of-words (c .before .before .before .before .before .before .before .before .before .before .before .before .before .args .part .now))) (omega arith)
-    (inside-here _ _ (wordsOf (c .before .before .before .before .before .before .before .before .before .before .before .before .before .args .part .now)) (c .before .before .before .before .before .within .result) ((c .before .before .before .before .before .before .before .before .before .before .word-at .result) % 1048576) (c .before .before .before .before .before .within .ensures) (omega arith) (not-false _ (c .before .before .before .before .if3 .left))
-    ∙ inside-here _ _ (wordsOf (c .before .before .before .before .before .before .before .before .before .before .before .before .before .args .part .now)) (c .before .before .before .within2 .result) ((c .before .before .before .before .before .before .two-words .result) % 281474976710656) (c .before .before .before .within2 .ensures) (omega arith) (not-false _ (c .before .before .if4 .left))
-    ∙ outside-here _ _ (wordsOf (c .before .before .before .before .before .before .before .before .before .before .before .before .before .args .part .now)) (c .before .within3 .result) ((c .before .before .before .before .before .before .two-words .result) % 281474976710656 / 1099511627776 % 2) (c .before .within3 .ensures) (omega arith) (not-true _ (c .if5 .taken))))
+    (inside-here _ _ (wordsOf (c .before .before .before .before .before .before .before .before .before .before .before .before .before .args .part .now)) (c .before .before .before .before .before .within .result) _ (c .before .before .before .before .before .within .ensures) (ap (λ (x : Bridge). x .spSourceId) (c .before .before .before .before .before .before .before .before .bridge-of .ensures)) (not-false _ (c .before .before .before .before .if3 .left))
+    ∙ inside-here _ _ (wordsOf (c .before .before .before .before .before .before .before .before .before .before .before .before .before .args .part .now)) (c .before .before .before .within2 .result) _ (c .before .before .before .within2 .ensures) (ap (λ (x : Bridge). address x) (c .before .before .before .before .before .before .before .before .bridge-of .ensures)) (not-false _ (c .before .before .if4 .left))
+    ∙ outside-here _ _ (wordsOf (c .before .before .before .before .before .before .before .before .before .before .before .before .before .args .part .now)) (c .before .within3 .result) _ (c .before .within3 .ensures) (ap (λ (x : Bridge). groupBit (address x)) (c .before .before .before .before .before .before .before .before .bridge-of .ensures)) (not-true _ (c .if5 .taken))))
 
 returns-6 : tie.Need-returns-6
 returns-6 c =
-    same-bridge (omega arith) (omega arith)
+    ap (λ (x : Bridge). whole (bridge x)) (c .before .before .before .before .before .before .before .before .bridge-of .ensures)
     ∙ sym (read-whole bridgeLayout (wordsOf (c .before .before .before .before .before .before .before .before .before .before .before .before .before .args .part .now)) (omega (arith, count-of-words (c .before .before .before .before .before .before .before .before .before .before .before .before .before .args .part .now))) (omega arith)
-    (inside-here _ _ (wordsOf (c .before .before .before .before .before .before .before .before .before .before .before .before .before .args .part .now)) (c .before .before .before .before .before .within .result) ((c .before .before .before .before .before .before .before .before .before .before .word-at .result) % 1048576) (c .before .before .before .before .before .within .ensures) (omega arith) (not-false _ (c .before .before .before .before .if3 .left))
-    ∙ inside-here _ _ (wordsOf (c .before .before .before .before .before .before .before .before .before .before .before .before .before .args .part .now)) (c .before .before .before .within2 .result) ((c .before .before .before .before .before .before .two-words .result) % 281474976710656) (c .before .before .before .within2 .ensures) (omega arith) (not-false _ (c .before .before .if4 .left))
-    ∙ inside-here _ _ (wordsOf (c .before .before .before .before .before .before .before .before .before .before .before .before .before .args .part .now)) (c .before .within3 .result) ((c .before .before .before .before .before .before .two-words .result) % 281474976710656 / 1099511627776 % 2) (c .before .within3 .ensures) (omega arith) (not-false _ (c .if5 .left))
-    ∙ inside-all _))
+    (inside-here _ _ (wordsOf (c .before .before .before .before .before .before .before .before .before .before .before .before .before .args .part .now)) (c .before .before .before .before .before .within .result) _ (c .before .before .before .before .before .within .ensures) (ap (λ (x : Bridge). x .spSourceId) (c .before .before .before .before .before .before .before .before .bridge-of .ensures)) (not-false _ (c .before .before .before .before .if3 .left))
+    ∙ inside-here _ _ (wordsOf (c .before .before .before .before .before .before .before .before .before .before .before .before .before .args .part .now)) (c .before .before .before .within2 .result) _ (c .before .before .before .within2 .ensures) (ap (λ (x : Bridge). address x) (c .before .before .before .before .before .before .before .before .bridge-of .ensures)) (not-false _ (c .before .before .if4 .left))
+    ∙ inside-here _ _ (wordsOf (c .before .before .before .before .before .before .before .before .before .before .before .before .before .args .part .now)) (c .before .within3 .result) _ (c .before .within3 .ensures) (ap (λ (x : Bridge). groupBit (address x)) (c .before .before .before .before .before .before .before .before .bridge-of .ensures)) (not-false _ (c .if5 .left))
+    ∙ inside-all (wordsOf (c .before .before .before .before .before .before .before .before .before .before .before .before .before .args .part .now))))
 
 pub read-bridge-spec : {M : Type 1} → statement M
 read-bridge-spec =
@@ -75,9 +68,7 @@ read-bridge-spec =
     returns
     word-at-requires
     returns-2
-    word-at-requires-2
-    word-at-requires-3
-    two-words-requires
+    bridge-of-requires
     cast-within
     within-requires
     returns-3

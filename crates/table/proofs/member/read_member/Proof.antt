@@ -1,12 +1,11 @@
 -- `table::member::read_member` finds what the row of kind 4 lays down: each test of the code is one of `readOf`, in its order. Assumes nothing.
-use Prim.Native.Nat.{_%_, _/_}
+use mathlib.Core.Path.{refl, sym, ap, _∙_}
 use native.Mathlib.Omega.{arith}
-use mathlib.Core.Path.{sym, _∙_}
 use borrow.Author.Tests.{not-true, not-false}
 use Rattle.rule.specs.Words.{wordsOf}
-use Rattle.rule.specs.Records.{memberLayout}
+use Rattle.rule.specs.Records.{Member, member, memberLayout}
 use Rattle.table.specs.WordLaws.{count-of-words}
-use Rattle.table.specs.Readers.{read-cut, read-zero-bit, read-outside, read-whole, outside-here, inside-here, inside-all, same-member}
+use Rattle.table.specs.Readers.{read-cut, read-zero-bit, read-outside, read-whole, outside-here, inside-here, inside-all, whole}
 use borrow.Author.Needs.{needs}
 use Rattle.table.proofs.member.read_member.Statement.{statement}
 use Rattle.table.proofs.member.read_member.Tie as tie
@@ -20,8 +19,8 @@ word-at-requires c κs = search needs
 returns-2 : tie.Need-returns-2
 returns-2 c = sym (read-zero-bit memberLayout (wordsOf (c .before .before .before .before .args .part .now)) (omega (arith, count-of-words (c .before .before .before .before .args .part .now))) (λ e. c .if2 .taken (omega arith)))
 
-word-at-requires-2 : tie.Need-word-at-requires-2
-word-at-requires-2 c κs = search needs
+member-of-requires : tie.Need-member-of-requires
+member-of-requires c κs = search needs
 
 cast-within : tie.Need-cast-within
 cast-within c = search needs
@@ -31,8 +30,8 @@ within-requires c κs = search needs
 
 returns-3 : tie.Need-returns-3
 returns-3 c =
-    sym (read-outside memberLayout (wordsOf (c .before .before .before .before .before .before .before .args .part .now)) (omega (arith, count-of-words (c .before .before .before .before .before .before .before .args .part .now))) (omega arith)
-    (outside-here _ _ (wordsOf (c .before .before .before .before .before .before .before .args .part .now)) (c .before .within .result) ((c .before .before .before .before .word-at .result) % 16777216) (c .before .within .ensures) (omega arith) (not-true _ (c .if3 .taken))))
+    sym (read-outside memberLayout (wordsOf (c .before .before .before .before .before .before .before .before .args .part .now)) (omega (arith, count-of-words (c .before .before .before .before .before .before .before .before .args .part .now))) (omega arith)
+    (outside-here _ _ (wordsOf (c .before .before .before .before .before .before .before .before .args .part .now)) (c .before .within .result) _ (c .before .within .ensures) (ap (λ (x : Member). x .isid) (c .before .before .before .member-of .ensures)) (not-true _ (c .if3 .taken))))
 
 cast-within-2 : tie.Need-cast-within-2
 cast-within-2 c = search needs
@@ -42,17 +41,17 @@ within-requires-2 c κs = search needs
 
 returns-4 : tie.Need-returns-4
 returns-4 c =
-    sym (read-outside memberLayout (wordsOf (c .before .before .before .before .before .before .before .before .before .args .part .now)) (omega (arith, count-of-words (c .before .before .before .before .before .before .before .before .before .args .part .now))) (omega arith)
-    (inside-here _ _ (wordsOf (c .before .before .before .before .before .before .before .before .before .args .part .now)) (c .before .before .before .within .result) ((c .before .before .before .before .before .before .word-at .result) % 16777216) (c .before .before .before .within .ensures) (omega arith) (not-false _ (c .before .before .if3 .left))
-    ∙ outside-here _ _ (wordsOf (c .before .before .before .before .before .before .before .before .before .args .part .now)) (c .before .within2 .result) ((c .before .before .before .before .word-at2 .result) % 65536) (c .before .within2 .ensures) (omega arith) (not-true _ (c .if4 .taken))))
+    sym (read-outside memberLayout (wordsOf (c .before .before .before .before .before .before .before .before .before .before .before .args .part .now)) (omega (arith, count-of-words (c .before .before .before .before .before .before .before .before .before .before .before .args .part .now))) (omega arith)
+    (inside-here _ _ (wordsOf (c .before .before .before .before .before .before .before .before .before .before .before .args .part .now)) (c .before .before .before .before .within .result) _ (c .before .before .before .before .within .ensures) (ap (λ (x : Member). x .isid) (c .before .before .before .before .before .before .member-of .ensures)) (not-false _ (c .before .before .before .if3 .left))
+    ∙ outside-here _ _ (wordsOf (c .before .before .before .before .before .before .before .before .before .before .before .args .part .now)) (c .before .within2 .result) _ (c .before .within2 .ensures) (ap (λ (x : Member). x .vid) (c .before .before .before .before .before .before .member-of .ensures)) (not-true _ (c .if4 .taken))))
 
 returns-5 : tie.Need-returns-5
 returns-5 c =
-    same-member ((c .before .before .before .before .before .before .word-at .result) / 33554432 % 2) ((c .before .before .before .before .before .before .word-at .result) / 16777216 % 2) (wordsOf (c .before .before .before .before .before .before .before .before .before .args .part .now)) (omega arith) (omega arith) (omega arith) (omega arith) (omega arith)
-    ∙ sym (read-whole memberLayout (wordsOf (c .before .before .before .before .before .before .before .before .before .args .part .now)) (omega (arith, count-of-words (c .before .before .before .before .before .before .before .before .before .args .part .now))) (omega arith)
-    (inside-here _ _ (wordsOf (c .before .before .before .before .before .before .before .before .before .args .part .now)) (c .before .before .before .within .result) ((c .before .before .before .before .before .before .word-at .result) % 16777216) (c .before .before .before .within .ensures) (omega arith) (not-false _ (c .before .before .if3 .left))
-    ∙ inside-here _ _ (wordsOf (c .before .before .before .before .before .before .before .before .before .args .part .now)) (c .before .within2 .result) ((c .before .before .before .before .word-at2 .result) % 65536) (c .before .within2 .ensures) (omega arith) (not-false _ (c .if4 .left))
-    ∙ inside-all (wordsOf (c .before .before .before .before .before .before .before .before .before .args .part .now))))
+    ap (λ (x : Member). whole (member x)) (c .before .before .before .before .before .before .member-of .ensures)
+    ∙ sym (read-whole memberLayout (wordsOf (c .before .before .before .before .before .before .before .before .before .before .before .args .part .now)) (omega (arith, count-of-words (c .before .before .before .before .before .before .before .before .before .before .before .args .part .now))) (omega arith)
+    (inside-here _ _ (wordsOf (c .before .before .before .before .before .before .before .before .before .before .before .args .part .now)) (c .before .before .before .before .within .result) _ (c .before .before .before .before .within .ensures) (ap (λ (x : Member). x .isid) (c .before .before .before .before .before .before .member-of .ensures)) (not-false _ (c .before .before .before .if3 .left))
+    ∙ inside-here _ _ (wordsOf (c .before .before .before .before .before .before .before .before .before .before .before .args .part .now)) (c .before .within2 .result) _ (c .before .within2 .ensures) (ap (λ (x : Member). x .vid) (c .before .before .before .before .before .before .member-of .ensures)) (not-false _ (c .if4 .left))
+    ∙ inside-all (wordsOf (c .before .before .before .before .before .before .before .before .before .before .before .args .part .now))))
 
 pub read-member-spec : {M : Type 1} → statement M
 read-member-spec =
@@ -61,7 +60,7 @@ read-member-spec =
     returns
     word-at-requires
     returns-2
-    word-at-requires-2
+    member-of-requires
     cast-within
     within-requires
     returns-3
