@@ -46,3 +46,7 @@ word-of-part n t = rw (words-of-part n t) (getD-drop n (wordsOf t) 0 0 ∙ ap (�
 -- The part of a list that is lent from `a` on.
 pub part-from : (a : ℕ) (t : List ℕ) → take (length t - a) (drop a t) ≡ drop a t
 part-from a t = take-all (length t - a) (drop a t) (omega (arith, length-drop a t))
+
+-- The words of the part of a table that is lent from the word `n` on.
+pub words-from : (n : ℕ) (t : List ℕ) → wordsOf (take (length t - 4 * n) (drop (4 * n) t)) ≡ drop n (wordsOf t)
+words-from n t = rw (part-from (4 * n) t) (words-of-part n t)

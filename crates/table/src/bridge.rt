@@ -3,8 +3,8 @@ use crate::words::two_words;
 use crate::words::within;
 use crate::words::word_at;
 ghost use mathlib.Core.Path.{_≡_};
-ghost use Prim.Native.Nat.{_≤_};
-ghost use lib.ListN.{length};
+ghost use Prim.Native.Nat.{_+_, _*_, _≤_};
+ghost use lib.ListN.{length, drop};
 ghost use Rattle.rule.specs.Words.{wordsOf};
 ghost use Rattle.rule.specs.Records.{bridgeLayout, bridgeOf};
 ghost use Rattle.table.specs.Readers.{bridgeValues, bridgeRead, readOf};
@@ -32,6 +32,15 @@ pub fn bridge_of(part: &[u8]) -> Bridge
         sp_source_id: first % 1048576,
         identifier: identifier,
     }
+}
+
+// The record whose first word is the word `word` of the table.
+pub fn bridge_at(table: &[u8], word: usize) -> Bridge
+    requires { ⌜ 4 * word + 12 ≤ length (now table) ⌝ }
+    ensures { λ r. ⌜ bridgeValues r ≡ bridgeOf (drop word (wordsOf (now (table .entry)))) ⌝ }
+{
+    let at = 4 * word;
+    bridge_of(&table[at..])
 }
 
 // Reads the part of the table that begins at the record's first word.

@@ -3,8 +3,8 @@ use crate::words::within;
 use crate::words::word_at;
 use rule::metric::Metric;
 ghost use mathlib.Core.Path.{_≡_};
-ghost use Prim.Native.Nat.{_≤_};
-ghost use lib.ListN.{length};
+ghost use Prim.Native.Nat.{_+_, _*_, _≤_};
+ghost use lib.ListN.{length, drop};
 ghost use Rattle.rule.specs.Words.{wordsOf};
 ghost use Rattle.rule.specs.Records.{halfLinkLayout, halfLinkOf};
 ghost use Rattle.table.specs.Readers.{halfLinkValues, halfLinkRead, readOf};
@@ -39,6 +39,15 @@ pub fn half_link_of(part: &[u8]) -> HalfLink
         port: place / 65536,
         link: place % 65536,
     }
+}
+
+// The record whose first word is the word `word` of the table.
+pub fn half_link_at(table: &[u8], word: usize) -> HalfLink
+    requires { ⌜ 4 * word + 12 ≤ length (now table) ⌝ }
+    ensures { λ r. ⌜ halfLinkValues r ≡ halfLinkOf (drop word (wordsOf (now (table .entry)))) ⌝ }
+{
+    let at = 4 * word;
+    half_link_of(&table[at..])
 }
 
 // Reads the part of the table that begins at the record's first word.

@@ -2,8 +2,8 @@
 use crate::words::within;
 use crate::words::word_at;
 ghost use mathlib.Core.Path.{_≡_};
-ghost use Prim.Native.Nat.{_≤_};
-ghost use lib.ListN.{length};
+ghost use Prim.Native.Nat.{_+_, _*_, _≤_};
+ghost use lib.ListN.{length, drop};
 ghost use Rattle.rule.specs.Words.{wordsOf};
 ghost use Rattle.rule.specs.Records.{memberLayout, memberOf};
 ghost use Rattle.table.specs.Readers.{memberValues, memberRead, readOf};
@@ -37,6 +37,15 @@ pub fn member_of(part: &[u8]) -> Member
         bridge: names / 65536,
         vid: names % 65536,
     }
+}
+
+// The record whose first word is the word `word` of the table.
+pub fn member_at(table: &[u8], word: usize) -> Member
+    requires { ⌜ 4 * word + 8 ≤ length (now table) ⌝ }
+    ensures { λ r. ⌜ memberValues r ≡ memberOf (drop word (wordsOf (now (table .entry)))) ⌝ }
+{
+    let at = 4 * word;
+    member_of(&table[at..])
 }
 
 // Reads the part of the table that begins at the record's first word.

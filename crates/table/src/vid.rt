@@ -3,8 +3,8 @@
 use crate::words::within;
 use crate::words::word_at;
 ghost use mathlib.Core.Path.{_≡_};
-ghost use Prim.Native.Nat.{_≤_};
-ghost use lib.ListN.{length};
+ghost use Prim.Native.Nat.{_+_, _*_, _≤_};
+ghost use lib.ListN.{length, drop};
 ghost use Rattle.rule.specs.Words.{wordsOf};
 ghost use Rattle.rule.specs.Records.{vidLayout, vidOf};
 ghost use Rattle.table.specs.Readers.{vidValues, vidRead, readOf};
@@ -30,6 +30,15 @@ pub fn vid_of(part: &[u8]) -> Vid
         vid: first / 65536 % 4096,
         index: first % 65536,
     }
+}
+
+// The record whose first word is the word `word` of the table.
+pub fn vid_at(table: &[u8], word: usize) -> Vid
+    requires { ⌜ 4 * word + 4 ≤ length (now table) ⌝ }
+    ensures { λ r. ⌜ vidValues r ≡ vidOf (drop word (wordsOf (now (table .entry)))) ⌝ }
+{
+    let at = 4 * word;
+    vid_of(&table[at..])
 }
 
 // Reads the part of the table that begins at the record's first word.
