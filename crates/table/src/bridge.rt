@@ -1,7 +1,7 @@
 // The reader of bridge records (01, "The table", kind 1).
-use crate::words::two_words;
-use crate::words::within;
 use crate::words::word_at;
+use rule::number::two_words;
+use rule::number::within;
 ghost use mathlib.Core.Path.{_≡_};
 ghost use Rattle.rule.specs.Words.{wordsOf};
 ghost use Rattle.rule.specs.Records.{bridgeLayout};

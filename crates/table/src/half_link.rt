@@ -1,7 +1,7 @@
 // The reader of half-link records (01, "The table", kind 2).
-use crate::words::within;
 use crate::words::word_at;
 use rule::metric::Metric;
+use rule::number::within;
 ghost use mathlib.Core.Path.{_≡_};
 ghost use Rattle.rule.specs.Words.{wordsOf};
 ghost use Rattle.rule.specs.Records.{halfLinkLayout};

@@ -1,6 +1,6 @@
 // The reader of member records (01, "The table", kind 4).
-use crate::words::within;
 use crate::words::word_at;
+use rule::number::within;
 ghost use mathlib.Core.Path.{_≡_};
 ghost use Rattle.rule.specs.Words.{wordsOf};
 ghost use Rattle.rule.specs.Records.{memberLayout};

@@ -1,6 +1,6 @@
 // The reader of VID records (01, "The table", kind 3). All their bits are in use.
-use crate::words::within;
 use crate::words::word_at;
+use rule::number::within;
 ghost use mathlib.Core.Path.{_≡_};
 ghost use Rattle.rule.specs.Words.{wordsOf};
 ghost use Rattle.rule.specs.Records.{vidLayout};
