@@ -1,24 +1,16 @@
 -- When an entry is faulty, test by test in the order of the code, and when it matches.
 -- Assumes nothing.
-use Prim.Native.Nat.{ℕ, _+_, _<_, _%_}
+use Prim.Native.Nat.{ℕ, _+_, _<_}
 use native.Mathlib.Omega.{arith}
-use mathlib.Core.Path.{_≡_, refl}
+use mathlib.Core.Path.{_≡_}
 use mathlib.Core.Logic.{_⊎_, inl, inr}
-use mathlib.Core.Bool.{Bool, true, false, not, _||_, _&&_}
+use mathlib.Core.Bool.{Bool, true, false, not, _||_, or-true, or-false}
 use lib.Dec.{eqb}
 use borrow.Author.Tests.{eq-eqb, ne-eqb}
 use Rattle.graph.specs.ListLaws.{same-or-not}
 use Rattle.rule.specs.Records.{inLimits, vidLimits, portLimits, groupBit}
 use Rattle.rule.specs.Entries.{Entry}
 use Rattle.rule.specs.Lookup.{faultyEntry}
-
-or-true : (b : Bool) → (b || true) ≡ true
-or-true true = refl
-or-true false = refl
-
-or-false : (b : Bool) → (b || false) ≡ b
-or-false true = refl
-or-false false = refl
 
 -- A kind other than 8 and 9 agrees with neither group bit.
 kind-by-group-bit : (kind bit : ℕ) → bit < 2 → (not (eqb kind 8 || eqb kind 9) || not (eqb (8 + bit) kind)) ≡ not (eqb (8 + bit) kind)

@@ -4,11 +4,11 @@ use Prim.Native.Nat.{ℕ, zero, suc, _+_, _-_, _≤_, _<_}
 use native.Mathlib.Omega.{arith}
 use mathlib.Core.Path.{_≡_, refl, sym, ap, _∙_}
 use mathlib.Core.List.{List, [], _∷_, map}
-use mathlib.Core.Option.{Option, none, some}
+use mathlib.Core.Option.{none, some}
 use mathlib.Core.Logic.{_⊎_, inl, inr}
 use mathlib.Core.Bool.{Bool, true, false, _||_, _&&_}
 use lib.Dec.{eqb, ltb}
-use lib.ListN.{length, getD, drop, getElem?, length-drop}
+use lib.ListN.{length, drop, getElem?, length-drop}
 use borrow.Author.Tests.{lt-ltb, le-ltb}
 use Rattle.graph.specs.Lists.{consIf, filter}
 use Rattle.graph.specs.ListLaws.{le-or-gt, drop-next}
