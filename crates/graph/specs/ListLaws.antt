@@ -8,7 +8,8 @@ use mathlib.Core.Option.{Option, none, some}
 use mathlib.Core.Logic.{_⊎_, inl, inr}
 use mathlib.Core.Bool.{Bool, true, false, cond, not, _||_}
 use lib.Dec.{T, leb, eqb, leb→le, nleb→lt, eqb→eq, eqb-refl}
-use lib.ListN.{length, length-append}
+use lib.ListN.{length, getD, drop, length-append}
+use lib.Seq.{drop-cons}
 use Rattle.graph.specs.Lists.{rising, consIf, filter, any, lowerOf, lowestBy}
 use Rattle.graph.specs.Members.{In, Distinct, lastOf, HasPart, along, times}
 
@@ -69,6 +70,10 @@ module _ {A : Type 0} where
   pub append-empty : (xs ys : List A) → xs ++ ys ≡ [] → (xs ≡ []) × (ys ≡ [])
   append-empty [] ys e = (refl, e)
   append-empty (x ∷ xs) ys e = absurd (nil-not-cons (sym e))
+
+  -- From one place on: what stands there, and the list from the next place on.
+  pub drop-next : (xs : List A) (i j : ℕ) (d : A) → j ≡ suc i → i < length xs → drop i xs ≡ getD xs i d ∷ drop j xs
+  drop-next xs i j d e h = drop-cons xs i d h ∙ ap (λ (k : ℕ). getD xs i d ∷ drop k xs) (sym e)
 
   -- The last of a list
 

@@ -2,3 +2,4 @@
 pub mod answer;
 pub mod measure;
 pub mod metric;
+pub mod number;

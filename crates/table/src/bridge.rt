@@ -1,7 +1,7 @@
 // Bridge records (01, "The table", kind 1): the record at the beginning of a part, and the reader that tests it.
-use crate::words::two_words;
-use crate::words::within;
 use crate::words::word_at;
+use rule::number::two_words;
+use rule::number::within;
 ghost use mathlib.Core.Path.{_≡_};
 ghost use Prim.Native.Nat.{_+_, _*_, _≤_};
 ghost use lib.ListN.{length, drop};

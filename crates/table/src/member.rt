@@ -1,6 +1,6 @@
 // Member records (01, "The table", kind 4): the record at the beginning of a part, and the reader that tests it.
-use crate::words::within;
 use crate::words::word_at;
+use rule::number::within;
 ghost use mathlib.Core.Path.{_≡_};
 ghost use Prim.Native.Nat.{_+_, _*_, _≤_};
 ghost use lib.ListN.{length, drop};

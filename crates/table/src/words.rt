@@ -1,9 +1,8 @@
-// Words of a part of a table, and limits.
+// Words of a part of a table.
 ghost use mathlib.Core.Path.{_≡_};
 ghost use Prim.Native.Nat.{_+_, _*_, _<_, _≤_};
 ghost use lib.ListN.{length};
 ghost use Rattle.rule.specs.Words.{word, wordsOf};
-ghost use Rattle.rule.specs.Records.{inLimits};
 
 fn wide(b: u8) -> u32
     ensures { λ r. ⌜ (r ≡ b) × (r < 256) ⌝ }
@@ -26,21 +25,4 @@ pub fn word_at(part: &[u8], n: usize) -> u32
 {
     let at = 4 * n;
     first_word(&part[at..])
-}
-
-// Two words as one number of 64 bits.
-pub fn two_words(upper: u32, lower: u32) -> u64
-    ensures { λ r. ⌜ r ≡ upper * 4294967296 + lower ⌝ }
-{
-    upper as u64 * 4294967296 + lower as u64
-}
-
-// Whether a value is within its limits.
-pub fn within(value: u64, least: u64, greatest: u64) -> bool
-    ensures { λ r. ⌜ r ≡ inLimits (record { least = least; greatest = greatest }) value ⌝ }
-{
-    if value < least {
-        return false;
-    }
-    value <= greatest
 }

@@ -1,7 +1,7 @@
--- `table::words::within` tests the limits, the lower first. Assumes nothing.
+-- `rule::number::within` tests the limits, the lower first. Assumes nothing.
 use borrow.Author.Tests.{lt-leb, le-leb}
-use Rattle.table.proofs.words.within.Statement.{statement}
-use Rattle.table.proofs.words.within.Tie as tie
+use Rattle.rule.proofs.number.within.Statement.{statement}
+use Rattle.rule.proofs.number.within.Tie as tie
 
 returns : tie.Need-returns
 returns c = simp (lt-leb _ _ (c .if1 .taken))

@@ -1,0 +1,17 @@
+-- `ect::mask::masked_identifier` masks all eight bytes: one XOR with the mask spread over them. Assumes nothing.
+use native.Mathlib.Omega.{arith}
+use mathlib.Core.Path.{_∙_, ap}
+use lib.Bits.{bitXor}
+use Rattle.ect.specs.MaskLaws.{eight-bytes}
+use borrow.Author.Needs.{needs}
+use Rattle.ect.proofs.mask.masked_identifier.Statement.{statement}
+use Rattle.ect.proofs.mask.masked_identifier.Tie as tie
+
+spread-mask-requires : tie.Need-spread-mask-requires
+spread-mask-requires c κs = search needs
+
+returns : tie.Need-returns
+returns c = ap (bitXor (c .before .args .identifier)) (c .spread-mask .ensures) ∙ eight-bytes (c .before .args .mask) (c .before .args .identifier) (omega arith) (omega arith)
+
+pub masked-identifier-spec : {M : Type 1} → statement M
+masked-identifier-spec = tie.close (tie.spec spread-mask-requires returns)

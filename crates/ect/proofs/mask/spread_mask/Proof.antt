@@ -1,0 +1,15 @@
+-- `ect::mask::spread_mask` puts the mask into each of eight bytes. Assumes nothing.
+use Rattle.ect.specs.MaskLaws.{spread}
+use borrow.Author.Needs.{needs}
+use Rattle.ect.proofs.mask.spread_mask.Statement.{statement}
+use Rattle.ect.proofs.mask.spread_mask.Tie as tie
+
+mul-result : tie.Need-mul-result
+mul-result c = search needs
+
+returns : tie.Need-returns
+unfolding spread
+returns c = search needs
+
+pub spread-mask-spec : {M : Type 1} → statement M
+spread-mask-spec = tie.close (tie.spec mul-result returns)

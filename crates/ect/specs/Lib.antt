@@ -1,0 +1,6 @@
+-- Rows of masked identifiers in one list, and the laws behind masking, insertion and comparison.
+pub mod MaskLaws
+pub mod Rows
+pub mod RowLaws
+pub mod InsertionLaws
+pub mod ComparisonLaws

@@ -1,0 +1,27 @@
+-- Rows: one list with 64 places for each bridge (01, "The table": up to 64), of which the bridge's row fills the first.
+-- Assumes nothing.
+use Prim.Native.Nat.{ℕ, _+_, _*_, _≤_, _<_}
+use mathlib.Core.Path.{_≡_}
+use mathlib.Core.List.{List}
+use lib.ListN.{length, take, drop}
+use Rattle.graph.specs.OrderLaws.{Upward}
+
+-- Where the row of a bridge begins.
+abbrev pub rowPlace : ℕ → ℕ
+rowPlace bridge = bridge * 64
+
+-- The row of a bridge, of `count` keys.
+abbrev pub rowOf : List ℕ → ℕ → ℕ → List ℕ
+rowOf rows bridge count = take count (drop (rowPlace bridge) rows)
+
+-- The list has all places of a bridge.
+abbrev pub HasRow : List ℕ → ℕ → Type 0
+HasRow rows bridge = rowPlace bridge + 64 ≤ length rows
+
+-- The row of `count` keys of the bridge `from` can be written to the bridge `to` with one key more.
+pub record Insertable (rows : List ℕ) (from to count : ℕ) : Type 0 where
+  pub apart : from ≡ to → ⊥
+  pub room : count < 64
+  pub has-from : HasRow rows from
+  pub has-to : HasRow rows to
+  pub upward : Upward (rowOf rows from count)

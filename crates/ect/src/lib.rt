@@ -1,0 +1,3 @@
+// Equal cost trees (01, "The chosen path"): masks, masked identifiers, and rows of them sorted upward.
+pub mod mask;
+pub mod row;

@@ -1,0 +1,82 @@
+-- `lookup::entry::is_faulty` finds what 14 calls a fault of one entry: each test of the code is one of `faultyEntry`. Assumes nothing.
+use native.Mathlib.Omega.{arith}
+use Prim.Native.Nat.{_%_, _/_}
+use mathlib.Core.Path.{sym}
+use borrow.Author.Tests.{not-true, not-false}
+use Rattle.rule.specs.Words.{bits}
+use Rattle.rule.specs.Lookup.{entryOf}
+use Rattle.lookup.specs.EntryLaws.{vid-outside, port-outside, zero-bit-set, by-group-bit}
+use borrow.Author.Needs.{needs}
+use Rattle.lookup.proofs.entry.is_faulty.Statement.{statement}
+use Rattle.lookup.proofs.entry.is_faulty.Tie as tie
+
+vid-of-requires : tie.Need-vid-of-requires
+vid-of-requires c κs = search needs
+
+cast-within : tie.Need-cast-within
+cast-within c = search needs
+
+within-requires : tie.Need-within-requires
+within-requires c κs = search needs
+
+returns : tie.Need-returns
+returns c =
+    sym (vid-outside (entryOf (c .before .before .before .args .first) (c .before .before .before .args .upper) (c .before .before .before .args .lower)) (bits (c .before .before .before .args .upper) 31 16)
+    (c .before .within .result) (c .before .before .vid-of .result) (c .before .within .ensures) (c .before .before .vid-of .ensures .0) (not-true _ (c .if1 .taken)))
+
+port-of-requires : tie.Need-port-of-requires
+port-of-requires c κs = search needs
+
+cast-within-2 : tie.Need-cast-within-2
+cast-within-2 c = search needs
+
+within-requires-2 : tie.Need-within-requires-2
+within-requires-2 c κs = search needs
+
+returns-2 : tie.Need-returns-2
+returns-2 c =
+    sym (port-outside (entryOf (c .before .before .before .before .before .before .args .first) (c .before .before .before .before .before .before .args .upper) (c .before .before .before .before .before .before .args .lower)) (bits (c .before .before .before .before .before .before .args .upper) 31 16)
+    (c .before .within2 .result) (c .before .before .port-of .result) (c .before .within2 .ensures) (c .before .before .port-of .ensures .0) (not-true _ (c .if2 .taken)))
+
+returns-3 : tie.Need-returns-3
+returns-3 c =
+    sym (zero-bit-set (entryOf (c .before .before .before .before .before .before .before .args .first) (c .before .before .before .before .before .before .before .args .upper) (c .before .before .before .before .before .before .before .args .lower)) (bits (c .before .before .before .before .before .before .before .args .upper) 31 16)
+    (λ e. c .if3 .taken (omega arith)))
+
+address-of-requires : tie.Need-address-of-requires
+address-of-requires c κs = search needs
+
+add-result : tie.Need-add-result
+add-result c = search needs
+
+kind-of-requires : tie.Need-kind-of-requires
+kind-of-requires c κs = search needs
+
+cast-result : tie.Need-cast-result
+cast-result c = search needs
+
+returns-4 : tie.Need-returns-4
+returns-4 c =
+    sym (by-group-bit (entryOf (c .before .before .before .before .before .before .before .before .before .args .first) (c .before .before .before .before .before .before .before .before .before .args .upper) (c .before .before .before .before .before .before .before .before .before .args .lower)) (bits (c .before .before .before .before .before .before .before .before .before .args .upper) 31 16)
+    _ _ _ _ (c .before .before .before .before .before .before .before .within .ensures) (c .before .before .before .before .before .before .before .before .vid-of .ensures .0) (not-false _ (c .before .before .before .before .before .before .if1 .left))
+    (c .before .before .before .before .within2 .ensures) (c .before .before .before .before .before .port-of .ensures .0) (not-false _ (c .before .before .before .if2 .left)) (omega arith)
+    _ _ (omega arith) (c .kind-of .ensures))
+
+pub is-faulty-spec : {M : Type 1} → statement M
+is-faulty-spec =
+    tie.close
+    (tie.spec
+    vid-of-requires
+    cast-within
+    within-requires
+    returns
+    port-of-requires
+    cast-within-2
+    within-requires-2
+    returns-2
+    returns-3
+    address-of-requires
+    add-result
+    kind-of-requires
+    cast-result
+    returns-4)
