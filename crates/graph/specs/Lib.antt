@@ -6,6 +6,7 @@ pub mod Chosen
 pub mod Figures
 pub mod Members
 pub mod ListLaws
+pub mod Searching
 pub mod Splices
 pub mod OrderLaws
 pub mod Notions

@@ -1,6 +1,6 @@
 -- An index of keys in a list of 1,536 numbers: for each of 512 remainders the last place whose key has it; then the keys; then for
 -- each place the last place before it whose key has the same remainder. Assumes nothing.
-use Prim.Native.Nat.{ℕ, zero, suc, _+_, _/_, _%_, _≤_, _<_}
+use Prim.Native.Nat.{ℕ, zero, suc, _+_, _*_, _/_, _%_, _≤_, _<_}
 use mathlib.Core.Path.{_≡_}
 use mathlib.Core.List.{List}
 use mathlib.Core.Bool.{Bool}
@@ -8,9 +8,10 @@ use lib.Dec.{eqb}
 use lib.ListN.{length, getD}
 use Rattle.index.specs.Places.{lastPlace}
 
--- Both the low and the high digits of a key count, so that keys that differ in either alone fall to different chains.
+-- A step of a key's upper half counts as eight of its lower half, so that the first few ports of many bridges, and the many ports
+-- of one, fall to different chains.
 abbrev pub remainder : ℕ → ℕ
-remainder key = (key / 512 + key % 512) % 512
+remainder key = (key / 65536 * 8 + key % 65536) % 512
 
 -- The key of the place `suc i`.
 abbrev pub keyAt : List ℕ → ℕ → ℕ

@@ -8,11 +8,11 @@ ghost use Rattle.index.specs.Places.{lastPlace};
 pub fn chain_of(key: u32) -> u32
     ensures { λ r. ⌜ (r ≡ remainder key) × (r < 512) ⌝ }
 {
-    (key / 512 + key % 512) % 512
+    (key / 65536 * 8 + key % 65536) % 512
 }
 
 // The last place up to `from`, a place of the key's chain, that holds the key.
-fn last_in_chain(index: &[u32], count: u32, from: u32, key: u32) -> u32
+fn last_in_chain(index: &[u32], count: usize, from: u32, key: u32) -> u32
     requires { ⌜ Indexed (now index) count × InChain (now index) count from key ⌝ }
     ensures { λ r. ⌜ r ≡ lastPlace (holds (now (index .entry)) key) from ⌝ }
 {
@@ -28,7 +28,7 @@ fn last_in_chain(index: &[u32], count: u32, from: u32, key: u32) -> u32
 }
 
 // The last of the `count` places that holds the key.
-pub fn last_place(index: &[u32], count: u32, key: u32) -> u32
+pub fn last_place(index: &[u32], count: usize, key: u32) -> u32
     requires { ⌜ Indexed (now index) count ⌝ }
     ensures { λ r. ⌜ r ≡ lastPlace (holds (now (index .entry)) key) count ⌝ }
 {
@@ -37,7 +37,7 @@ pub fn last_place(index: &[u32], count: u32, key: u32) -> u32
 }
 
 // The last place before `place` that holds the key which `place` holds.
-pub fn place_before(index: &[u32], count: u32, place: u32) -> u32
+pub fn place_before(index: &[u32], count: usize, place: u32) -> u32
     requires { ⌜ Indexed (now index) count × (1 ≤ place) × (place ≤ count) ⌝ }
     ensures { λ r. ⌜ r ≡ earlierPlace (now (index .entry)) place ⌝ }
 {

@@ -5,13 +5,12 @@ ghost use Prim.Native.Nat.{_+_, _<_};
 ghost use Rattle.index.specs.Index.{Indexed, Entered};
 
 // Enters the key at the place after the `count` places that are taken.
-pub fn enter(index: &mut [u32], count: u32, key: u32)
+pub fn enter(index: &mut [u32], count: usize, key: u32)
     requires { ⌜ Indexed (now index) count × (count < 512) ⌝ }
     ensures { λ r. ⌜ Entered (now (index .entry)) (now (index .exit)) count key ⌝ }
 {
     let chain = chain_of(key) as usize;
-    let at = count as usize;
-    index[1024 + at] = index[chain];
-    index[512 + at] = key;
-    index[chain] = count + 1;
+    index[1024 + count] = index[chain];
+    index[512 + count] = key;
+    index[chain] = count as u32 + 1;
 }

@@ -8,7 +8,7 @@ use lib.Dec.{eqb, leb, ltb}
 use lib.ListN.{length, drop}
 use Rattle.graph.specs.Lists.{filter, any}
 use Rattle.rule.specs.Words.{wordsOf, bits}
-use Rattle.rule.specs.Records.{HalfLink, Record, bridge, halfLink, vid, member, end, address, endCount, Layout, layoutOf, Range, inLimits}
+use Rattle.rule.specs.Records.{Bridge, HalfLink, Member, Record, bridge, halfLink, vid, member, end, address, endCount, Layout, layoutOf, Range, inLimits}
 use Rattle.rule.specs.Outcome.{Outcome, answered, refused, refusedIf}
 use Rattle.rule.specs.Plan.{Plan, noRecords, withRecord, alike, knownBridge, knownVid}
 
@@ -32,25 +32,40 @@ unknownName p (vid v) = false
 unknownName p (member m) = not (knownBridge p (m .bridge)) || not (knownVid p (m .vid))
 unknownName p (end n) = false
 
--- 8. "A record repeats an earlier one's address, SPsourceID, near bridge with port, VID, or bridge with I-SID and VID."
+-- 8. "A record repeats an earlier one's address, SPsourceID, near bridge with port, VID, or bridge with I-SID and VID": the record,
+-- and the earlier one.
+abbrev pub repeatsBridge : Bridge → Bridge → Bool
+repeatsBridge b e = eqb (address e) (address b) || eqb (e .spSourceId) (b .spSourceId)
+
+abbrev pub repeatsPort : HalfLink → HalfLink → Bool
+repeatsPort h e = eqb (e .near) (h .near) && eqb (e .port) (h .port)
+
+abbrev pub repeatsMember : Member → Member → Bool
+repeatsMember m e = eqb (e .bridge) (m .bridge) && eqb (e .isid) (m .isid) && eqb (e .vid) (m .vid)
+
 abbrev pub repeated : Plan → Record → Bool
-repeated p (bridge b) = any (λ e. eqb (address e) (address b) || eqb (e .spSourceId) (b .spSourceId)) (p .bridges)
-repeated p (halfLink h) = any (λ e. eqb (e .near) (h .near) && eqb (e .port) (h .port)) (p .halfLinks)
-repeated p (vid v) = any (λ e. eqb (e .vid) (v .vid)) (p .vids)
-repeated p (member m) =
-    any (λ e. eqb (e .bridge) (m .bridge) && eqb (e .isid) (m .isid) && eqb (e .vid) (m .vid)) (p .members)
+repeated p (bridge b) = any (repeatsBridge b) (p .bridges)
+repeated p (halfLink h) = any (repeatsPort h) (p .halfLinks)
+repeated p (vid v) = knownVid p (v .vid)
+repeated p (member m) = any (repeatsMember m) (p .members)
 repeated p (end n) = false
 
 -- 9. "It is a third half-link of a link number, or the second and no mirror of the first": `earlier` are the half-links before
 -- it with its link number.
+abbrev pub mirrors : HalfLink → HalfLink → Bool
+mirrors h e = eqb (h .near) (e .far) && eqb (h .far) (e .near)
+
 abbrev pub wrongHalf : HalfLink → List HalfLink → Bool
 wrongHalf h [] = false
-wrongHalf h (e ∷ []) = not (eqb (h .near) (e .far) && eqb (h .far) (e .near))
+wrongHalf h (e ∷ []) = not (mirrors h e)
 wrongHalf h (e ∷ f ∷ es) = true
+
+abbrev pub hasLink : ℕ → HalfLink → Bool
+hasLink n h = eqb (h .link) n
 
 abbrev pub wrongLink : Plan → Record → Bool
 wrongLink p (bridge b) = false
-wrongLink p (halfLink h) = wrongHalf h (filter (λ e. eqb (e .link) (h .link)) (p .halfLinks))
+wrongLink p (halfLink h) = wrongHalf h (filter (hasLink (h .link)) (p .halfLinks))
 wrongLink p (vid v) = false
 wrongLink p (member m) = false
 wrongLink p (end n) = false

@@ -45,9 +45,12 @@ knownBridge p n = ltb n (length (p .bridges))
 abbrev pub bridgeAt : Plan → ℕ → Bridge
 bridgeAt p n = getD (p .bridges) n (record { spSourceId = 0; identifier = 0 })
 
+abbrev pub hasVid : ℕ → Vid → Bool
+hasVid n v = eqb (v .vid) n
+
 -- The record of a VID, or none.
 abbrev pub vidRecord : Plan → ℕ → Option Vid
-vidRecord p n = getElem? (filter (λ v. eqb (v .vid) n) (p .vids)) 0
+vidRecord p n = getElem? (filter (hasVid n) (p .vids)) 0
 
 abbrev pub knownVid : Plan → ℕ → Bool
-knownVid p n = any (λ v. eqb (v .vid) n) (p .vids)
+knownVid p n = any (hasVid n) (p .vids)

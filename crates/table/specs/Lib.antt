@@ -2,3 +2,4 @@
 pub mod WordLaws
 pub mod Readers
 pub mod Positions
+pub mod PositionLaws

@@ -36,6 +36,9 @@ mul-index-3 c = search needs
 slice-write-index-2 : tie.Need-slice-write-index-2
 slice-write-index-2 c = simp length-set (omega arith)
 
+cast-index : tie.Need-cast-index
+cast-index c = search needs
+
 add-index-3 : tie.Need-add-index-3
 add-index-3 c = search needs
 
@@ -65,6 +68,7 @@ enter-spec =
     add-index-2
     mul-index-3
     slice-write-index-2
+    cast-index
     add-index-3
     mul-index-4
     slice-write-index-3

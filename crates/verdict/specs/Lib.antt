@@ -1,0 +1,2 @@
+-- What the functions of the check compute, and the laws that link them to the verdict.
+pub mod HalfLinks
