@@ -1,4 +1,4 @@
--- Being in a list, having nothing twice, how often, the last of a list, and its neighbours: what laws speak of. Their laws stand in ListLaws.
+-- Being in a list, having nothing twice, how often, relations along a list, its last and its neighbours: what laws speak of. Their laws stand in ListLaws.
 -- Assumes nothing.
 use Prim.Native.Nat.{ℕ, _+_}
 use mathlib.Core.Path.{_≡_}
@@ -17,6 +17,11 @@ module _ {A : Type 0} where
   abbrev pub Distinct : List A → Type 0
   Distinct [] = Unit {0}
   Distinct (x ∷ xs) = (In x xs → ⊥) × Distinct xs
+
+  -- The relation holds between each of the list and every later one.
+  abbrev pub Pairwise : (A → A → Type 0) → List A → Type 0
+  Pairwise R [] = Unit {0}
+  Pairwise R (x ∷ xs) = ((y : A) → In y xs → R x y) × Pairwise R xs
 
   -- The last of `u` and the list after it.
   abbrev pub lastOf : A → List A → A

@@ -17,3 +17,5 @@ pub mod Tables
 pub mod Figures
 pub mod Worked
 pub mod Demand3
+pub mod PlanLaws
+pub mod Accepted
