@@ -19,3 +19,5 @@ pub mod Worked
 pub mod Demand3
 pub mod PlanLaws
 pub mod Accepted
+pub mod LinkLaws
+pub mod IdentifierLaws
