@@ -593,6 +593,22 @@ module _ {A B : Type 0} where
   flatMap-only f a (x ∷ xs) d (inl e) h = rw e (ap (λ (t : List B). f x ++ t) (flatMap-none f xs (λ y k. h y (inr k) (λ g. d .0 (subst (λ (z : A). In z xs) (g ∙ e) k)))) ∙ append-nil (f x))
   flatMap-only f a (x ∷ xs) d (inr k) h = rw (h x (inl refl) (λ e. d .0 (subst (λ (z : A). In z xs) (sym e) k))) (flatMap-only f a xs (d .1) k (λ y l. h y (inr l)))
 
+  -- Where all that one of a list gives passes a test, and nothing that another gives, what passes is what that one gives.
+  pub filter-flatMap-only :
+      (test : B → Bool)
+      (f : A → List B)
+      (a : A)
+      (xs : List A) →
+      Distinct xs →
+      In a xs →
+      ((b : B) → In b (f a) → T (test b)) →
+      ((x : A) → In x xs → (x ≡ a → ⊥) → (b : B) → In b (f x) → T (test b) → ⊥) →
+      filter test (flatMap f xs) ≡ f a
+  filter-flatMap-only test f a xs d k h n =
+      filter-flatMap test f xs
+      ∙ flatMap-only (λ x. filter test (f x)) a xs d k (λ x i m. filter-none test (f x) (n x i m))
+      ∙ filter-all test (f a) h
+
   -- What gives at most one of each that passes a test, and nothing of another, gives at most as many as pass.
   pub length-flatMap-filter : (test : A → Bool) (f : A → List B) (xs : List A) → ((x : A) → length (f x) ≤ 1) → ((x : A) → In x xs → (T (test x) → ⊥) → f x ≡ [])
       → length (flatMap f xs) ≤ length (filter test xs)

@@ -21,3 +21,4 @@ pub mod PlanLaws
 pub mod Accepted
 pub mod LinkLaws
 pub mod IdentifierLaws
+pub mod EntryLaws

@@ -139,7 +139,7 @@ module _ (p : Plan) (L : PlanLaws p) where
 
   -- A link is determined by its number and the bridge from which it is seen.
   pub one-link : (l k : Link) → Usable (p .halfLinks) l → Usable (p .halfLinks) k → number l ≡ number k → from l ≡ from k → l ≡ k
-  one-link l k U W e f = ap (λ (h : HalfLink). record { here = h; there = l .there }) here ∙ ap (λ (h : HalfLink). record { here = k .here; there = h }) there
+  one-link l k U W e f = λ i. record { here = here i; there = there i }
     where
       here : l .here ≡ k .here
       here = one-half (l .here) (k .here) (U .here-listed) (W .here-listed) e f
