@@ -22,3 +22,4 @@ pub mod Accepted
 pub mod LinkLaws
 pub mod IdentifierLaws
 pub mod EntryLaws
+pub mod FrameLaws
