@@ -16,7 +16,7 @@ use Rattle.graph.specs.Notions.{Least, Leaves}
 use Rattle.graph.specs.ListLaws.{eqb-same, eqb-other, nil-not-cons, along-reverse, map-reverse, map-injective}
 use Rattle.graph.specs.Paths.{end-inside}
 use Rattle.graph.specs.ChosenPaths.{chosen-first, chosen-reverse}
-use Rattle.graph.specs.Enumeration.{is-chosen, no-path-none, chosen-or-no-path}
+use Rattle.graph.specs.Enumeration.{chosen-is, is-chosen, no-path-none, chosen-or-no-path}
 use Rattle.graph.specs.Forwarding.{chosen-after, chosen-other, arrival}
 use Rattle.rule.specs.Records.{HalfLink, Vid, address}
 use Rattle.rule.specs.Plan.{Plan, bridgeAt}
@@ -35,6 +35,10 @@ module _ (p : Plan) (L : PlanLaws p) (index : ℕ) where
   pub chosen-is-path : (a b : ℕ) (q : List ℕ) → Chosen (graphOf p) (keyOf p index) a b q → chosenPath p index a b ≡ some q
   unfolding chosenPath
   chosen-is-path a b q P = is-chosen (graphOf p) (graph-laws p L) (keyOf p index) (key-laws p L index) a b q P
+
+  pub path-is-chosen : (a b : ℕ) (q : List ℕ) → chosenPath p index a b ≡ some q → Chosen (graphOf p) (keyOf p index) a b q
+  unfolding chosenPath
+  path-is-chosen a b q e = chosen-is (graphOf p) (graph-laws p L) (keyOf p index) (key-laws p L index) a b q e
 
   pub no-path-is-none : (a b : ℕ) → ((q : List ℕ) → Path (graphOf p) a b q → ⊥) → chosenPath p index a b ≡ none
   unfolding chosenPath

@@ -23,3 +23,4 @@ pub mod LinkLaws
 pub mod IdentifierLaws
 pub mod EntryLaws
 pub mod FrameLaws
+pub mod GroupLaws
