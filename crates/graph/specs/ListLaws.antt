@@ -524,6 +524,14 @@ module _ {A : Type 0} where
   distinct-places (x ∷ xs) d D (suc i) zero l m e = absurd (D .0 (subst (λ (y : A). In y xs) e (place-in xs i d (omega arith))))
   distinct-places (x ∷ xs) d D (suc i) (suc j) l m e = ap suc (distinct-places xs d (D .1) i j (omega arith) (omega arith) e)
 
+  -- Lists of one length in front of others are equal where the wholes are.
+  pub append-same : (xs ys us vs : List A) → length xs ≡ length ys → xs ++ us ≡ ys ++ vs → xs ≡ ys
+  append-same [] [] us vs l e = refl
+  append-same [] (y ∷ ys) us vs l e = absurd (omega arith)
+  append-same (x ∷ xs) [] us vs l e = absurd (omega arith)
+  append-same (x ∷ xs) (y ∷ ys) us vs l e = let f : xs ++ us ≡ ys ++ vs = cc in let g : x ≡ y = cc in
+      let h : xs ≡ ys = append-same xs ys us vs (omega arith) f in cc
+
   pub first-in : (xs : List A) (a : A) → getElem? xs 0 ≡ some a → In a xs
   first-in [] a e = absurd (none-not-some e)
   first-in (x ∷ xs) a e = inl (let f : a ≡ x = cc in f)

@@ -24,3 +24,5 @@ pub mod IdentifierLaws
 pub mod EntryLaws
 pub mod FrameLaws
 pub mod GroupLaws
+pub mod CallLaws
+pub mod Demand3Proved
