@@ -10,7 +10,7 @@ use mathlib.Core.Bool.{Bool, true, false, cond, not, _&&_, _||_}
 use lib.Dec.{T, leb, eqb, leb→le, nleb→lt, eqb→eq, eqb-refl}
 use lib.ListN.{length, getD, getElem?, length-append, length-map}
 use Rattle.graph.specs.Lists.{rising, consIf, filter, any, lowerOf, lowestBy}
-use Rattle.graph.specs.Members.{In, Distinct, Pairwise, lastOf, HasPart, along, times}
+use Rattle.graph.specs.Members.{In, Distinct, Pairwise, lastOf, HasPart, total, along, times}
 
 -- Numbers
 
@@ -617,22 +617,6 @@ module _ {A B : Type 0} where
       ∙ flatMap-only (λ x. filter test (f x)) a xs d k (λ x i m. filter-none test (f x) (n x i m))
       ∙ filter-all test (f a) h
 
-  -- What gives at most one of each that passes a test, and nothing of another, gives at most as many as pass.
-  pub length-flatMap-filter : (test : A → Bool) (f : A → List B) (xs : List A) → ((x : A) → length (f x) ≤ 1) → ((x : A) → In x xs → (T (test x) → ⊥) → f x ≡ [])
-      → length (flatMap f xs) ≤ length (filter test xs)
-  unfolding flatMap filter
-  length-flatMap-filter test f [] l h = omega arith
-  length-flatMap-filter test f (x ∷ xs) l h = go (test x) (h x (inl refl)) (length-flatMap-filter test f xs l (λ y k. h y (inr k)))
-    where
-      go : (b : Bool) → ((T b → ⊥) → f x ≡ []) → length (flatMap f xs) ≤ length (filter test xs) → length (f x ++ flatMap f xs) ≤ length (consIf b x (filter test xs))
-      go true g i = omega (arith, l x, length-append (f x) (flatMap f xs))
-      go false g i = rw (g (λ h. h)) i
-
-  pub length-flatMap : (f : A → List B) (n : ℕ) (xs : List A) → ((x : A) → In x xs → length (f x) ≤ n) → length (flatMap f xs) ≤ length xs * n
-  unfolding flatMap
-  length-flatMap f n [] h = omega arith
-  length-flatMap f n (x ∷ xs) h = omega (arith, length-append (f x) (flatMap f xs), h x (inl refl), length-flatMap f n xs (λ y k. h y (inr k)))
-
   pub length-flatMap-each : (f : A → List B) (n : ℕ) (xs : List A) → ((x : A) → In x xs → length (f x) ≡ n) → length (flatMap f xs) ≡ length xs * n
   unfolding flatMap
   length-flatMap-each f n [] h = omega arith
@@ -666,3 +650,47 @@ module _ {A B C : Type 0} where
   unfolding flatMap
   map-flatMap g f [] = refl
   map-flatMap g f (x ∷ xs) = map-append g (f x) (flatMap f xs) ∙ ap (λ (t : List C). map g (f x) ++ t) (map-flatMap g f xs)
+
+-- Sums
+
+module _ {A : Type 0} where
+  pub total-add : (f g : A → ℕ) (xs : List A) → total (λ x. f x + g x) xs ≡ total f xs + total g xs
+  total-add f g [] = refl
+  total-add f g (x ∷ xs) = omega (arith, total-add f g xs)
+
+  pub total-append : (f : A → ℕ) (xs ys : List A) → total f (xs ++ ys) ≡ total f xs + total f ys
+  total-append f [] ys = omega arith
+  total-append f (x ∷ xs) ys = omega (arith, total-append f xs ys)
+
+  pub total-most : (f g : A → ℕ) (xs : List A) → ((x : A) → In x xs → f x ≤ g x) → total f xs ≤ total g xs
+  total-most f g [] h = omega arith
+  total-most f g (x ∷ xs) h = omega (arith, h x (inl refl), total-most f g xs (λ y k. h y (inr k)))
+
+  pub total-bounded : (f : A → ℕ) (n : ℕ) (xs : List A) → ((x : A) → In x xs → f x ≤ n) → total f xs ≤ length xs * n
+  total-bounded f n [] h = omega arith
+  total-bounded f n (x ∷ xs) h = omega (arith, h x (inl refl), total-bounded f n xs (λ y k. h y (inr k)))
+
+  -- The sum over a list is the sum over those that pass a test and over those that do not.
+  pub total-parts : (f : A → ℕ) (test : A → Bool) (xs : List A) → total f xs ≡ total f (filter test xs) + total f (filter (λ x. not (test x)) xs)
+  unfolding filter
+  total-parts f test [] = refl
+  total-parts f test (x ∷ xs) = go (test x) (total-parts f test xs)
+    where
+      go : (b : Bool) → total f xs ≡ total f (filter test xs) + total f (filter (λ x. not (test x)) xs)
+          → f x + total f xs ≡ total f (consIf b x (filter test xs)) + total f (consIf (not b) x (filter (λ x. not (test x)) xs))
+      go true e = omega arith
+      go false e = omega arith
+
+module _ {A B : Type 0} where
+  pub length-flatMap : (f : A → List B) (xs : List A) → length (flatMap f xs) ≡ total (λ x. length (f x)) xs
+  unfolding flatMap
+  length-flatMap f [] = refl
+  length-flatMap f (x ∷ xs) = omega (arith, length-append (f x) (flatMap f xs), length-flatMap f xs)
+
+  pub total-flatMap : (h : B → ℕ) (f : A → List B) (xs : List A) → total h (flatMap f xs) ≡ total (λ x. total h (f x)) xs
+  unfolding flatMap
+  total-flatMap h f [] = refl
+  total-flatMap h f (x ∷ xs) = omega (arith, total-append h (f x) (flatMap f xs), total-flatMap h f xs)
+
+  pub length-flatMap-most : (f : A → List B) (n : ℕ) (xs : List A) → ((x : A) → In x xs → length (f x) ≤ n) → length (flatMap f xs) ≤ length xs * n
+  length-flatMap-most f n xs h = omega (arith, length-flatMap f xs, total-bounded (λ x. length (f x)) n xs h)

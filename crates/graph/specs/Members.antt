@@ -32,6 +32,11 @@ module _ {A : Type 0} where
   abbrev pub HasPart : A → A → List A → Type 0
   HasPart a b p = (xs : List A) × (t : List A) × (ys : List A) × (p ≡ xs ++ ((a ∷ t) ++ ys)) × (lastOf a t ≡ b)
 
+  -- The sum of what `f` gives for each of the list.
+  abbrev pub total : (A → ℕ) → List A → ℕ
+  total f [] = 0
+  total f (x ∷ xs) = f x + total f xs
+
 module _ {A B : Type 0} where
   -- What `f` gives for each two neighbours of a list, in order: with `f` the link of a hop, the links that a path crosses.
   abbrev pub along : (A → A → B) → List A → List B

@@ -78,6 +78,18 @@ module _ (hs : List HalfLink) where
       go (some l) e (inl f) = (u, v, t, l, refl, e, f)
       go (some l) e (inr k) = absurd k
 
+-- "ports rising": each listed port is in range and one that was found; none is listed twice.
+pub listed-port : (behind : List ℕ) (port : ℕ) → In port (listedPorts behind) → (1 ≤ port) × (port ≤ 4095) × In port behind
+unfolding listedPorts
+listed-port behind port k = let r = filter-in (λ port. any (λ q. eqb q port) behind) port (allWithin portLimits) k in
+    let s = rising-in 1 4095 port (r .0) in let (q, i, j) = any-in (λ q. eqb q port) behind (r .1) in
+    (s .0, omega (arith, s .1), subst (λ (z : ℕ). In z behind) (eqb→eq q port j) i)
+
+pub distinct-ports : (behind : List ℕ) → Distinct (listedPorts behind)
+unfolding listedPorts
+distinct-ports behind =
+    distinct-filter (λ port. any (λ q. eqb q port) behind) (allWithin portLimits) (distinct-rising 1 4095)
+
 -- The entries, one by one
 
 abbrev matches : ℕ → ℕ → ℕ → Entry → Bool
@@ -96,14 +108,14 @@ says-matches kind vid addr e i j k = both (eqb (e .kind) kind && eqb (e .vid) vi
 
 module _ (p : Plan) (v : Vid) (b : ℕ) where
   -- The other bridges by number, and the ports of the entry for one of them: one, or none where no path leads there.
-  abbrev others : List ℕ
+  abbrev pub others : List ℕ
   others = filter (λ d. not (eqb d b)) (rising 0 (length (p .bridges)))
 
   abbrev pub portsTo : ℕ → List ℕ
   portsTo d = portsOf (firstPort (p .halfLinks)) (chosenPath p (v .index) b d)
 
   -- The transmitting members of the VID, and the ports listed for one of them.
-  abbrev transmits : Member → Bool
+  abbrev pub transmits : Member → Bool
   transmits m = m .transmits && eqb (m .vid) (v .vid)
 
   abbrev pub portsBehind : Member → List ℕ
@@ -139,12 +151,6 @@ module _ (p : Plan) (L : PlanLaws p) where
       go none k = absurd k
       go (some path) k = let (u, w, t, l, e, f, g) = first-port-says (p .halfLinks) path port k in
           rw g (L .half-link-fits (l .here) (hop-takes (p .halfLinks) u w l f .link .here-listed) .greatest-port)
-
-  pub listed-port : (behind : List ℕ) (port : ℕ) → In port (listedPorts behind) → (1 ≤ port) × (port ≤ 4095) × In port behind
-  unfolding listedPorts
-  listed-port behind port k = let r = filter-in (λ port. any (λ q. eqb q port) behind) port (allWithin portLimits) k in
-      let s = rising-in 1 4095 port (r .0) in let (q, i, j) = any-in (λ q. eqb q port) behind (r .1) in
-      (s .0, omega (arith, s .1), subst (λ (z : ℕ). In z behind) (eqb→eq q port j) i)
 
   individual-fits : (v : Vid) (b : ℕ) → v .vid ≤ 4094 → (e : Entry) → In e (individualEntries p v b) → EntryFits e
   individual-fits v b l e k = let (d, port, i, j, f) = individual-says p v b e k in

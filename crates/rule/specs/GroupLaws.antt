@@ -28,7 +28,7 @@ use Rattle.rule.specs.Entries.{listOf, firstPort, portsOf, leavingPort, 
 use Rattle.rule.specs.Frames.{only, crossed, arrivalPort, entryPorts, copiesLeave, copies, copiesCross, reached}
 use Rattle.rule.specs.PlanLaws.{HalfLinkFits, PlanLaws}
 use Rattle.rule.specs.LinkLaws.{hop-takes, hop-crosses, hop-joined, joined-hop, graph-laws}
-use Rattle.rule.specs.EntryLaws.{first-port-says, portsBehind, listed-port, group-ports}
+use Rattle.rule.specs.EntryLaws.{first-port-says, portsBehind, listed-port, distinct-ports, group-ports}
 use Rattle.rule.specs.FrameLaws.{chosen-is-path, path-is-chosen, ChosenFor, portsAt, arrival-named}
 
 module _ {A : Type 0} where
@@ -139,7 +139,7 @@ module _ (p : Plan) (L : PlanLaws p) (v : Vid) (m : Member) (of-table : In m (p 
   unfolding receiverPorts
   port-leads u port k =
       let (r, i, j) = flatMap-in (λ r. portsOf (leavingPort (p .halfLinks) u) (chosenPath p (v .index) (m .bridge) (r .bridge))) port (filter (receives m) (p .members))
-      (listed-port p L (receiverPorts p v u (p .members) m) port k .2) in
+      (listed-port (receiverPorts p v u (p .members) m) port k .2) in
       let s = filter-in (receives m) r (p .members) i in
       go r (s .0) (s .1) (chosenPath p (v .index) (m .bridge) (r .bridge)) refl j
     where
@@ -186,10 +186,6 @@ module _ (p : Plan) (L : PlanLaws p) (v : Vid) (m : Member) (of-table : In m (p 
   says-led : (u : ℕ) (l : Link) → Led p v m u l → In l (ledFrom u)
   says-led u l D = in-flatMap (λ port. listOf (crossed (p .halfLinks) u port)) l (l .here .port) (portsBehind p v u m) (leads-port u l D)
       (is-listed (crossed (p .halfLinks) u (l .here .port)) l (hop-crosses p L u (D .next) l (D .hop)))
-
-  distinct-ports : (behind : List ℕ) → Distinct (listedPorts behind)
-  unfolding listedPorts
-  distinct-ports behind = distinct-filter (λ port. any (λ q. eqb q port) behind) (allWithin portLimits) (distinct-rising 1 4095)
 
   -- Each port leads to another bridge.
   led-once : (u : ℕ) → Distinct (map to (ledFrom u))

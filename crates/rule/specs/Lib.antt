@@ -25,4 +25,5 @@ pub mod EntryLaws
 pub mod FrameLaws
 pub mod GroupLaws
 pub mod CallLaws
+pub mod ListBound
 pub mod Demand3Proved
