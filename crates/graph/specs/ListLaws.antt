@@ -505,6 +505,15 @@ module _ {A : Type 0} (R : A → A → Type 0) where
   pairwise-in (x ∷ xs) d a b (inr h) (inl f) = inr (inr (rw f (d .0 a h)))
   pairwise-in (x ∷ xs) d a b (inr h) (inr k) = pairwise-in xs (d .1) a b h k
 
+  -- Two that are so related neither way are one.
+  pub pairwise-one : (xs : List A) → Pairwise R xs → (a b : A) → In a xs → In b xs → (R a b → ⊥) → (R b a → ⊥) → a ≡ b
+  pairwise-one xs d a b i j f g = go (pairwise-in xs d a b i j)
+    where
+      go : (a ≡ b) ⊎ R a b ⊎ R b a → a ≡ b
+      go (inl e) = e
+      go (inr (inl r)) = absurd (f r)
+      go (inr (inr r)) = absurd (g r)
+
   -- A relation that nothing has to itself leaves nothing twice.
   pub pairwise-distinct : (xs : List A) → Pairwise R xs → ((x : A) → In x xs → R x x → ⊥) → Distinct xs
   pairwise-distinct [] d f = tt

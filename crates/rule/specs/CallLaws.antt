@@ -11,7 +11,7 @@ use lib.Dec.{T, eqb, leb, ltb, le→leb, lt→ltb, eqb→eq}
 use lib.ListN.{length, drop, getElem?, drop-of-length-le}
 use Rattle.graph.specs.Lists.{filter}
 use Rattle.graph.specs.Members.{In}
-use Rattle.graph.specs.ListLaws.{both, is-true, eq-eqb, filter-in, in-filter, distinct-filter, pairwise-in, pairwise-distinct, only-one}
+use Rattle.graph.specs.ListLaws.{both, is-true, eq-eqb, filter-in, in-filter, distinct-filter, only-one}
 use Rattle.rule.specs.Records.{Vid}
 use Rattle.rule.specs.Outcome.{Outcome, answered, refused, andThen, refusedAs, Written, overwritten, lentTo}
 use Rattle.rule.specs.Plan.{Plan, knownBridge, vidRecord}
@@ -20,7 +20,8 @@ use Rattle.rule.specs.Paths.{chosenPath}
 use Rattle.rule.specs.Entries.{entryListOf}
 use Rattle.rule.specs.Answers.{CostAndHops}
 use Rattle.rule.specs.Calls.{named, pathFound, pathAnswer, pathOutcome, entriesAnswer, entriesOutcome}
-use Rattle.rule.specs.PlanLaws.{VidsApart, PlanLaws}
+use Rattle.rule.specs.PlanLaws.{PlanLaws}
+use Rattle.rule.specs.OneRecord.{distinct-vids, one-vid}
 
 -- Lent lists
 
@@ -62,17 +63,9 @@ module _ (t : List ℕ) (p : Plan) (accepted : verdict t ≡ answered p) (L : Pl
   -- The record of a VID of the table.
   vid-found : (v : Vid) → In v (p .vids) → vidRecord p (v .vid) ≡ some v
   vid-found v k = ap (λ (vs : List Vid). getElem? vs 0) (only-one (filter (λ w. eqb (w .vid) (v .vid)) (p .vids)) v
-      (distinct-filter (λ w. eqb (w .vid) (v .vid)) (p .vids) (pairwise-distinct VidsApart (p .vids) (L .vids-apart) (λ w i f. f refl)))
+      (distinct-filter (λ w. eqb (w .vid) (v .vid)) (p .vids) (distinct-vids p L))
       (in-filter (λ w. eqb (w .vid) (v .vid)) v (p .vids) k (eq-eqb (v .vid) (v .vid) refl))
-      (λ w i. let r = filter-in (λ w. eqb (w .vid) (v .vid)) w (p .vids) i in same w (r .0) (eqb→eq (w .vid) (v .vid) (r .1))))
-    where
-      same : (w : Vid) → In w (p .vids) → w .vid ≡ v .vid → w ≡ v
-      same w i e = go (pairwise-in VidsApart (p .vids) (L .vids-apart) w v i k)
-        where
-          go : (w ≡ v) ⊎ VidsApart w v ⊎ VidsApart v w → w ≡ v
-          go (inl f) = f
-          go (inr (inl f)) = absurd (f e)
-          go (inr (inr f)) = absurd (f (sym e))
+      (λ w i. let r = filter-in (λ w. eqb (w .vid) (v .vid)) w (p .vids) i in one-vid p L w v (r .0) k (eqb→eq (w .vid) (v .vid) (r .1))))
 
   pub path-asked : (v : Vid) → In v (p .vids) → (a b : ℕ) → a < length (p .bridges) → b < length (p .bridges)
       → pathAnswer t (v .vid) a b ≡ pathFound p (chosenPath p (v .index) a b)

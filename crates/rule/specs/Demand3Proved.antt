@@ -34,6 +34,7 @@ use Rattle.rule.specs.LinkLaws.{joined-says, says-joined, joined-hop, gr
 use Rattle.rule.specs.IdentifierLaws.{key-laws}
 use Rattle.rule.specs.CallLaws.{refused-not-answered, lent-says, lent-holds, lent-not-12, path-asked, entries-asked}
 use Rattle.rule.specs.FrameLaws.{chosen-is-path, path-is-chosen, no-path-is-none, no-path-no-port, port-of-hop, stands-on-path, same-links, frame-arrival}
+use Rattle.rule.specs.ListBound.{few-words}
 use Rattle.rule.specs.GroupLaws.{reached-once, no-copy-stays, reached-at-most-once, sender-not-reached, copy-arrives}
 
 module _ (s : Setting) where
@@ -223,3 +224,26 @@ module _ (s : Setting) where
   -- The arrival-port check for the copies of a group frame.
   pub copies-name-arrival-port : CopyArrivalPort s
   copies-name-arrival-port m M n l k = copy-arrives (s .plan) laws (s .vid) m (M .ofTable) (s .vidOfTable) (M .transmits) (M .inVid) (s .lists) written n l k
+
+  -- "The cost and hops given and all words written, in their order, are those that document 01 defines." No list exceeds 14,931 words.
+  pub values-defined : Values s
+  values-defined = (
+    λ a b B path values G. given-chosen a b (B .first) (B .second) path values G .1,
+    λ u l. (written u l, subst (λ (ws : List ℕ). length ws ≤ 14931) (sym (written u l)) (few-words (s .plan) laws u l)),
+  )
+
+-- Demand 3, for every accepted table with all its bridges' entries written in full and every VID of it.
+pub demand-3 : (s : Setting) → Demand3 s
+demand-3 s = record {
+  refusal12 = refused-12 s;
+  noEntry = no-entry s;
+  arrival = arrives s;
+  least = least s;
+  sameLinks = same-in-reverse s;
+  parts = parts s;
+  arrivalPort = names-arrival-port s;
+  receivers = receivers-once s;
+  noBridgeTwice = no-bridge-twice s;
+  copyArrivalPort = copies-name-arrival-port s;
+  values = values-defined s;
+}

@@ -11,7 +11,7 @@ use lib.Dec.{T, eqb, eqb→eq, not-T}
 use lib.ListN.{length}
 use Rattle.graph.specs.Lists.{rising, filter, any}
 use Rattle.graph.specs.Members.{In, Distinct}
-use Rattle.graph.specs.ListLaws.{both, first-of, last-of, true-test, eq-eqb, none-not-some, in-append, in-map, map-in, flatMap-in, filter-in, in-filter, any-in, in-rising, rising-in, place-in, distinct-filter, distinct-rising, pairwise-in, pairwise-distinct, filter-all, filter-none, filter-append, filter-flatMap, filter-flatMap-only, flatMap-only, map-back}
+use Rattle.graph.specs.ListLaws.{both, first-of, last-of, true-test, eq-eqb, none-not-some, in-append, in-map, map-in, flatMap-in, filter-in, in-filter, any-in, in-rising, rising-in, distinct-filter, distinct-rising, filter-none, filter-append, filter-flatMap, filter-flatMap-only, flatMap-only, map-back}
 use Rattle.rule.specs.Records.{Bridge, HalfLink, Vid, Member, address, allWithin, portLimits}
 use Rattle.rule.specs.Plan.{Plan, bridgeAt}
 use Rattle.rule.specs.Links.{Link, hopLink}
@@ -19,9 +19,9 @@ use Rattle.rule.specs.Paths.{chosenPath}
 use Rattle.rule.specs.Entries.{Entry, entryWords, listOf, firstPort, portsOf, individualEntry, individualEntries, groupAddress, receiverPorts, listedPorts, groupEntry, groupEntries, entriesOf, entryListOf}
 use Rattle.rule.specs.Lookup.{entryOf, entriesIn}
 use Rattle.rule.specs.Frames.{entryPorts}
-use Rattle.rule.specs.PlanLaws.{VidsApart, MembersApart, PlanLaws}
+use Rattle.rule.specs.PlanLaws.{PlanLaws}
+use Rattle.rule.specs.OneRecord.{listed-bridge, one-address, one-source, distinct-vids, one-vid, distinct-members, one-member}
 use Rattle.rule.specs.LinkLaws.{hop-takes}
-use Rattle.rule.specs.IdentifierLaws.{one-address, one-source}
 
 -- Words
 
@@ -141,9 +141,6 @@ module _ (p : Plan) (v : Vid) (b : ℕ) where
 -- The words of a bridge give its entries back
 
 module _ (p : Plan) (L : PlanLaws p) where
-  listed-bridge : (d : ℕ) → d < length (p .bridges) → In (bridgeAt p d) (p .bridges)
-  listed-bridge d l = place-in (p .bridges) d (record { spSourceId = 0; identifier = 0 }) l
-
   port-to-fits : (v : Vid) (b d port : ℕ) → In port (portsTo p v b d) → port ≤ 4095
   port-to-fits v b d port k = go (chosenPath p (v .index) b d) k
     where
@@ -160,7 +157,7 @@ module _ (p : Plan) (L : PlanLaws p) where
   group-fits : (v : Vid) (b : ℕ) → v .vid ≤ 4094 → (e : Entry) → In e (groupEntries p v b (p .members)) → EntryFits e
   group-fits v b l e k = let (m, port, i, t, j, f) = group-says p v b e k in
       let M = L .member-fits m i in
-      let s : bridgeAt p (m .bridge) .spSourceId ≤ 1048575 = L .bridge-fits (bridgeAt p (m .bridge)) (listed-bridge (m .bridge) (M .bridge-known)) in
+      let s : bridgeAt p (m .bridge) .spSourceId ≤ 1048575 = L .bridge-fits (bridgeAt p (m .bridge)) (listed-bridge p L (m .bridge) (M .bridge-known)) in
       subst (λ (z : Entry). EntryFits z) (sym f)
       (record { kind = omega arith; vid = omega arith; port = omega (arith, listed-port (receiverPorts p v b (p .members) m) port j .1); address = omega (arith, M .isid) })
 
@@ -185,7 +182,7 @@ module _ (p : Plan) (L : PlanLaws p) where
   unfolding entriesOf
   entries-of-vid kind addr b v k =
       filter-flatMap (matches kind (v .vid) addr) entriesFor (p .vids)
-      ∙ flatMap-only (λ w. filter (matches kind (v .vid) addr) (entriesFor w)) v (p .vids) (pairwise-distinct VidsApart (p .vids) (L .vids-apart) (λ w i f. f refl)) k other
+      ∙ flatMap-only (λ w. filter (matches kind (v .vid) addr) (entriesFor w)) v (p .vids) (distinct-vids p L) k other
       ∙ filter-append (matches kind (v .vid) addr) (individualEntries p v b) (groupEntries p v b (p .members))
     where
       entriesFor : Vid → List Entry
@@ -195,17 +192,9 @@ module _ (p : Plan) (L : PlanLaws p) where
       vid-of w e (inl k) = let (d, port, i, j, f) = individual-says p w b e k in ap (λ (z : Entry). z .vid) f
       vid-of w e (inr k) = let (m, port, i, t, j, f) = group-says p w b e k in ap (λ (z : Entry). z .vid) f
 
-      same : (w : Vid) → In w (p .vids) → (w ≡ v → ⊥) → w .vid ≡ v .vid → ⊥
-      same w i n e = go (pairwise-in VidsApart (p .vids) (L .vids-apart) w v i k)
-        where
-          go : (w ≡ v) ⊎ VidsApart w v ⊎ VidsApart v w → ⊥
-          go (inl f) = n f
-          go (inr (inl f)) = f e
-          go (inr (inr f)) = f (sym e)
-
       other : (w : Vid) → In w (p .vids) → (w ≡ v → ⊥) → filter (matches kind (v .vid) addr) (entriesFor w) ≡ []
       other w i n = filter-none (matches kind (v .vid) addr) (entriesFor w) (λ e j t.
-          same w i n (sym (vid-of w e (in-append e (individualEntries p w b) (groupEntries p w b (p .members)) j)) ∙ matches-says kind (v .vid) addr e t .1))
+          n (one-vid p L w v i k (sym (vid-of w e (in-append e (individualEntries p w b) (groupEntries p w b (p .members)) j)) ∙ matches-says kind (v .vid) addr e t .1)))
 
   -- "one entry with that bridge's address and the port of the first hop's link": the entries of kind 8 with the VID and the address of
   -- another bridge have the first port of the chosen path to it, and there is none where no path leads there.
@@ -259,33 +248,24 @@ module _ (p : Plan) (L : PlanLaws p) where
           omega (arith, ap (λ (z : Entry). z .kind) f, matches-says 9 (v .vid) addr e t .0))
 
       source : (c : Member) → In c (p .members) → bridgeAt p (c .bridge) .spSourceId ≤ 1048575
-      source c j = L .bridge-fits (bridgeAt p (c .bridge)) (listed-bridge (c .bridge) (L .member-fits c j .bridge-known))
+      source c j = L .bridge-fits (bridgeAt p (c .bridge)) (listed-bridge p L (c .bridge) (L .member-fits c j .bridge-known))
 
       -- Another transmitting member of the VID has another group address.
-      one-member : (c : Member) → In c (p .members) → c .vid ≡ v .vid → groupAddress (bridgeAt p (c .bridge) .spSourceId) (c .isid) ≡ addr → c ≡ m
-      one-member c j f g = go (pairwise-in MembersApart (p .members) (L .members-apart) c m j i)
-        where
-          says : (bridgeAt p (c .bridge) .spSourceId ≡ bridgeAt p (m .bridge) .spSourceId) × (c .isid ≡ m .isid)
-          says = group-address-says (bridgeAt p (c .bridge) .spSourceId) (bridgeAt p (m .bridge) .spSourceId) (c .isid) (m .isid)
-              (source c j) (source m i) (L .member-fits c j .isid) (L .member-fits m i .isid) g
-
-          bridge : c .bridge ≡ m .bridge
-          bridge = one-source p L (c .bridge) (m .bridge) (L .member-fits c j .bridge-known) (L .member-fits m i .bridge-known) (says .0)
-
-          go : (c ≡ m) ⊎ MembersApart c m ⊎ MembersApart m c → c ≡ m
-          go (inl h) = h
-          go (inr (inl h)) = absurd (h bridge (says .1) (f ∙ sym e))
-          go (inr (inr h)) = absurd (h (sym bridge) (sym (says .1)) (e ∙ sym f))
+      one-address-one-member : (c : Member) → In c (p .members) → c .vid ≡ v .vid → groupAddress (bridgeAt p (c .bridge) .spSourceId) (c .isid) ≡ addr → c ≡ m
+      one-address-one-member c j f g =
+          let says = group-address-says (bridgeAt p (c .bridge) .spSourceId) (bridgeAt p (m .bridge) .spSourceId) (c .isid) (m .isid)
+          (source c j) (source m i) (L .member-fits c j .isid) (L .member-fits m i .isid) g in
+          one-member p L c m j i (one-source p L (c .bridge) (m .bridge) (L .member-fits c j .bridge-known) (L .member-fits m i .bridge-known) (says .0)) (says .1) (f ∙ sym e)
 
       transmitters : List Member
       transmitters = filter (transmits p v b) (p .members)
 
       group : filter test (groupEntries p v b (p .members)) ≡ map (groupEntry p v m) (portsBehind p v b m)
       group = filter-flatMap-only test (λ c. map (groupEntry p v c) (portsBehind p v b c)) m transmitters
-          (distinct-filter (transmits p v b) (p .members) (pairwise-distinct MembersApart (p .members) (L .members-apart) (λ c j f. f refl refl refl)))
+          (distinct-filter (transmits p v b) (p .members) (distinct-members p L))
           (in-filter (transmits p v b) m (p .members) i (both (m .transmits) (eqb (m .vid) (v .vid)) (true-test (m .transmits) t) (eq-eqb (m .vid) (v .vid) e)))
           (λ e i. let (port, j, f) = map-in (groupEntry p v m) e (portsBehind p v b m) i in
           says-matches 9 (v .vid) addr e (ap (λ (z : Entry). z .kind) f) (ap (λ (z : Entry). z .vid) f) (ap (λ (z : Entry). z .address) f))
           (λ c j n e h t. let (port, k, f) = map-in (groupEntry p v c) e (portsBehind p v b c) h in let r = filter-in (transmits p v b) c (p .members) j in
-          n (one-member c (r .0) (eqb→eq (c .vid) (v .vid) (last-of (c .transmits) (eqb (c .vid) (v .vid)) (r .1)))
+          n (one-address-one-member c (r .0) (eqb→eq (c .vid) (v .vid) (last-of (c .transmits) (eqb (c .vid) (v .vid)) (r .1)))
           (sym (ap (λ (z : Entry). z .address) f) ∙ matches-says 9 (v .vid) addr e t .2)))

@@ -15,12 +15,13 @@ use lib.ListN.{length, getD, List·getD-eq-default}
 use Rattle.graph.specs.Lists.{any}
 use Rattle.graph.specs.Members.{In}
 use Rattle.graph.specs.Graph.{KeyLaws}
-use Rattle.graph.specs.ListLaws.{le-or-gt, passes, in-any, place-in, pairwise-in, pairwise-distinct, distinct-places}
+use Rattle.graph.specs.ListLaws.{le-or-gt, passes, in-any, place-in}
 use Rattle.rule.specs.Records.{Bridge, address}
 use Rattle.rule.specs.Plan.{Plan, bridgeAt}
 use Rattle.rule.specs.Links.{graphOf}
 use Rattle.rule.specs.Identifiers.{masks, maskOf, maskedBytes, maskedIdentifier, keyOf}
-use Rattle.rule.specs.PlanLaws.{BridgesApart, PlanLaws}
+use Rattle.rule.specs.PlanLaws.{PlanLaws}
+use Rattle.rule.specs.OneRecord.{one-address}
 
 -- One digit: the XOR of two binary digits is 0 where they are equal, 1 where they are not.
 differ-says : (x y : ℕ) → x < 2 → y < 2 → ((x ≡ y) × (differ x y ≡ 0)) ⊎ ((x + y ≡ 1) × (differ x y ≡ 1))
@@ -95,26 +96,6 @@ masked-address index i j e =
     sym (mod-mod-pow i 16 48) ∙ ap (λ (n : ℕ). n % 2 ^ 48) f ∙ mod-mod-pow j 16 48
 
 module _ (p : Plan) (L : PlanLaws p) where
-  -- Two places of bridges that are not apart are one.
-  one-place : (u v : ℕ) → u < length (p .bridges) → v < length (p .bridges)
-      → (BridgesApart (bridgeAt p u) (bridgeAt p v) → ⊥) → (BridgesApart (bridgeAt p v) (bridgeAt p u) → ⊥) → u ≡ v
-  one-place u v h k f g = go (pairwise-in BridgesApart (p .bridges) (L .bridges-apart) (bridgeAt p u) (bridgeAt p v) (place-in (p .bridges) u none h) (place-in (p .bridges) v none k))
-    where
-      none : Bridge
-      none = record { spSourceId = 0; identifier = 0 }
-
-      go : (bridgeAt p u ≡ bridgeAt p v) ⊎ BridgesApart (bridgeAt p u) (bridgeAt p v) ⊎ BridgesApart (bridgeAt p v) (bridgeAt p u) → u ≡ v
-      go (inl e) = distinct-places (p .bridges) none (pairwise-distinct BridgesApart (p .bridges) (L .bridges-apart) (λ b i A. A .sources refl)) u v h k e
-      go (inr (inl A)) = absurd (f A)
-      go (inr (inr A)) = absurd (g A)
-
-  -- Two bridges with one address are one, and so are two with one SPsourceID.
-  pub one-address : (u v : ℕ) → u < length (p .bridges) → v < length (p .bridges) → address (bridgeAt p u) ≡ address (bridgeAt p v) → u ≡ v
-  one-address u v h k e = one-place u v h k (λ A. A .addresses e) (λ A. A .addresses (sym e))
-
-  pub one-source : (u v : ℕ) → u < length (p .bridges) → v < length (p .bridges) → bridgeAt p u .spSourceId ≡ bridgeAt p v .spSourceId → u ≡ v
-  one-source u v h k e = one-place u v h k (λ A. A .sources e) (λ A. A .sources (sym e))
-
   -- Every key of an accepted plan meets what the laws of chosen paths ask.
   pub key-laws : (index : ℕ) → KeyLaws (graphOf p) (keyOf p index)
-  key-laws index = record { distinct = λ u v h k e. one-address u v h k (masked-address index (bridgeAt p u .identifier) (bridgeAt p v .identifier) e) }
+  key-laws index = record { distinct = λ u v h k e. one-address p L u v h k (masked-address index (bridgeAt p u .identifier) (bridgeAt p v .identifier) e) }

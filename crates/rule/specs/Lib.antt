@@ -19,6 +19,7 @@ pub mod Worked
 pub mod Demand3
 pub mod PlanLaws
 pub mod Accepted
+pub mod OneRecord
 pub mod LinkLaws
 pub mod IdentifierLaws
 pub mod EntryLaws

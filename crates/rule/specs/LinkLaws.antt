@@ -15,14 +15,15 @@ use Rattle.graph.specs.Order.{Lower, lower}
 use Rattle.graph.specs.Graph.{Graph, GraphLaws, Joined, Path}
 use Rattle.graph.specs.Members.{In, Distinct}
 use Rattle.graph.specs.Notions.{Linked}
-use Rattle.graph.specs.ListLaws.{compared, both, first-of, last-of, eq-eqb, in-map, map-in, in-flatMap, flatMap-in, filter-in, in-filter, any-in, in-any, distinct-flatMap, distinct-filter, distinct-map, pairwise-in, pairwise-distinct, nothing-in, only-one, lowest-none, none-not-some, nil-not-cons}
+use Rattle.graph.specs.ListLaws.{compared, both, first-of, last-of, eq-eqb, in-map, map-in, in-flatMap, flatMap-in, filter-in, in-filter, any-in, in-any, distinct-flatMap, distinct-filter, distinct-map, pairwise-one, nothing-in, only-one, lowest-none, none-not-some, nil-not-cons}
 use Rattle.graph.specs.OrderLaws.{lowest-ranked}
 use Rattle.graph.specs.Paths.{linked-path, path-linked}
 use Rattle.rule.specs.Records.{HalfLink, unusableMetric}
 use Rattle.rule.specs.Plan.{Plan}
 use Rattle.rule.specs.Links.{Link, mates, linksOf, number, from, to, turned, linkCost, usableMetric, usableLinks, connects, linksBetween, joined, before, hopLink, costOf, graphOf}
 use Rattle.rule.specs.Frames.{only, crossed}
-use Rattle.rule.specs.PlanLaws.{PortsApart, Mirrors, HalfLinkFits, PlanLaws}
+use Rattle.rule.specs.PlanLaws.{Mirrors, PlanLaws}
+use Rattle.rule.specs.OneRecord.{distinct-half-links, one-port}
 
 -- "A link is two half-links with one link number, near and far bridge exchanged", usable.
 pub record Usable (hs : List HalfLink) (l : Link) : Type 0 where
@@ -125,17 +126,10 @@ module _ (hs : List HalfLink) where
   no-hop u v e l U i j = subst (λ (z : List Link). In l z) (lowest-none before (linksBetween hs u v) e) (says-between hs u v l U i j)
 
 module _ (p : Plan) (L : PlanLaws p) where
-  distinct-half-links : Distinct (p .halfLinks)
-  distinct-half-links = pairwise-distinct PortsApart (p .halfLinks) (L .ports-apart) (λ h k f. f refl refl)
-
   -- A half-link is determined by its link number and its near bridge: the other of that number has the near bridge for its far one.
   one-half : (h k : HalfLink) → In h (p .halfLinks) → In k (p .halfLinks) → h .link ≡ k .link → h .near ≡ k .near → h ≡ k
-  one-half h k i j e f = go (pairwise-in Mirrors (p .halfLinks) (L .mirrored) h k i j)
-    where
-      go : (h ≡ k) ⊎ Mirrors h k ⊎ Mirrors k h → h ≡ k
-      go (inl g) = g
-      go (inr (inl m)) = absurd (L .half-link-fits h i .apart (f ∙ m e .0))
-      go (inr (inr m)) = absurd (L .half-link-fits k j .apart (sym f ∙ m (sym e) .0))
+  one-half h k i j e f = pairwise-one Mirrors (p .halfLinks) (L .mirrored) h k i j
+      (λ M. L .half-link-fits h i .apart (f ∙ M e .0)) (λ M. L .half-link-fits k j .apart (sym f ∙ M (sym e) .0))
 
   -- A link is determined by its number and the bridge from which it is seen.
   pub one-link : (l k : Link) → Usable (p .halfLinks) l → Usable (p .halfLinks) k → number l ≡ number k → from l ≡ from k → l ≡ k
@@ -152,7 +146,7 @@ module _ (p : Plan) (L : PlanLaws p) where
   pub port-crosses : (l : Link) → Usable (p .halfLinks) l → crossed (p .halfLinks) (from l) (l .here .port) ≡ some l
   unfolding crossed
   port-crosses l U = ap only (only-one (filter test (usableLinks (p .halfLinks))) l
-      (distinct-filter test (usableLinks (p .halfLinks)) (distinct-usable (p .halfLinks) distinct-half-links))
+      (distinct-filter test (usableLinks (p .halfLinks)) (distinct-usable (p .halfLinks) (distinct-half-links p L)))
       (in-filter test l (usableLinks (p .halfLinks)) (says-usable (p .halfLinks) l U)
       (both (eqb (from l) (from l)) (eqb (l .here .port) (l .here .port)) (eq-eqb (from l) (from l) refl) (eq-eqb (l .here .port) (l .here .port) refl)))
       (λ k i. let r = filter-in test k (usableLinks (p .halfLinks)) i in same k (usable-says (p .halfLinks) k (r .0))
@@ -163,12 +157,7 @@ module _ (p : Plan) (L : PlanLaws p) where
       test k = eqb (from k) (from l) && eqb (k .here .port) (l .here .port)
 
       same : (k : Link) → Usable (p .halfLinks) k → from k ≡ from l → k .here .port ≡ l .here .port → k ≡ l
-      same k W e f = go (pairwise-in PortsApart (p .halfLinks) (L .ports-apart) (k .here) (l .here) (W .here-listed) (U .here-listed))
-        where
-          go : (k .here ≡ l .here) ⊎ PortsApart (k .here) (l .here) ⊎ PortsApart (l .here) (k .here) → k ≡ l
-          go (inl g) = one-link k l W U (ap (λ (h : HalfLink). h .link) g) e
-          go (inr (inl a)) = absurd (a e f)
-          go (inr (inr a)) = absurd (a (sym e) (sym f))
+      same k W e f = one-link k l W U (ap (λ (h : HalfLink). h .link) (one-port p L (k .here) (l .here) (W .here-listed) (U .here-listed) e f)) e
 
   pub hop-crosses : (u v : ℕ) (l : Link) → hopLink (p .halfLinks) u v ≡ some l → crossed (p .halfLinks) u (l .here .port) ≡ some l
   hop-crosses u v l e = let K = hop-takes (p .halfLinks) u v l e in

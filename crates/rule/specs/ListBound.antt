@@ -11,12 +11,13 @@ use lib.Dec.{T, eqb, eqb→eq, T-not, not-T}
 use lib.ListN.{length, length-append, length-map}
 use Rattle.graph.specs.Lists.{rising, filter}
 use Rattle.graph.specs.Members.{In, Distinct, total}
-use Rattle.graph.specs.ListLaws.{same-or-not, first-of, last-of, is-true, is-false, eq-eqb, in-split, flatMap-in, filter-in, in-filter, rising-in, at-most, distinct-filter, distinct-rising, distinct-flatMap, distinct-within, pairwise-in, pairwise-distinct, filter-parts, total-add, total-most, total-bounded, total-parts, total-flatMap, length-flatMap, length-flatMap-most, length-flatMap-each}
+use Rattle.graph.specs.ListLaws.{same-or-not, first-of, last-of, is-true, is-false, eq-eqb, in-split, flatMap-in, filter-in, in-filter, rising-in, at-most, distinct-filter, distinct-rising, distinct-flatMap, distinct-within, filter-parts, total-add, total-most, total-bounded, total-parts, total-flatMap, length-flatMap, length-flatMap-most, length-flatMap-each}
 use Rattle.rule.specs.Records.{Vid, Member}
 use Rattle.rule.specs.Plan.{Plan}
 use Rattle.rule.specs.Paths.{chosenPath}
 use Rattle.rule.specs.Entries.{Entry, entryWords, listOf, firstPort, leavingPort, portsOf, individualEntry, individualEntries, receives, receiverPorts, listedPorts, groupEntry, groupEntries, entriesOf, entryListOf}
-use Rattle.rule.specs.PlanLaws.{VidsApart, MembersApart, PlanLaws}
+use Rattle.rule.specs.PlanLaws.{PlanLaws}
+use Rattle.rule.specs.OneRecord.{distinct-vids, one-vid, distinct-members, one-member}
 use Rattle.rule.specs.EntryLaws.{portsTo, portsBehind, others, transmits, listed-port, distinct-ports}
 use Rattle.rule.specs.GroupLaws.{few-ports}
 
@@ -84,33 +85,14 @@ module _ (p : Plan) (L : PlanLaws p) (b : ℕ) (known : b < length (p .bridges))
   abbrev transmitters : List Member
   transmitters = flatMap (λ v. filter (transmits p v b) (p .members)) (p .vids)
 
-  distinct-members : Distinct (p .members)
-  distinct-members = pairwise-distinct MembersApart (p .members) (L .members-apart) (λ m k f. f refl refl refl)
-
-  one-vid : (v w : Vid) → In v (p .vids) → In w (p .vids) → v .vid ≡ w .vid → v ≡ w
-  one-vid v w i j e = go (pairwise-in VidsApart (p .vids) (L .vids-apart) v w i j)
-    where
-      go : (v ≡ w) ⊎ VidsApart v w ⊎ VidsApart w v → v ≡ w
-      go (inl f) = f
-      go (inr (inl f)) = absurd (f e)
-      go (inr (inr f)) = absurd (f (sym e))
-
-  one-member : (m k : Member) → In m (p .members) → In k (p .members) → m .bridge ≡ k .bridge → m .isid ≡ k .isid → m .vid ≡ k .vid → m ≡ k
-  one-member m k i j e f g = go (pairwise-in MembersApart (p .members) (L .members-apart) m k i j)
-    where
-      go : (m ≡ k) ⊎ MembersApart m k ⊎ MembersApart k m → m ≡ k
-      go (inl h) = h
-      go (inr (inl h)) = absurd (h e f g)
-      go (inr (inr h)) = absurd (h (sym e) (sym f) (sym g))
-
   transmitter-vid : (v : Vid) (m : Member) → In m (filter (transmits p v b) (p .members)) → In m (p .members) × (m .vid ≡ v .vid)
   transmitter-vid v m k = let r = filter-in (transmits p v b) m (p .members) k in (r .0, eqb→eq (m .vid) (v .vid) (last-of (m .transmits) (eqb (m .vid) (v .vid)) (r .1)))
 
   distinct-transmitters : Distinct transmitters
   distinct-transmitters = distinct-flatMap (λ v. filter (transmits p v b) (p .members)) (p .vids)
-      (pairwise-distinct VidsApart (p .vids) (L .vids-apart) (λ v k f. f refl))
-      (λ v k. distinct-filter (transmits p v b) (p .members) distinct-members)
-      (λ v w m i j h k. one-vid v w i j (sym (transmitter-vid v m h .1) ∙ transmitter-vid w m k .1))
+      (distinct-vids p L)
+      (λ v k. distinct-filter (transmits p v b) (p .members) (distinct-members p L))
+      (λ v w m i j h k. one-vid p L v w i j (sym (transmitter-vid v m h .1) ∙ transmitter-vid w m k .1))
 
   transmitter-listed : (m : Member) → In m transmitters → In m (p .members)
   transmitter-listed m k = let (v, i, j) = flatMap-in (λ v. filter (transmits p v b) (p .members)) m (p .vids) k in transmitter-vid v m j .0
@@ -149,11 +131,11 @@ module _ (p : Plan) (L : PlanLaws p) (b : ℕ) (known : b < length (p .bridges))
       distinct : Distinct (flatMap (λ m. filter (receives m) (p .members)) (here transmitters))
       distinct = distinct-flatMap (λ m. filter (receives m) (p .members)) (here transmitters)
           (distinct-filter atThis transmitters distinct-transmitters)
-          (λ m k. distinct-filter (receives m) (p .members) distinct-members)
+          (λ m k. distinct-filter (receives m) (p .members) (distinct-members p L))
           (λ m k r i j h l.
-              let x = receives-says m r (filter-in (receives m) r (p .members) h .1) in
-              let y = receives-says k r (filter-in (receives k) r (p .members) l .1) in
-              one-member m k (listed m i) (listed k j) (here-says m transmitters i .1 ∙ sym (here-says k transmitters j .1)) (sym (x .0) ∙ y .0) (sym (x .1) ∙ y .1))
+          let x = receives-says m r (filter-in (receives m) r (p .members) h .1) in
+          let y = receives-says k r (filter-in (receives k) r (p .members) l .1) in
+          one-member p L m k (listed m i) (listed k j) (here-says m transmitters i .1 ∙ sym (here-says k transmitters j .1)) (sym (x .0) ∙ y .0) (sym (x .1) ∙ y .1))
 
       inside : (r : Member) → In r (flatMap (λ m. filter (receives m) (p .members)) (here transmitters)) → In r (elsewhere (p .members))
       inside r k =
@@ -165,8 +147,11 @@ module _ (p : Plan) (L : PlanLaws p) (b : ℕ) (known : b < length (p .bridges))
   few-elsewhere : total most (elsewhere transmitters) ≤ length (elsewhere (p .members)) * 62
   few-elsewhere = omega (
     arith,
-    total-bounded most 62 (elsewhere transmitters) (λ m k. omega (arith, most-there m (λ e.
-        T-not (atThis m) (filter-in (λ m. not (atThis m)) m transmitters k .1) (eq-eqb (m .bridge) b e)))),
+    total-bounded most 62 (elsewhere transmitters) (λ m k. omega (
+      arith,
+      most-there m (λ e.
+          T-not (atThis m) (filter-in (λ m. not (atThis m)) m transmitters k .1) (eq-eqb (m .bridge) b e)),
+    )),
     distinct-within (elsewhere transmitters) (elsewhere (p .members)) (distinct-filter (λ m. not (atThis m)) transmitters distinct-transmitters)
         (λ m k. let r = filter-in (λ m. not (atThis m)) m transmitters k in in-filter (λ m. not (atThis m)) m (p .members) (transmitter-listed m (r .0)) (r .1)),
   )
