@@ -2,21 +2,21 @@
 -- Assumes nothing.
 use Prim.Native.Nat.{ℕ, zero, suc, _+_, _≤_, _<_}
 use native.Mathlib.Omega.{arith}
-use mathlib.Core.Path.{_≡_, refl, sym, ap, _∙_, subst}
+use mathlib.Core.Path.{_≡_, refl, sym, _∙_, subst}
 use mathlib.Core.List.{List, [], _∷_, _++_}
 use mathlib.Core.Option.{Option, none, some}
 use mathlib.Core.Logic.{_⊎_, inl, inr}
 use mathlib.Core.Bool.{Bool, true, false, cond, not, _&&_, _||_}
 use lib.Dec.{T, leb, eqb, ltb, le→leb, leb→le, eqb→eq, ltb→lt}
-use lib.ListN.{length, drop, getElem?, length-append}
-use Rattle.graph.specs.Lists.{filter, any}
-use Rattle.graph.specs.Members.{In, Pairwise}
-use Rattle.graph.specs.ListLaws.{le-or-gt, both, first-of, last-of, either-left, either-right, passes, eq-eqb, in-append, in-left, in-right, filter-in, in-filter, any-in, in-any, pairwise-end, first-in, nil-not-cons, none-not-some}
+use lib.ListN.{length, drop, length-append}
+use Rattle.graph.specs.Lists.{filter}
+use Rattle.graph.specs.Members.{In}
+use Rattle.graph.specs.ListLaws.{le-or-gt, both, first-of, last-of, either-left, either-right, passes, eq-eqb, in-append, in-left, filter-in, in-filter, any-in, in-any, pairwise-end, first-in, none-not-some}
 use Rattle.rule.specs.Words.{wordsOf, bits}
-use Rattle.rule.specs.Records.{Bridge, HalfLink, Vid, Member, Record, bridge, halfLink, vid, member, end, address, endCount, Layout, Range, Limits, inLimits, bridgeOf, halfLinkOf, vidOf, memberOf, layouts, layoutOf, bridgeLayout, halfLinkLayout, vidLayout, memberLayout, endLayout}
+use Rattle.rule.specs.Records.{Bridge, HalfLink, Vid, Member, Record, bridge, halfLink, vid, member, end, address, endCount, Layout, Range, inLimits, bridgeOf, halfLinkOf, vidOf, memberOf, layouts, layoutOf, bridgeLayout, halfLinkLayout, vidLayout, memberLayout}
 use Rattle.rule.specs.Outcome.{Outcome, answered, refused, refusedAs}
-use Rattle.rule.specs.Plan.{Plan, noRecords, withRecord, alike, knownBridge, knownVid}
-use Rattle.rule.specs.Check.{badLength, outsideRange, wrongEndCount, unknownName, repeated, wrongHalf, wrongLink, wordsFollow, Reading, start, Fault, faults, lowestFault, Step, goesOn, stops, taken, judged, readAs, readFrom, stepOf, after, readOn, verdict}
+use Rattle.rule.specs.Plan.{Plan, noRecords, withRecord, knownBridge, knownVid}
+use Rattle.rule.specs.Check.{badLength, outsideRange, unknownName, repeated, wrongHalf, wrongLink, Reading, start, Fault, faults, lowestFault, taken, judged, readAs, readFrom, after, readOn, verdict}
 use Rattle.rule.specs.PlanLaws.{BridgesApart, PortsApart, VidsApart, MembersApart, Mirrors, HalfLinkFits, MemberFits, PlanLaws}
 
 -- No fault applies

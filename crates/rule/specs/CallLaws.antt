@@ -1,14 +1,13 @@
 -- What the path and the entries call answer for an accepted table (01, "Calls"): the chosen path with its cost and hops, or 12; the
 -- words of the bridge's entries. Assumes nothing.
-use Prim.Native.Nat.{ℕ, _+_, _-_, _≤_, _<_}
+use Prim.Native.Nat.{ℕ, _<_}
 use native.Mathlib.Omega.{arith}
-use mathlib.Core.Path.{_≡_, refl, sym, ap, _∙_, subst}
-use mathlib.Core.List.{List, [], _∷_, _++_}
-use mathlib.Core.Option.{Option, none, some}
-use mathlib.Core.Logic.{_⊎_, inl, inr}
+use mathlib.Core.Path.{_≡_, refl, sym, ap, _∙_}
+use mathlib.Core.List.{List, [], _++_}
+use mathlib.Core.Option.{Option, some}
 use mathlib.Core.Bool.{Bool, true, false, cond, _&&_}
-use lib.Dec.{T, eqb, leb, ltb, le→leb, lt→ltb, eqb→eq}
-use lib.ListN.{length, drop, getElem?, drop-of-length-le}
+use lib.Dec.{eqb, leb, le→leb, lt→ltb, eqb→eq}
+use lib.ListN.{length, getElem?, drop-of-length-le}
 use Rattle.graph.specs.Lists.{filter}
 use Rattle.graph.specs.Members.{In}
 use Rattle.graph.specs.ListLaws.{both, is-true, eq-eqb, filter-in, in-filter, distinct-filter, only-one}
@@ -18,8 +17,7 @@ use Rattle.rule.specs.Plan.{Plan, knownBridge, vidRecord}
 use Rattle.rule.specs.Check.{verdict}
 use Rattle.rule.specs.Paths.{chosenPath}
 use Rattle.rule.specs.Entries.{entryListOf}
-use Rattle.rule.specs.Answers.{CostAndHops}
-use Rattle.rule.specs.Calls.{named, pathFound, pathAnswer, pathOutcome, entriesAnswer, entriesOutcome}
+use Rattle.rule.specs.Calls.{named, pathFound, pathAnswer, entriesAnswer}
 use Rattle.rule.specs.PlanLaws.{PlanLaws}
 use Rattle.rule.specs.OneRecord.{distinct-vids, one-vid}
 

@@ -1,16 +1,16 @@
 -- Demand 3, proved: each sentence of Demand3 by the laws that it rests on, in the demand's order, and `demand-3`, which holds them all
 -- for every setting. Assumes nothing.
-use Prim.Native.Nat.{ℕ, _+_, _≤_, _<_}
+use Prim.Native.Nat.{ℕ, _≤_, _<_}
 use native.Mathlib.Omega.{arith}
 use mathlib.Core.Path.{_≡_, refl, sym, ap, _∙_, subst}
-use mathlib.Core.List.{List, [], _∷_, _++_, map, reverse, append-assoc, reverse-cons, reverse-append}
+use mathlib.Core.List.{List, [], _∷_, _++_, reverse, append-assoc, reverse-cons, reverse-append}
 use mathlib.Core.Option.{Option, none, some}
-use mathlib.Core.Logic.{_⊎_, inl, inr, _↔_, _≢_}
-use mathlib.Core.Bool.{Bool, true, not, _&&_}
+use mathlib.Core.Logic.{_⊎_, inl, inr}
+use mathlib.Core.Bool.{not, _&&_}
 use lib.Dec.{T, eqb, eqb→eq, not-T}
 use lib.ListN.{length, drop}
-use Rattle.graph.specs.Members.{In, lastOf}
-use Rattle.graph.specs.Graph.{Onward, Path, hops}
+use Rattle.graph.specs.Members.{In}
+use Rattle.graph.specs.Graph.{Path, hops}
 use Rattle.graph.specs.Chosen.{Chosen}
 use Rattle.graph.specs.Order.{Lower}
 use Rattle.graph.specs.Notions.{Least as LeastCost, RanksAbove, Linked}
@@ -18,16 +18,15 @@ use Rattle.graph.specs.ListLaws.{both, true-test, eq-eqb, nil-not-cons, none-no
 use Rattle.graph.specs.Paths.{linked-path, path-linked, stays-inside}
 use Rattle.graph.specs.ChosenPaths.{chosen-first, chosen-below, chosen-part, chosen-reverse}
 use Rattle.graph.specs.Enumeration.{path-chosen}
-use Rattle.rule.specs.Records.{Vid, Member, address}
+use Rattle.rule.specs.Records.{Member}
 use Rattle.rule.specs.Outcome.{Outcome, answered, refusedAs, Written, lentTo}
-use Rattle.rule.specs.Plan.{Plan, bridgeAt}
-use Rattle.rule.specs.Links.{joined, graphOf, hopLink}
+use Rattle.rule.specs.Links.{graphOf}
 use Rattle.rule.specs.Identifiers.{keyOf}
 use Rattle.rule.specs.Paths.{chosenPath}
 use Rattle.rule.specs.Entries.{entryListOf, receives}
 use Rattle.rule.specs.Answers.{CostAndHops}
-use Rattle.rule.specs.Calls.{measured, pathFound, pathAnswer, pathOutcome, entriesAnswer, entriesOutcome}
-use Rattle.rule.specs.Demand3.{WrittenFor, Setting, Bridges, Chain, ChainIn, Apart, Given, portsFor, costIn, maskedPathId, Transmits, Receives, Refusal12, NoEntry, Arrival, Least, SameLinks, Parts, ArrivalPort, Receivers, NoBridgeTwice, CopyArrivalPort, Values, Demand3}
+use Rattle.rule.specs.Calls.{measured, pathFound, pathOutcome, entriesOutcome}
+use Rattle.rule.specs.Demand3.{Setting, ChainIn, Apart, Given, portsFor, costIn, maskedPathId, Receives, Refusal12, NoEntry, Arrival, Least, SameLinks, Parts, ArrivalPort, Receivers, NoBridgeTwice, CopyArrivalPort, Values, Demand3}
 use Rattle.rule.specs.PlanLaws.{PlanLaws}
 use Rattle.rule.specs.Accepted.{accepted-laws}
 use Rattle.rule.specs.LinkLaws.{joined-says, says-joined, joined-hop, graph-laws}

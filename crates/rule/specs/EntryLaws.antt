@@ -11,8 +11,8 @@ use lib.Dec.{T, eqb, eqb→eq, not-T}
 use lib.ListN.{length}
 use Rattle.graph.specs.Lists.{rising, filter, any}
 use Rattle.graph.specs.Members.{In, Distinct}
-use Rattle.graph.specs.ListLaws.{both, first-of, last-of, true-test, eq-eqb, none-not-some, in-append, in-map, map-in, flatMap-in, filter-in, in-filter, any-in, in-rising, rising-in, distinct-filter, distinct-rising, filter-none, filter-append, filter-flatMap, filter-flatMap-only, flatMap-only, map-back}
-use Rattle.rule.specs.Records.{Bridge, HalfLink, Vid, Member, address, allWithin, portLimits}
+use Rattle.graph.specs.ListLaws.{both, first-of, last-of, true-test, eq-eqb, in-append, map-in, flatMap-in, filter-in, in-filter, any-in, in-rising, rising-in, distinct-filter, distinct-rising, filter-none, filter-append, filter-flatMap, filter-flatMap-only, flatMap-only, map-back}
+use Rattle.rule.specs.Records.{HalfLink, Vid, Member, address, allWithin, portLimits}
 use Rattle.rule.specs.Plan.{Plan, bridgeAt}
 use Rattle.rule.specs.Links.{Link, hopLink}
 use Rattle.rule.specs.Paths.{chosenPath}

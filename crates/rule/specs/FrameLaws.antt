@@ -3,14 +3,14 @@
 use Prim.Native.Nat.{ℕ, zero, suc, _≤_, _<_}
 use native.Mathlib.Omega.{arith}
 use mathlib.Core.Path.{_≡_, refl, sym, ap, _∙_, subst}
-use mathlib.Core.List.{List, [], _∷_, _++_, map, reverse}
+use mathlib.Core.List.{List, [], _∷_, map, reverse}
 use mathlib.Core.Option.{Option, none, some, Option·map, Option·some-injective}
 use mathlib.Core.Logic.{_⊎_, inl, inr}
 use mathlib.Core.Bool.{cond}
 use lib.Dec.{eqb}
 use lib.ListN.{length, length-reverse}
 use Rattle.graph.specs.Graph.{Path, hops}
-use Rattle.graph.specs.Chosen.{Chosen, chosen}
+use Rattle.graph.specs.Chosen.{Chosen}
 use Rattle.graph.specs.Members.{In, along}
 use Rattle.graph.specs.Notions.{Least, Leaves}
 use Rattle.graph.specs.ListLaws.{eqb-same, eqb-other, nil-not-cons, along-reverse, map-reverse, map-injective}
@@ -20,7 +20,7 @@ use Rattle.graph.specs.Enumeration.{chosen-is, is-chosen, no-path-none, chosen-
 use Rattle.graph.specs.Forwarding.{chosen-after, chosen-other, arrival}
 use Rattle.rule.specs.Records.{HalfLink, Vid, address}
 use Rattle.rule.specs.Plan.{Plan, bridgeAt}
-use Rattle.rule.specs.Links.{Link, from, to, turned, hopLink, graphOf}
+use Rattle.rule.specs.Links.{Link, to, turned, hopLink, graphOf}
 use Rattle.rule.specs.Identifiers.{keyOf}
 use Rattle.rule.specs.Paths.{chosenPath}
 use Rattle.rule.specs.Entries.{listOf, firstPort, portsOf, entryListOf}

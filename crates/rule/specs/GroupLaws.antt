@@ -9,12 +9,12 @@ use mathlib.Core.Logic.{_⊎_, inl, inr}
 use mathlib.Core.Bool.{Bool, true, false, cond, _&&_}
 use lib.Dec.{T, eqb, eqb→eq}
 use lib.ListN.{length, length-map}
-use Rattle.graph.specs.Lists.{filter, any, rising}
+use Rattle.graph.specs.Lists.{filter, any}
 use Rattle.graph.specs.Chosen.{Chosen}
 use Rattle.graph.specs.Members.{In, Distinct, times}
 use Rattle.graph.specs.Notions.{Least, Leaves}
 use Rattle.graph.specs.Moves.{copies as roundOf, entered, Feeds, HandsDown}
-use Rattle.graph.specs.ListLaws.{first-of, last-of, is-true, eq-eqb, eqb-other, none-not-some, in-map, map-in, in-flatMap, flatMap-in, filter-in, in-filter, in-any, in-append, in-rising, at-most, distinct-filter, distinct-rising, distinct-flatMap, distinct-map, length-flatMap-each, map-flatMap}
+use Rattle.graph.specs.ListLaws.{last-of, is-true, eq-eqb, eqb-other, none-not-some, in-map, map-in, in-flatMap, flatMap-in, filter-in, in-filter, in-any, in-append, in-rising, at-most, distinct-flatMap, distinct-map, length-flatMap-each, map-flatMap}
 use Rattle.graph.specs.Paths.{entered-inside}
 use Rattle.graph.specs.ChosenPaths.{chosen-first, chosen-distinct}
 use Rattle.graph.specs.Forwarding.{departure}
@@ -29,7 +29,7 @@ use Rattle.rule.specs.Frames.{only, crossed, arrivalPort, entryPorts, co
 use Rattle.rule.specs.PlanLaws.{HalfLinkFits, PlanLaws}
 use Rattle.rule.specs.LinkLaws.{hop-takes, hop-crosses, hop-joined, joined-hop, graph-laws}
 use Rattle.rule.specs.EntryLaws.{first-port-says, portsBehind, listed-port, distinct-ports, group-ports}
-use Rattle.rule.specs.FrameLaws.{chosen-is-path, path-is-chosen, ChosenFor, portsAt, arrival-named}
+use Rattle.rule.specs.FrameLaws.{chosen-is-path, path-is-chosen, arrival-named}
 
 module _ {A : Type 0} where
   listed-is : (o : Option A) (a : A) → In a (listOf o) → o ≡ some a

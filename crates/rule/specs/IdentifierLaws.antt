@@ -3,20 +3,17 @@
 use Prim.Native.Nat.{ℕ, zero, suc, _+_, _*_, _-_, _/_, _%_, _^_, _≤_, _<_}
 use native.Mathlib.Omega.{arith}
 use native.Mathlib.Nat.{pow-suc, one-le-pow}
-use mathlib.Core.Path.{_≡_, refl, sym, ap, _∙_, subst}
-use mathlib.Core.List.{List, [], _∷_, map}
+use mathlib.Core.Path.{_≡_, refl, sym, ap, _∙_}
 use mathlib.Core.Logic.{_⊎_, inl, inr}
 use mathlib.Core.Bool.{not}
 use lib.Bits.{bitXor, differ, xor-step, xor-lt}
 use lib.Arith.{mod-mul}
 use lib.Pow.{mod-mod-pow}
-use lib.Dec.{T, ltb, ltb→lt}
-use lib.ListN.{length, getD, List·getD-eq-default}
+use lib.Dec.{ltb, ltb→lt}
+use lib.ListN.{List·getD-eq-default}
 use Rattle.graph.specs.Lists.{any}
-use Rattle.graph.specs.Members.{In}
 use Rattle.graph.specs.Graph.{KeyLaws}
 use Rattle.graph.specs.ListLaws.{le-or-gt, passes, in-any, place-in}
-use Rattle.rule.specs.Records.{Bridge, address}
 use Rattle.rule.specs.Plan.{Plan, bridgeAt}
 use Rattle.rule.specs.Links.{graphOf}
 use Rattle.rule.specs.Identifiers.{masks, maskOf, maskedBytes, maskedIdentifier, keyOf}

@@ -28,3 +28,4 @@ pub mod GroupLaws
 pub mod CallLaws
 pub mod ListBound
 pub mod Demand3Proved
+pub mod Settings

@@ -1,23 +1,21 @@
 -- The links of an accepted plan (01, "Links"): a link is determined by its number and the bridge it is seen from, and by its near
 -- bridge and port; a hop takes the same link in both directions; the graph of the plan meets GraphLaws.
 -- Assumes nothing.
-use Prim.Native.Nat.{ℕ, _≤_, _<_, max}
+use Prim.Native.Nat.{ℕ, _<_}
 use native.Mathlib.Omega.{arith}
 use mathlib.Core.Path.{_≡_, refl, sym, ap, _∙_, subst}
-use mathlib.Core.List.{List, [], _∷_, map, flatMap}
+use mathlib.Core.List.{List, [], _∷_, map}
 use mathlib.Core.Option.{Option, none, some, Option·map}
 use mathlib.Core.Logic.{_⊎_, inl, inr}
-use mathlib.Core.Bool.{Bool, true, false, _&&_, _||_, and-false, or-false}
-use lib.Dec.{T, eqb, ltb, eqb→eq, ltb→lt, lt→ltb}
+use mathlib.Core.Bool.{Bool, _&&_, and-false, or-false}
+use lib.Dec.{T, eqb, eqb→eq, ltb→lt, lt→ltb}
 use lib.ListN.{length}
-use Rattle.graph.specs.Lists.{filter, any, lowestBy}
+use Rattle.graph.specs.Lists.{filter}
 use Rattle.graph.specs.Order.{Lower, lower}
-use Rattle.graph.specs.Graph.{Graph, GraphLaws, Joined, Path}
+use Rattle.graph.specs.Graph.{GraphLaws, Joined}
 use Rattle.graph.specs.Members.{In, Distinct}
-use Rattle.graph.specs.Notions.{Linked}
-use Rattle.graph.specs.ListLaws.{compared, both, first-of, last-of, eq-eqb, in-map, map-in, in-flatMap, flatMap-in, filter-in, in-filter, any-in, in-any, distinct-flatMap, distinct-filter, distinct-map, pairwise-one, nothing-in, only-one, lowest-none, none-not-some, nil-not-cons}
+use Rattle.graph.specs.ListLaws.{compared, both, first-of, last-of, eq-eqb, in-map, map-in, in-flatMap, flatMap-in, filter-in, in-filter, any-in, in-any, distinct-flatMap, distinct-filter, distinct-map, pairwise-one, only-one, lowest-none}
 use Rattle.graph.specs.OrderLaws.{lowest-ranked}
-use Rattle.graph.specs.Paths.{linked-path, path-linked}
 use Rattle.rule.specs.Records.{HalfLink, unusableMetric}
 use Rattle.rule.specs.Plan.{Plan}
 use Rattle.rule.specs.Links.{Link, mates, linksOf, number, from, to, turned, linkCost, usableMetric, usableLinks, connects, linksBetween, joined, before, hopLink, costOf, graphOf}

@@ -6,7 +6,7 @@ use mathlib.Core.Path.{_≡_, refl, sym, ap, _∙_, subst}
 use mathlib.Core.List.{List, [], _∷_, _++_, map, flatMap}
 use mathlib.Core.Option.{Option, none, some}
 use mathlib.Core.Logic.{_⊎_, inl, inr}
-use mathlib.Core.Bool.{Bool, true, false, cond, not, _&&_}
+use mathlib.Core.Bool.{Bool, cond, not, _&&_}
 use lib.Dec.{T, eqb, eqb→eq, T-not, not-T}
 use lib.ListN.{length, length-append, length-map}
 use Rattle.graph.specs.Lists.{rising, filter}
@@ -15,7 +15,7 @@ use Rattle.graph.specs.ListLaws.{same-or-not, first-of, last-of, is-true, is-fa
 use Rattle.rule.specs.Records.{Vid, Member}
 use Rattle.rule.specs.Plan.{Plan}
 use Rattle.rule.specs.Paths.{chosenPath}
-use Rattle.rule.specs.Entries.{Entry, entryWords, listOf, firstPort, leavingPort, portsOf, individualEntry, individualEntries, receives, receiverPorts, listedPorts, groupEntry, groupEntries, entriesOf, entryListOf}
+use Rattle.rule.specs.Entries.{entryWords, listOf, firstPort, leavingPort, portsOf, individualEntry, individualEntries, receives, receiverPorts, groupEntry, groupEntries, entriesOf, entryListOf}
 use Rattle.rule.specs.PlanLaws.{PlanLaws}
 use Rattle.rule.specs.OneRecord.{distinct-vids, one-vid, distinct-members, one-member}
 use Rattle.rule.specs.EntryLaws.{portsTo, portsBehind, others, transmits, listed-port, distinct-ports}

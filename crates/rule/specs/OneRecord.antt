@@ -5,7 +5,7 @@ use mathlib.Core.Path.{_≡_, refl, sym}
 use lib.ListN.{length}
 use Rattle.graph.specs.Members.{In, Distinct}
 use Rattle.graph.specs.ListLaws.{pairwise-one, pairwise-distinct, place-in, distinct-places}
-use Rattle.rule.specs.Records.{Bridge, HalfLink, Vid, Member, address}
+use Rattle.rule.specs.Records.{HalfLink, Vid, Member, address}
 use Rattle.rule.specs.Plan.{Plan, bridgeAt}
 use Rattle.rule.specs.PlanLaws.{BridgesApart, PortsApart, VidsApart, MembersApart, PlanLaws}
 
