@@ -79,10 +79,6 @@ pub either-right : (a b : Bool) → T b → T (a || b)
 either-right true b h = tt
 either-right false b h = h
 
-pub either-of : (a b : Bool) → T (a || b) → T a ⊎ T b
-either-of true b h = inl tt
-either-of false b h = inr h
-
 -- A test whose negation does not pass passes.
 pub passes : (b : Bool) → (T (not b) → ⊥) → T b
 passes true f = tt
@@ -292,6 +288,11 @@ in-rising k (suc n) m h l = go (compared k m) (in-rising (suc k) n m)
     go (inr (inl e)) ih = inl (sym e)
     go (inr (inr p)) ih = absurd (omega arith)
 
+pub length-rising : (k n : ℕ) → length (rising k n) ≡ n
+unfolding rising
+length-rising k zero = refl
+length-rising k (suc n) = ap suc (length-rising (suc k) n)
+
 -- Nothing twice
 
 module _ {A : Type 0} where
@@ -307,24 +308,20 @@ module _ {A : Type 0} where
   distinct-right [] ys d = d
   distinct-right (x ∷ xs) ys d = distinct-right xs ys (d .1)
 
-  pub in-around : (x : A) (xs : List A) (a : A) (ys : List A) → In x (xs ++ ys) → In x (xs ++ (a ∷ ys))
-  in-around x xs a ys k = go (in-append x xs ys k)
+  -- A list with nothing twice, all of it in another, is no longer than that.
+  pub distinct-within : (xs ys : List A) → Distinct xs → ((x : A) → In x xs → In x ys) → length xs ≤ length ys
+  distinct-within [] ys d h = omega arith
+  distinct-within (x ∷ xs) ys d h = go (in-split x ys (h x (inl refl))) (distinct-within xs)
     where
-      go : In x xs ⊎ In x ys → In x (xs ++ (a ∷ ys))
-      go (inl l) = in-left x xs (a ∷ ys) l
-      go (inr l) = in-right x xs (a ∷ ys) (inr l)
-
-  -- Taking one out leaves nothing twice, and that one nowhere.
-  pub distinct-without : (xs : List A) (a : A) (ys : List A) → Distinct (xs ++ (a ∷ ys)) → Distinct (xs ++ ys) × (In a (xs ++ ys) → ⊥)
-  distinct-without [] a ys d = (d .1, d .0)
-  distinct-without (x ∷ xs) a ys d = go (distinct-without xs a ys (d .1))
-    where
-      none-of : (In a (xs ++ ys) → ⊥) → In a (x ∷ (xs ++ ys)) → ⊥
-      none-of n (inl f) = d .0 (subst (λ (y : A). In y (xs ++ (a ∷ ys))) f (in-here a xs ys))
-      none-of n (inr k) = n k
-
-      go : (Distinct (xs ++ ys) × (In a (xs ++ ys) → ⊥)) → Distinct (x ∷ (xs ++ ys)) × (In a (x ∷ (xs ++ ys)) → ⊥)
-      go (e, n) = ((λ k. d .0 (in-around x xs a ys k), e), none-of n)
+      go : ((us : List A) × (vs : List A) × (ys ≡ us ++ (x ∷ vs))) → ((zs : List A) → Distinct xs → ((y : A) → In y xs → In y zs) → length xs ≤ length zs)
+          → suc (length xs) ≤ length ys
+      go (us, vs, e) ih = let l : length xs ≤ length (us ++ vs) = ih (us ++ vs) (d .1) (λ y k. other y k (in-append y us (x ∷ vs) (rw e at (h y (inr k))))) in
+          omega (arith, ap (λ (t : List A). length t) e, length-append us (x ∷ vs), length-append us vs)
+        where
+          other : (y : A) → In y xs → In y us ⊎ In y (x ∷ vs) → In y (us ++ vs)
+          other y k (inl m) = in-left y us vs m
+          other y k (inr (inl f)) = absurd (d .0 (subst (λ (z : A). In z xs) f k))
+          other y k (inr (inr m)) = in-right y us vs m
 
   pub distinct-filter : (test : A → Bool) (xs : List A) → Distinct xs → Distinct (filter test xs)
   unfolding filter
@@ -354,32 +351,13 @@ in-or-not a (x ∷ xs) = go (same-or-not a x) (in-or-not a xs)
     go (inr f) (inl h) = inl (inr h)
     go (inr f) (inr h) = inr (neither f h)
 
-below-but : (n : ℕ) (zs : List ℕ) → (In n zs → ⊥) → ((x : ℕ) → In x zs → x < suc n) → (x : ℕ) → In x zs → x < n
-below-but n zs f l x k = go (compared x n)
-  where
-    go : (x < n) ⊎ (x ≡ n) ⊎ (n < x) → x < n
-    go (inl p) = p
-    go (inr (inl e)) = absurd (f (subst (λ (y : ℕ). In y zs) e k))
-    go (inr (inr p)) = absurd (omega (arith, l x k))
-
 -- A list of numbers below n with nothing twice has at most n of them.
 pub at-most : (n : ℕ) (xs : List ℕ) → Distinct xs → ((x : ℕ) → In x xs → x < n) → length xs ≤ n
-at-most zero [] d h = omega arith
-at-most zero (x ∷ xs) d h = let l : x < 0 = h x (inl refl) in absurd (omega arith)
-at-most (suc n) xs d h = go (in-or-not n xs) (at-most n)
-  where
-    without : ((ys : List ℕ) × (zs : List ℕ) × (xs ≡ ys ++ (n ∷ zs)))
-        → ((zs : List ℕ) → Distinct zs → ((x : ℕ) → In x zs → x < n) → length zs ≤ n) → length xs ≤ suc n
-    without (ys, zs, e) ih =
-        let r = distinct-without ys n zs (rw e at d) in
-        let below = below-but n (ys ++ zs) (r .1) (λ x k. h x (rw e (in-around x ys n zs k))) in
-        let l : length (ys ++ zs) ≤ n = ih (ys ++ zs) (r .0) below in
-        omega (arith, ap (λ (t : List ℕ). length t) e, length-append ys (n ∷ zs), length-append ys zs)
-
-    go : In n xs ⊎ (In n xs → ⊥) → ((zs : List ℕ) → Distinct zs → ((x : ℕ) → In x zs → x < n) → length zs ≤ n)
-        → length xs ≤ suc n
-    go (inl k) ih = without (in-split n xs k) ih
-    go (inr f) ih = omega (arith, ih xs d (below-but n xs f h))
+at-most n xs d h = omega (
+  arith,
+  distinct-within xs (rising 0 n) d (λ x k. in-rising 0 n x (omega arith) (omega (arith, h x k))),
+  length-rising 0 n,
+)
 
 module _ {A B : Type 0} where
   -- Lists that have nothing twice, none of them anything of another, have nothing twice together.
@@ -519,6 +497,8 @@ module _ {A : Type 0} (R : A → A → Type 0) where
   pairwise-distinct [] d f = tt
   pairwise-distinct (x ∷ xs) d f = (λ k. f x (inl refl) (d .0 x k), pairwise-distinct xs (d .1) (λ y k. f y (inr k)))
 
+-- Places and fronts of a list
+
 module _ {A : Type 0} where
   pub place-in : (xs : List A) (i : ℕ) (d : A) → i < length xs → In (getD xs i d) xs
   place-in [] i d l = absurd (omega arith)
@@ -550,22 +530,7 @@ module _ {A : Type 0} where
   only-one (x ∷ []) a d h f = ap (λ (y : A). y ∷ []) (f x (inl refl))
   only-one (x ∷ y ∷ xs) a d h f = absurd (d .0 (inl (f x (inl refl) ∙ sym (f y (inr (inl refl))))))
 
-  -- A list with nothing twice, all of it in another, is no longer than that.
-  pub distinct-within : (xs ys : List A) → Distinct xs → ((x : A) → In x xs → In x ys) → length xs ≤ length ys
-  distinct-within [] ys d h = omega arith
-  distinct-within (x ∷ xs) ys d h = go (in-split x ys (h x (inl refl))) (distinct-within xs)
-    where
-      go : ((us : List A) × (vs : List A) × (ys ≡ us ++ (x ∷ vs))) → ((zs : List A) → Distinct xs → ((y : A) → In y xs → In y zs) → length xs ≤ length zs)
-          → suc (length xs) ≤ length ys
-      go (us, vs, e) ih = let l : length xs ≤ length (us ++ vs) = ih (us ++ vs) (d .1) (λ y k. other y k (in-append y us (x ∷ vs) (rw e at (h y (inr k))))) in
-          omega (arith, ap (λ (t : List A). length t) e, length-append us (x ∷ vs), length-append us vs)
-        where
-          other : (y : A) → In y xs → In y us ⊎ In y (x ∷ vs) → In y (us ++ vs)
-          other y k (inl m) = in-left y us vs m
-          other y k (inr (inl f)) = absurd (d .0 (subst (λ (z : A). In z xs) f k))
-          other y k (inr (inr m)) = in-right y us vs m
-
-  -- Filters
+  -- All of a list, none of it, and its parts under a test
 
   pub filter-all : (test : A → Bool) (xs : List A) → ((x : A) → In x xs → T (test x)) → filter test xs ≡ xs
   unfolding filter
@@ -594,6 +559,8 @@ module _ {A : Type 0} where
           → length (consIf b x (filter test xs)) + length (consIf (not b) x (filter (λ x. not (test x)) xs)) ≡ suc (length xs)
       go true e = omega arith
       go false e = omega arith
+
+-- What a list gives for each of its own
 
 module _ {A B : Type 0} where
   pub filter-flatMap : (test : B → Bool) (f : A → List B) (xs : List A) → filter test (flatMap f xs) ≡ flatMap (λ x. filter test (f x)) xs
@@ -630,11 +597,6 @@ module _ {A B : Type 0} where
   unfolding flatMap
   length-flatMap-each f n [] h = omega arith
   length-flatMap-each f n (x ∷ xs) h = omega (arith, length-append (f x) (flatMap f xs), h x (inl refl), length-flatMap-each f n xs (λ y k. h y (inr k)))
-
-  pub flatMap-same : (f g : A → List B) (xs : List A) → ((x : A) → In x xs → f x ≡ g x) → flatMap f xs ≡ flatMap g xs
-  unfolding flatMap
-  flatMap-same f g [] h = refl
-  flatMap-same f g (x ∷ xs) h = rw (h x (inl refl), flatMap-same f g xs (λ y k. h y (inr k)))
 
   pub map-back : (f : A → B) (g : B → A) → ((x : A) → g (f x) ≡ x) → (xs : List A) → map g (map f xs) ≡ xs
   map-back f g h [] = refl

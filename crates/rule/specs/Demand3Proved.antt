@@ -6,19 +6,16 @@ use mathlib.Core.Path.{_≡_, refl, sym, ap, _∙_, subst}
 use mathlib.Core.List.{List, [], _∷_, _++_, reverse, append-assoc, reverse-cons, reverse-append}
 use mathlib.Core.Option.{Option, none, some}
 use mathlib.Core.Logic.{_⊎_, inl, inr}
-use mathlib.Core.Bool.{not, _&&_}
-use lib.Dec.{T, eqb, eqb→eq, not-T}
 use lib.ListN.{length, drop}
 use Rattle.graph.specs.Members.{In}
 use Rattle.graph.specs.Graph.{Path, hops}
 use Rattle.graph.specs.Chosen.{Chosen}
 use Rattle.graph.specs.Order.{Lower}
 use Rattle.graph.specs.Notions.{Least as LeastCost, RanksAbove, Linked}
-use Rattle.graph.specs.ListLaws.{both, true-test, eq-eqb, nil-not-cons, none-not-some, lastOf-append, in-here, in-right, append-same}
+use Rattle.graph.specs.ListLaws.{nil-not-cons, none-not-some, lastOf-append, in-here, in-right, append-same}
 use Rattle.graph.specs.Paths.{linked-path, path-linked, stays-inside}
 use Rattle.graph.specs.ChosenPaths.{chosen-first, chosen-below, chosen-part, chosen-reverse}
 use Rattle.graph.specs.Enumeration.{path-chosen}
-use Rattle.rule.specs.Records.{Member}
 use Rattle.rule.specs.Outcome.{Outcome, answered, refusedAs, Written, lentTo}
 use Rattle.rule.specs.Links.{graphOf}
 use Rattle.rule.specs.Identifiers.{keyOf}
@@ -26,12 +23,13 @@ use Rattle.rule.specs.Paths.{chosenPath}
 use Rattle.rule.specs.Entries.{entryListOf, receives}
 use Rattle.rule.specs.Answers.{CostAndHops}
 use Rattle.rule.specs.Calls.{measured, pathFound, pathOutcome, entriesOutcome}
-use Rattle.rule.specs.Demand3.{Setting, ChainIn, Apart, Given, portsFor, costIn, maskedPathId, Receives, Refusal12, NoEntry, Arrival, Least, SameLinks, Parts, ArrivalPort, Receivers, NoBridgeTwice, CopyArrivalPort, Values, Demand3}
+use Rattle.rule.specs.Demand3.{Setting, ChainIn, Apart, Given, portsFor, costIn, maskedPathId, Refusal12, NoEntry, Arrival, Least, SameLinks, Parts, ArrivalPort, Receivers, NoBridgeTwice, CopyArrivalPort, Values, Demand3}
 use Rattle.rule.specs.PlanLaws.{PlanLaws}
 use Rattle.rule.specs.Accepted.{accepted-laws}
 use Rattle.rule.specs.LinkLaws.{joined-says, says-joined, joined-hop, graph-laws}
 use Rattle.rule.specs.IdentifierLaws.{key-laws}
 use Rattle.rule.specs.CallLaws.{refused-not-answered, lent-says, lent-holds, lent-not-12, path-asked, entries-asked}
+use Rattle.rule.specs.EntryLaws.{says-receives}
 use Rattle.rule.specs.FrameLaws.{chosen-is-path, path-is-chosen, no-path-is-none, no-path-no-port, port-of-hop, stands-on-path, same-links, frame-arrival}
 use Rattle.rule.specs.ListBound.{few-words}
 use Rattle.rule.specs.GroupLaws.{reached-once, no-copy-stays, reached-at-most-once, sender-not-reached, copy-arrives}
@@ -202,16 +200,9 @@ module _ (s : Setting) where
   pub receivers-once : Receivers s
   receivers-once m M n l = (
     λ r R q c. let (path, P) = chain-chosen (m .bridge) (r .bridge) q c in
-        reached-once (s .plan) laws (s .vid) m (M .ofTable) (s .vidOfTable) (M .transmits) (M .inVid) (s .lists) written r (R .ofTable) (says m r R) (R .other) path P n l,
+        reached-once (s .plan) laws (s .vid) m (M .ofTable) (s .vidOfTable) (M .transmits) (M .inVid) (s .lists) written r (R .ofTable) (says-receives m r (R .receives) (R .inService .1) (R .inService .0) (R .other)) (R .other) path P n l,
     no-copy-stays (s .plan) laws (s .vid) m (M .ofTable) (s .vidOfTable) (M .transmits) (M .inVid) (s .lists) written n l,
   )
-    where
-      says : (m r : Member) → Receives s m r → T (receives m r)
-      says m r R = both (r .receives && eqb (r .isid) (m .isid) && eqb (r .vid) (m .vid)) (not (eqb (r .bridge) (m .bridge)))
-          (both (r .receives && eqb (r .isid) (m .isid)) (eqb (r .vid) (m .vid))
-          (both (r .receives) (eqb (r .isid) (m .isid)) (true-test (r .receives) (R .receives)) (eq-eqb (r .isid) (m .isid) (R .inService .1)))
-          (eq-eqb (r .vid) (m .vid) (R .inService .0)))
-          (not-T (eqb (r .bridge) (m .bridge)) (λ t. R .other (eqb→eq (r .bridge) (m .bridge) t)))
 
   -- "It reaches no bridge twice and never comes back to its sender."
   pub no-bridge-twice : NoBridgeTwice s

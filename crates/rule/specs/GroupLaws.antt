@@ -9,26 +9,26 @@ use mathlib.Core.Logic.{_⊎_, inl, inr}
 use mathlib.Core.Bool.{Bool, true, false, cond, _&&_}
 use lib.Dec.{T, eqb, eqb→eq}
 use lib.ListN.{length, length-map}
-use Rattle.graph.specs.Lists.{filter, any}
+use Rattle.graph.specs.Lists.{filter}
 use Rattle.graph.specs.Chosen.{Chosen}
 use Rattle.graph.specs.Members.{In, Distinct, times}
 use Rattle.graph.specs.Notions.{Least, Leaves}
 use Rattle.graph.specs.Moves.{copies as roundOf, entered, Feeds, HandsDown}
-use Rattle.graph.specs.ListLaws.{last-of, is-true, eq-eqb, eqb-other, none-not-some, in-map, map-in, in-flatMap, flatMap-in, filter-in, in-filter, in-any, in-append, in-rising, at-most, distinct-flatMap, distinct-map, length-flatMap-each, map-flatMap}
+use Rattle.graph.specs.ListLaws.{last-of, is-true, eq-eqb, eqb-other, none-not-some, in-map, map-in, in-flatMap, flatMap-in, filter-in, in-filter, in-append, at-most, distinct-flatMap, distinct-map, length-flatMap-each, map-flatMap}
 use Rattle.graph.specs.Paths.{entered-inside}
 use Rattle.graph.specs.ChosenPaths.{chosen-first, chosen-distinct}
 use Rattle.graph.specs.Forwarding.{departure}
 use Rattle.graph.specs.Copies.{copy-inside, copy-arrival, at-most-once, sender-never, no-copy-left, receiver-once}
-use Rattle.rule.specs.Records.{HalfLink, Vid, Member, address, allWithin, portLimits}
+use Rattle.rule.specs.Records.{HalfLink, Vid, Member, address}
 use Rattle.rule.specs.Plan.{Plan, bridgeAt}
 use Rattle.rule.specs.Links.{Link, from, to, hopLink, usableLinks, graphOf}
 use Rattle.rule.specs.Identifiers.{keyOf}
 use Rattle.rule.specs.Paths.{chosenPath}
-use Rattle.rule.specs.Entries.{listOf, firstPort, portsOf, leavingPort, groupAddress, receives, receiverPorts, listedPorts, entryListOf}
+use Rattle.rule.specs.Entries.{listOf, firstPort, portsOf, leavingPort, groupAddress, receives, receiverPorts, entryListOf}
 use Rattle.rule.specs.Frames.{only, crossed, arrivalPort, entryPorts, copiesLeave, copies, copiesCross, reached}
 use Rattle.rule.specs.PlanLaws.{HalfLinkFits, PlanLaws}
 use Rattle.rule.specs.LinkLaws.{hop-takes, hop-crosses, hop-joined, joined-hop, graph-laws}
-use Rattle.rule.specs.EntryLaws.{first-port-says, portsBehind, listed-port, distinct-ports, group-ports}
+use Rattle.rule.specs.EntryLaws.{first-port-says, portsBehind, port-listed, listed-port, distinct-ports, group-ports}
 use Rattle.rule.specs.FrameLaws.{chosen-is-path, path-is-chosen, arrival-named}
 
 module _ {A : Type 0} where
@@ -154,10 +154,8 @@ module _ (p : Plan) (L : PlanLaws p) (v : Vid) (m : Member) (of-table : In m (p 
           )
 
   leads-port : (u : ℕ) (l : Link) → Led p v m u l → In (l .here .port) (portsBehind p v u m)
-  unfolding receiverPorts listedPorts
-  leads-port u l D = in-filter (λ port. any (λ q. eqb q port) (receiverPorts p v u (p .members) m)) (l .here .port) (allWithin portLimits)
-      (in-rising 1 4095 (l .here .port) (F .least-port) (omega (arith, F .greatest-port)))
-      (in-any (λ q. eqb q (l .here .port)) (l .here .port) (receiverPorts p v u (p .members) m) behind (eq-eqb (l .here .port) (l .here .port) refl))
+  unfolding receiverPorts
+  leads-port u l D = port-listed (receiverPorts p v u (p .members) m) (l .here .port) (F .least-port) (F .greatest-port) behind
     where
       F : HalfLinkFits (length (p .bridges)) (l .here)
       F = L .half-link-fits (l .here) (hop-takes (p .halfLinks) u (D .next) l (D .hop) .link .here-listed)

@@ -6,19 +6,19 @@ use mathlib.Core.Path.{_≡_, refl, sym, ap, _∙_, subst}
 use mathlib.Core.List.{List, [], _∷_, _++_, map, flatMap}
 use mathlib.Core.Option.{Option, none, some}
 use mathlib.Core.Logic.{_⊎_, inl, inr}
-use mathlib.Core.Bool.{Bool, cond, not, _&&_}
-use lib.Dec.{T, eqb, eqb→eq, T-not, not-T}
+use mathlib.Core.Bool.{Bool, cond, not}
+use lib.Dec.{eqb, eqb→eq, T-not, not-T}
 use lib.ListN.{length, length-append, length-map}
 use Rattle.graph.specs.Lists.{rising, filter}
 use Rattle.graph.specs.Members.{In, Distinct, total}
-use Rattle.graph.specs.ListLaws.{same-or-not, first-of, last-of, is-true, is-false, eq-eqb, in-split, flatMap-in, filter-in, in-filter, rising-in, at-most, distinct-filter, distinct-rising, distinct-flatMap, distinct-within, filter-parts, total-add, total-most, total-bounded, total-parts, total-flatMap, length-flatMap, length-flatMap-most, length-flatMap-each}
+use Rattle.graph.specs.ListLaws.{same-or-not, last-of, is-true, is-false, eq-eqb, in-split, flatMap-in, filter-in, in-filter, rising-in, at-most, distinct-filter, distinct-rising, distinct-flatMap, distinct-within, filter-parts, total-add, total-most, total-bounded, total-parts, total-flatMap, length-flatMap, length-flatMap-most, length-flatMap-each}
 use Rattle.rule.specs.Records.{Vid, Member}
 use Rattle.rule.specs.Plan.{Plan}
 use Rattle.rule.specs.Paths.{chosenPath}
 use Rattle.rule.specs.Entries.{entryWords, listOf, firstPort, leavingPort, portsOf, individualEntry, individualEntries, receives, receiverPorts, groupEntry, groupEntries, entriesOf, entryListOf}
 use Rattle.rule.specs.PlanLaws.{PlanLaws}
 use Rattle.rule.specs.OneRecord.{distinct-vids, one-vid, distinct-members, one-member}
-use Rattle.rule.specs.EntryLaws.{portsTo, portsBehind, others, transmits, listed-port, distinct-ports}
+use Rattle.rule.specs.EntryLaws.{portsTo, portsBehind, others, transmits, listed-port, distinct-ports, receives-says}
 use Rattle.rule.specs.GroupLaws.{few-ports}
 
 at-most-one : (port : List ℕ → Option ℕ) (o : Option (List ℕ)) → length (portsOf port o) ≤ 1
@@ -106,16 +106,6 @@ module _ (p : Plan) (L : PlanLaws p) (b : ℕ) (known : b < length (p .bridges))
   here-says : (m : Member) (ms : List Member) → In m (here ms) → In m ms × (m .bridge ≡ b)
   here-says m ms k = let r = filter-in atThis m ms k in (r .0, eqb→eq (m .bridge) b (r .1))
 
-  -- What a transmitting member's receiver is: another bridge's member of the same service.
-  receives-says : (m r : Member) → T (receives m r) → (r .isid ≡ m .isid) × (r .vid ≡ m .vid) × (r .bridge ≡ m .bridge → ⊥)
-  receives-says m r t =
-      let x = first-of (r .receives && eqb (r .isid) (m .isid) && eqb (r .vid) (m .vid)) (not (eqb (r .bridge) (m .bridge))) t in
-      let y = first-of (r .receives && eqb (r .isid) (m .isid)) (eqb (r .vid) (m .vid)) x in (
-        eqb→eq (r .isid) (m .isid) (last-of (r .receives) (eqb (r .isid) (m .isid)) y),
-        eqb→eq (r .vid) (m .vid) (last-of (r .receives && eqb (r .isid) (m .isid)) (eqb (r .vid) (m .vid)) x),
-        λ e. T-not (eqb (r .bridge) (m .bridge)) (last-of (r .receives && eqb (r .isid) (m .isid) && eqb (r .vid) (m .vid)) (not (eqb (r .bridge) (m .bridge))) t) (eq-eqb (r .bridge) (m .bridge) e),
-      )
-
   -- The receivers of the transmitting members at this bridge: each is another bridge's member, and of one service only.
   few-here : total most (here transmitters) ≤ length (elsewhere (p .members))
   few-here = omega (
@@ -135,14 +125,14 @@ module _ (p : Plan) (L : PlanLaws p) (b : ℕ) (known : b < length (p .bridges))
           (λ m k r i j h l.
           let x = receives-says m r (filter-in (receives m) r (p .members) h .1) in
           let y = receives-says k r (filter-in (receives k) r (p .members) l .1) in
-          one-member p L m k (listed m i) (listed k j) (here-says m transmitters i .1 ∙ sym (here-says k transmitters j .1)) (sym (x .0) ∙ y .0) (sym (x .1) ∙ y .1))
+          one-member p L m k (listed m i) (listed k j) (here-says m transmitters i .1 ∙ sym (here-says k transmitters j .1)) (sym (x .1) ∙ y .1) (sym (x .2) ∙ y .2))
 
       inside : (r : Member) → In r (flatMap (λ m. filter (receives m) (p .members)) (here transmitters)) → In r (elsewhere (p .members))
       inside r k =
           let (m, i, j) = flatMap-in (λ m. filter (receives m) (p .members)) r (here transmitters) k in
           let x = filter-in (receives m) r (p .members) j in
           in-filter (λ m. not (atThis m)) r (p .members) (x .0)
-          (not-T (atThis r) (λ t. receives-says m r (x .1) .2 (eqb→eq (r .bridge) b t ∙ sym (here-says m transmitters i .1))))
+          (not-T (atThis r) (λ t. receives-says m r (x .1) .3 (eqb→eq (r .bridge) b t ∙ sym (here-says m transmitters i .1))))
 
   few-elsewhere : total most (elsewhere transmitters) ≤ length (elsewhere (p .members)) * 62
   few-elsewhere = omega (
