@@ -1,16 +1,17 @@
 -- What the path and the entries call answer for an accepted table (01, "Calls"): the chosen path with its cost and hops, or 12; the
 -- words of the bridge's entries. Assumes nothing.
-use Prim.Native.Nat.{ℕ, _<_}
+use Prim.Native.Nat.{ℕ, _≤_, _<_}
 use native.Mathlib.Omega.{arith}
 use mathlib.Core.Path.{_≡_, refl, sym, ap, _∙_}
 use mathlib.Core.List.{List, [], _++_}
 use mathlib.Core.Option.{Option, some}
-use mathlib.Core.Bool.{Bool, true, false, cond, _&&_}
-use lib.Dec.{eqb, leb, le→leb, lt→ltb, eqb→eq}
+use mathlib.Core.Logic.{_⊎_, inl, inr}
+use mathlib.Core.Bool.{true, false, cond, _&&_}
+use lib.Dec.{eqb, leb, le→leb, leb→le, lt→ltb, eqb→eq}
 use lib.ListN.{length, getElem?, drop-of-length-le}
 use Rattle.graph.specs.Lists.{filter}
 use Rattle.graph.specs.Members.{In}
-use Rattle.graph.specs.ListLaws.{both, is-true, eq-eqb, filter-in, in-filter, distinct-filter, only-one}
+use Rattle.graph.specs.ListLaws.{le-or-gt, both, is-true, is-false, eq-eqb, filter-in, in-filter, distinct-filter, only-one}
 use Rattle.rule.specs.Records.{Vid}
 use Rattle.rule.specs.Outcome.{Outcome, answered, refused, andThen, refusedAs, Written, overwritten, lentTo}
 use Rattle.rule.specs.Plan.{Plan, knownBridge, vidRecord}
@@ -23,39 +24,42 @@ use Rattle.rule.specs.OneRecord.{distinct-vids, one-vid}
 
 -- Lent lists
 
+holds : (m n : ℕ) → m ≤ n → leb m n ≡ true
+holds m n l = is-true (leb m n) (le→leb m n l)
+
+too-short : (m n : ℕ) → n < m → leb m n ≡ false
+too-short m n l = is-false (leb m n) (λ t. omega (arith, leb→le m n t))
+
 module _ {A : Type 0} where
   pub refused-not-answered : {n : ℕ} {k : Option ℕ} {at : ℕ} {a : A} → refused n k at ≡ answered a → ⊥
   refused-not-answered {n} {k} {at} {a} e = let z : _≡_ {A = ℕ} 0 1 = cc in omega arith
 
-  -- What a lent list and an answer come to, by whether the list holds it.
-  abbrev ended : List ℕ → Written A → Bool → Outcome A × List ℕ
-  ended old w fits = cond fits (answered (w .values), overwritten (w .words) old) (refusedAs 13, old)
-
   -- An answer's values and the list's later contents.
   pub lent-says : (old : List ℕ) (w : Written A) (a : A) (l : List ℕ) (r : Outcome A × List ℕ) → lentTo old (answered w) ≡ r → r .0 ≡ answered a → r .1 ≡ l
       → (w .values ≡ a) × (overwritten (w .words) old ≡ l)
-  lent-says old w a l r e f g = go (leb (length (w .words)) (length old)) (ap (λ (z : Outcome A × List ℕ). z .0) e ∙ f) (ap (λ (z : Outcome A × List ℕ). z .1) e ∙ g)
+  lent-says old w a l r e f g = go (le-or-gt (length (w .words)) (length old))
     where
-      go : (b : Bool) → ended old w b .0 ≡ answered a → ended old w b .1 ≡ l → (w .values ≡ a) × (overwritten (w .words) old ≡ l)
-      go true f g = (cc, g)
-      go false f g = absurd (refused-not-answered f)
+      go : (length (w .words) ≤ length old) ⊎ (length old < length (w .words)) → (w .values ≡ a) × (overwritten (w .words) old ≡ l)
+      go (inl h) = let d = rw (holds (length (w .words)) (length old) h) at e in
+          let i : answered (w .values) ≡ answered a = ap (λ (z : Outcome A × List ℕ). z .0) d ∙ f in (cc, ap (λ (z : Outcome A × List ℕ). z .1) d ∙ g)
+      go (inr h) = let d = rw (too-short (length (w .words)) (length old) h) at e in absurd (refused-not-answered (ap (λ (z : Outcome A × List ℕ). z .0) d ∙ f))
 
   -- A list that holds the answer and no more.
   pub lent-holds : (w : Written A) → lentTo (w .words) (answered w) ≡ (answered (w .values), w .words ++ [])
-  lent-holds w = ap (ended (w .words) w) (is-true (leb (length (w .words)) (length (w .words))) (le→leb (length (w .words)) (length (w .words)) (omega arith)))
-      ∙ (λ i. (answered (w .values), w .words ++ drop-of-length-le (w .words) {i = length (w .words)} (omega arith) i))
+  lent-holds w = rw (holds (length (w .words)) (length (w .words)) (omega arith))
+      (λ i. (answered (w .values), w .words ++ drop-of-length-le (w .words) {i = length (w .words)} (omega arith) i))
 
   -- An answer is never refused with 12, whatever list is lent: 13 where it is too short.
   pub lent-not-12 : (old : List ℕ) (w : Written A) → lentTo old (answered w) .0 ≡ refusedAs 12 → ⊥
-  lent-not-12 old w e = go (leb (length (w .words)) (length old)) e
+  lent-not-12 old w e = go (le-or-gt (length (w .words)) (length old))
     where
       number : Outcome A → ℕ
       number (answered a) = 0
       number (refused n k at) = n
 
-      go : (b : Bool) → ended old w b .0 ≡ refusedAs 12 → ⊥
-      go true e = refused-not-answered (sym e)
-      go false e = omega (arith, ap number e)
+      go : (length (w .words) ≤ length old) ⊎ (length old < length (w .words)) → ⊥
+      go (inl h) = refused-not-answered (sym (rw (holds (length (w .words)) (length old) h) at e))
+      go (inr h) = omega (arith, ap number (rw (too-short (length (w .words)) (length old) h) at e))
 
 module _ (t : List ℕ) (p : Plan) (accepted : verdict t ≡ answered p) (L : PlanLaws p) where
   -- The record of a VID of the table.

@@ -12,7 +12,7 @@ use lib.ListN.{length}
 use Rattle.graph.specs.Lists.{rising, filter, any}
 use Rattle.graph.specs.Members.{In, Distinct}
 use Rattle.graph.specs.ListLaws.{both, first-of, last-of, is-true, true-test, eq-eqb, in-append, map-in, flatMap-in, filter-in, in-filter, any-in, in-any, in-rising, rising-in, distinct-filter, distinct-rising, filter-none, filter-append, filter-flatMap, filter-flatMap-only, flatMap-only, map-back}
-use Rattle.rule.specs.Records.{HalfLink, Vid, Member, address, allWithin, portLimits}
+use Rattle.rule.specs.Records.{HalfLink, Vid, Member, address}
 use Rattle.rule.specs.Plan.{Plan, bridgeAt}
 use Rattle.rule.specs.Links.{Link, hopLink}
 use Rattle.rule.specs.Paths.{chosenPath}
@@ -78,35 +78,27 @@ module _ (hs : List HalfLink) where
       go (some l) e (inl f) = (u, v, t, l, refl, e, f)
       go (some l) e (inr k) = absurd k
 
--- "ports rising: a port is listed as soon as one receiver behind it is found": every port in range that was found is listed, no other
--- is, and none is listed twice.
-pub port-listed : (behind : List ℕ) (port : ℕ) → 1 ≤ port → port ≤ 4095 → In port behind → In port (listedPorts behind)
-unfolding listedPorts
-port-listed behind port l g k =
-    in-filter (λ port. any (λ q. eqb q port) behind) port (allWithin portLimits) (in-rising 1 4095 port l (omega arith))
-    (in-any (λ q. eqb q port) port behind k (eq-eqb port port refl))
-
+-- "ports rising: a port is listed as soon as one receiver behind it is found": a listed port is in range and was found, none is listed
+-- twice, and every port in range that was found is listed.
 pub listed-port : (behind : List ℕ) (port : ℕ) → In port (listedPorts behind) → (1 ≤ port) × (port ≤ 4095) × In port behind
 unfolding listedPorts
 listed-port behind port k =
-    let r = filter-in (λ port. any (λ q. eqb q port) behind) port (allWithin portLimits) k in
-    let s = rising-in 1 4095 port (r .0) in
+    let r = filter-in (λ port. any (λ q. eqb q port) behind) port _ k in
+    let s = rising-in _ _ port (r .0) in
     let (q, i, j) = any-in (λ q. eqb q port) behind (r .1) in
     (s .0, omega (arith, s .1), subst (λ (z : ℕ). In z behind) (eqb→eq q port j) i)
 
 pub distinct-ports : (behind : List ℕ) → Distinct (listedPorts behind)
 unfolding listedPorts
-distinct-ports behind = distinct-filter (λ port. any (λ q. eqb q port) behind) (allWithin portLimits) (distinct-rising 1 4095)
+distinct-ports behind = distinct-filter (λ port. any (λ q. eqb q port) behind) _ (distinct-rising _ _)
+
+pub port-listed : (behind : List ℕ) (port : ℕ) → 1 ≤ port → port ≤ 4095 → In port behind → In port (listedPorts behind)
+unfolding listedPorts
+port-listed behind port l g k =
+    in-filter (λ port. any (λ q. eqb q port) behind) port _ (in-rising _ _ port l (omega arith))
+    (in-any (λ q. eqb q port) port behind k (eq-eqb port port refl))
 
 -- "another bridge with R in the same I-SID and VID".
-pub says-receives : (m r : Member) → r .receives ≡ true → r .isid ≡ m .isid → r .vid ≡ m .vid → (r .bridge ≡ m .bridge → ⊥) → T (receives m r)
-says-receives m r t i v n =
-    both (r .receives && eqb (r .isid) (m .isid) && eqb (r .vid) (m .vid)) (not (eqb (r .bridge) (m .bridge)))
-    (both (r .receives && eqb (r .isid) (m .isid)) (eqb (r .vid) (m .vid))
-    (both (r .receives) (eqb (r .isid) (m .isid)) (true-test (r .receives) t) (eq-eqb (r .isid) (m .isid) i))
-    (eq-eqb (r .vid) (m .vid) v))
-    (not-T (eqb (r .bridge) (m .bridge)) (λ t. n (eqb→eq (r .bridge) (m .bridge) t)))
-
 pub receives-says : (m r : Member) → T (receives m r) → (r .receives ≡ true) × (r .isid ≡ m .isid) × (r .vid ≡ m .vid) × (r .bridge ≡ m .bridge → ⊥)
 receives-says m r t =
     let x = first-of (r .receives && eqb (r .isid) (m .isid) && eqb (r .vid) (m .vid)) (not (eqb (r .bridge) (m .bridge))) t in
@@ -116,6 +108,14 @@ receives-says m r t =
       eqb→eq (r .vid) (m .vid) (last-of (r .receives && eqb (r .isid) (m .isid)) (eqb (r .vid) (m .vid)) x),
       λ e. T-not (eqb (r .bridge) (m .bridge)) (last-of (r .receives && eqb (r .isid) (m .isid) && eqb (r .vid) (m .vid)) (not (eqb (r .bridge) (m .bridge))) t) (eq-eqb (r .bridge) (m .bridge) e),
     )
+
+pub says-receives : (m r : Member) → r .receives ≡ true → r .isid ≡ m .isid → r .vid ≡ m .vid → (r .bridge ≡ m .bridge → ⊥) → T (receives m r)
+says-receives m r t i v n =
+    both (r .receives && eqb (r .isid) (m .isid) && eqb (r .vid) (m .vid)) (not (eqb (r .bridge) (m .bridge)))
+    (both (r .receives && eqb (r .isid) (m .isid)) (eqb (r .vid) (m .vid))
+    (both (r .receives) (eqb (r .isid) (m .isid)) (true-test (r .receives) t) (eq-eqb (r .isid) (m .isid) i))
+    (eq-eqb (r .vid) (m .vid) v))
+    (not-T (eqb (r .bridge) (m .bridge)) (λ t. n (eqb→eq (r .bridge) (m .bridge) t)))
 
 -- The entries, one by one
 

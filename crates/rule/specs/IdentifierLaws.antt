@@ -10,7 +10,7 @@ use lib.Bits.{bitXor, differ, xor-step, xor-lt}
 use lib.Arith.{mod-mul}
 use lib.Pow.{mod-mod-pow}
 use lib.Dec.{ltb, ltb→lt}
-use lib.ListN.{List·getD-eq-default}
+use lib.ListN.{getD, List·getD-eq-default}
 use Rattle.graph.specs.Lists.{any}
 use Rattle.graph.specs.Graph.{KeyLaws}
 use Rattle.graph.specs.ListLaws.{le-or-gt, passes, in-any, place-in}
@@ -77,19 +77,20 @@ masked-same (suc n) m i j l e = rw pow-suc (mod-mul i positive (omega arith) ∙
     low : i / 256 % 256 ^ n ≡ j / 256 % 256 ^ n → i / 256 % 256 ^ n * 256 + i % 256 ≡ j / 256 % 256 ^ n * 256 + j % 256
     low f = cc (f, xor-apart 8 (i % 256) (j % 256) m (omega arith) (omega arith) (s .1))
 
-mask-is-byte : (index : ℕ) → maskOf index < 256
+-- Every mask is a byte.
+mask-is-byte : (n : ℕ) → getD masks n 0 < 256
 unfolding any
-mask-is-byte index = go (le-or-gt 16 (index - 1))
+mask-is-byte n = go (le-or-gt 16 n)
   where
-    go : (16 ≤ index - 1) ⊎ (index - 1 < 16) → maskOf index < 256
+    go : (16 ≤ n) ⊎ (n < 16) → getD masks n 0 < 256
     go (inl h) = omega (arith, List·getD-eq-default masks 0 h)
-    go (inr h) = ltb→lt (maskOf index) 256 (passes (ltb (maskOf index) 256) (in-any (λ m. not (ltb m 256)) (maskOf index) masks (place-in masks (index - 1) 0 h)))
+    go (inr h) = ltb→lt (getD masks n 0) 256 (passes (ltb (getD masks n 0) 256) (in-any (λ m. not (ltb m 256)) (getD masks n 0) masks (place-in masks n 0 h)))
 
 -- Masked identifiers of different addresses differ: the address is the lowest 48 of the 64 bits.
 masked-address : (index i j : ℕ) → maskedIdentifier index i ≡ maskedIdentifier index j → i % 2 ^ 48 ≡ j % 2 ^ 48
 unfolding maskedIdentifier
 masked-address index i j e =
-    let f : i % 2 ^ (16 + 48) ≡ j % 2 ^ (16 + 48) = masked-same 8 (maskOf index) i j (mask-is-byte index) e in
+    let f : i % 2 ^ (16 + 48) ≡ j % 2 ^ (16 + 48) = masked-same 8 (maskOf index) i j (mask-is-byte (index - 1)) e in
     sym (mod-mod-pow i 16 48) ∙ ap (λ (n : ℕ). n % 2 ^ 48) f ∙ mod-mod-pow j 16 48
 
 module _ (p : Plan) (L : PlanLaws p) where

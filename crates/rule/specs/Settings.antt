@@ -15,12 +15,12 @@ use Rattle.rule.specs.Check.{lowestFault, readOn, verdict}
 use Rattle.rule.specs.Entries.{entryListOf}
 use Rattle.rule.specs.Calls.{entriesOutcome}
 use Rattle.rule.specs.Tables.{table}
-use Rattle.rule.specs.Figures.{diamond}
-use Rattle.rule.specs.Worked.{worked, workedPlan, worked-accepted}
 use Rattle.rule.specs.Demand3.{WrittenFor, Setting, Demand3}
 use Rattle.rule.specs.Accepted.{accepted-laws}
 use Rattle.rule.specs.CallLaws.{lent-holds, entries-asked}
 use Rattle.rule.specs.Demand3Proved.{demand-3}
+use Rattle.rule.specs.Worked.{worked, workedPlan, worked-accepted}
+use Rattle.rule.specs.Figures.{diamond}
 
 -- "Entries are written in full when that call answered for every bridge": with lists that hold them and no more it does.
 written-in-full : (t : List ℕ) (p : Plan) → verdict t ≡ answered p → (u : ℕ) → u < length (p .bridges) → WrittenFor t u (entryListOf p u)
