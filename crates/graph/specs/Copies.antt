@@ -70,7 +70,7 @@ module _ (g : Graph) (key : ℕ → ℕ) (s : ℕ) where
           go : ((c : ℕ) × In c (copies children s n) × In v (children c)) → ((c : ℕ) → In c (copies children s n) → Placed g key s n c) → Placed g key s (suc n) v
           go (c, k, l) ih = next c (ih c k) (fed-placed c v (H .fed c v (placed-inside n c (ih c k)) l))
 
-      copy-inside : (n v : ℕ) → In v (copies children s n) → v < g .size
+      pub copy-inside : (n v : ℕ) → In v (copies children s n) → v < g .size
       copy-inside n v h = placed-inside n v (copy-placed n v h)
 
       -- "At each bridge that the frame from a enters, the entry for a names the arrival port" (demand 3), for copies and their sender:

@@ -13,8 +13,8 @@ use Rattle.graph.specs.Order.{Lower, lower}
 use Rattle.graph.specs.Graph.{Graph, GraphLaws, KeyLaws, Joined, GoesOn, Onward, Path, costOnward, cost, rank}
 use Rattle.graph.specs.Chosen.{Chosen, neighbours, goesOn, onward, paths, chosen}
 use Rattle.graph.specs.Members.{In, Distinct}
-use Rattle.graph.specs.ListLaws.{in-map, map-in, in-flatMap, flatMap-in, filter-in, in-filter, in-consIf, consIf-here, consIf-there, in-rising, lowest-is, lowest-none, eq-eqb}
-use Rattle.graph.specs.OrderLaws.{lower-never, lower-chained, lower-between, lower-test, test-lower}
+use Rattle.graph.specs.ListLaws.{in-map, map-in, in-flatMap, flatMap-in, filter-in, in-filter, in-consIf, consIf-here, consIf-there, in-rising, lowest-none, eq-eqb}
+use Rattle.graph.specs.OrderLaws.{lowest-ranked}
 use Rattle.graph.specs.Paths.{entered-inside, path-first}
 use Rattle.graph.specs.LeastPaths.{without-repeats, distinct-bounded}
 use Rattle.graph.specs.ChosenPaths.{lower-cost, not-lower-cost, chosen-unique, lowest-chosen}
@@ -101,29 +101,14 @@ module _ (g : Graph) (L : GraphLaws g) (key : ℕ → ℕ) where
   pub enumerated-lowest : (a b : ℕ) (p : List ℕ) → chosen g key a b ≡ some p
       → Path g a b p × ((q : List ℕ) → Path g a b q → Lower (rank g key q) (rank g key p) → ⊥)
   unfolding chosen
-  enumerated-lowest a b p e = go (lowest-is (λ p q. lower (rank g key p) (rank g key q)) never chained between (paths g a b) p e)
+  enumerated-lowest a b p e = go (lowest-ranked (rank g key) (λ p q. lower (rank g key p) (rank g key q)) (λ p q. refl) (paths g a b) p e)
     where
-      never : (x : List ℕ) → T (lower (rank g key x) (rank g key x)) → ⊥
-      never x h = lower-never (rank g key x) (test-lower (rank g key x) (rank g key x) h)
-
-      chained : (x y z : List ℕ) → T (lower (rank g key x) (rank g key y)) → T (lower (rank g key y) (rank g key z)) → T (lower (rank g key x) (rank g key z))
-      chained x y z h k = lower-test (rank g key x) (rank g key z) (lower-chained (rank g key x) (rank g key y) (rank g key z)
-          (test-lower (rank g key x) (rank g key y) h) (test-lower (rank g key y) (rank g key z) k))
-
-      between : (x y z : List ℕ) → T (lower (rank g key x) (rank g key z)) → T (lower (rank g key x) (rank g key y)) ⊎ T (lower (rank g key y) (rank g key z))
-      between x y z h = side (lower-between (rank g key x) (rank g key y) (rank g key z) (test-lower (rank g key x) (rank g key z) h))
-        where
-          side : Lower (rank g key x) (rank g key y) ⊎ Lower (rank g key y) (rank g key z)
-              → T (lower (rank g key x) (rank g key y)) ⊎ T (lower (rank g key y) (rank g key z))
-          side (inl k) = inl (lower-test (rank g key x) (rank g key y) k)
-          side (inr k) = inr (lower-test (rank g key y) (rank g key z) k)
-
-      go : In p (paths g a b) × ((q : List ℕ) → In q (paths g a b) → T (lower (rank g key q) (rank g key p)) → ⊥)
+      go : In p (paths g a b) × ((q : List ℕ) → In q (paths g a b) → Lower (rank g key q) (rank g key p) → ⊥)
           → Path g a b p × ((q : List ℕ) → Path g a b q → Lower (rank g key q) (rank g key p) → ⊥)
       go (k, f) = (enumerated-path g a b p k, λ q o h. any q (path-first g a b q o) h)
         where
           listed : (s : List ℕ) → Onward g a s b → Distinct (a ∷ s) → Lower (rank g key (a ∷ s)) (rank g key p) → ⊥
-          listed s o d h = f (a ∷ s) (path-enumerated g L a b s o d) (lower-test (rank g key (a ∷ s)) (rank g key p) h)
+          listed s o d h = f (a ∷ s) (path-enumerated g L a b s o d) h
 
           shorter : (q t : List ℕ) → q ≡ a ∷ t → Lower (rank g key q) (rank g key p)
               → ((s : List ℕ) × Onward g a s b × Distinct (a ∷ s) × ((s ≡ t) ⊎ (costOnward g a s < costOnward g a t))) → ⊥

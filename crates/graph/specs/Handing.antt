@@ -14,22 +14,10 @@ use Rattle.graph.specs.Chosen.{Chosen, chosen}
 use Rattle.graph.specs.Members.{In}
 use Rattle.graph.specs.Notions.{Leaves}
 use Rattle.graph.specs.Moves.{leaves, leavesOn, handed, Feeds, HandsDown}
-use Rattle.graph.specs.ListLaws.{filter-in, in-filter, any-in, in-any, in-rising, distinct-filter, distinct-rising, eq-eqb}
+use Rattle.graph.specs.ListLaws.{filter-in, in-filter, any-in, in-any, in-rising, distinct-filter, distinct-rising, eq-eqb, both, first-of, last-of}
 use Rattle.graph.specs.Paths.{entered-inside, end-inside}
 use Rattle.graph.specs.Enumeration.{chosen-is, is-chosen}
 use Rattle.graph.specs.Forwarding.{departure}
-
-both : (a b : Bool) → T a → T b → T (a && b)
-both true b h k = k
-both false b h k = absurd h
-
-first-of : (a b : Bool) → T (a && b) → T a
-first-of true b h = tt
-first-of false b h = absurd h
-
-last-of : (a b : Bool) → T (a && b) → T b
-last-of true b h = h
-last-of false b h = absurd h
 
 -- The test says the same as `Leaves`.
 pub test-leaves : (c v : ℕ) (p : List ℕ) → T (leaves c v p) → Leaves c v p

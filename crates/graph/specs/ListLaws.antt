@@ -1,17 +1,17 @@
 -- Laws of plain lists and numbers: membership, parts, nothing twice, filters, the lowest of a list. None of them knows a graph.
 -- Assumes nothing.
-use Prim.Native.Nat.{ℕ, zero, suc, _+_, _≤_, _<_}
+use Prim.Native.Nat.{ℕ, zero, suc, _+_, _*_, _≤_, _<_}
 use native.Mathlib.Omega.{arith}
 use mathlib.Core.Path.{_≡_, refl, sym, ap, _∙_, subst}
-use mathlib.Core.List.{List, [], _∷_, _++_, map, flatMap, reverse, append-assoc, reverse-cons, map-append}
+use mathlib.Core.List.{List, [], _∷_, _++_, map, flatMap, reverse, append-nil, append-assoc, reverse-cons, map-append}
 use mathlib.Core.Option.{Option, none, some}
 use mathlib.Core.Logic.{_⊎_, inl, inr}
-use mathlib.Core.Bool.{Bool, true, false, cond, not, _||_}
+use mathlib.Core.Bool.{Bool, true, false, cond, not, _&&_, _||_}
 use lib.Dec.{T, leb, eqb, leb→le, nleb→lt, eqb→eq, eqb-refl}
-use lib.ListN.{length, getD, drop, length-append}
+use lib.ListN.{length, getD, getElem?, drop, length-append}
 use lib.Seq.{drop-cons}
 use Rattle.graph.specs.Lists.{rising, consIf, filter, any, lowerOf, lowestBy}
-use Rattle.graph.specs.Members.{In, Distinct, lastOf, HasPart, along, times}
+use Rattle.graph.specs.Members.{In, Distinct, Pairwise, lastOf, HasPart, total, along, times}
 
 -- Numbers
 
@@ -57,6 +57,44 @@ module _ {A : Type 0} where
       go : (b : Bool) → (T b → m ≡ n) → cond b x y ≡ y
       go true f = absurd (h (f tt))
       go false f = refl
+
+-- Tests
+
+pub both : (a b : Bool) → T a → T b → T (a && b)
+both true b h k = k
+both false b h k = absurd h
+
+pub first-of : (a b : Bool) → T (a && b) → T a
+first-of true b h = tt
+first-of false b h = absurd h
+
+pub last-of : (a b : Bool) → T (a && b) → T b
+last-of true b h = h
+last-of false b h = absurd h
+
+pub either-left : (a b : Bool) → T a → T (a || b)
+either-left true b h = tt
+either-left false b h = absurd h
+
+pub either-right : (a b : Bool) → T b → T (a || b)
+either-right true b h = tt
+either-right false b h = h
+
+-- A test whose negation does not pass passes.
+pub passes : (b : Bool) → (T (not b) → ⊥) → T b
+passes true f = tt
+passes false f = f tt
+
+pub is-true : (b : Bool) → T b → b ≡ true
+is-true true h = refl
+is-true false h = absurd h
+
+pub is-false : (b : Bool) → (T b → ⊥) → b ≡ false
+is-false true f = absurd (f tt)
+is-false false f = refl
+
+pub true-test : (b : Bool) → b ≡ true → T b
+true-test b e = rw e tt
 
 -- Constructors
 
@@ -171,16 +209,16 @@ module _ {A B : Type 0} (f : A → A → B) where
   along-end (x ∷ []) y z = refl
   along-end (x ∷ w ∷ xs) y z = ap (λ (t : List B). f x w ∷ t) (along-end (w ∷ xs) y z)
 
-  -- What is the same in both directions comes in reverse order along the reversed list.
-  pub along-reverse : ((x y : A) → f x y ≡ f y x) → (p : List A) → along f (reverse p) ≡ reverse (along f p)
-  along-reverse symmetric [] = refl
-  along-reverse symmetric (x ∷ []) = refl
-  along-reverse symmetric (x ∷ y ∷ t) =
+  -- What `g` turns round comes turned, in reverse order, along the reversed list.
+  pub along-reverse : (g : B → B) → ((x y : A) → f y x ≡ g (f x y)) → (p : List A) → along f (reverse p) ≡ reverse (map g (along f p))
+  along-reverse g turns [] = refl
+  along-reverse g turns (x ∷ []) = refl
+  along-reverse g turns (x ∷ y ∷ t) =
       ap (along f) (reverse-cons x (y ∷ t) ∙ ap (λ (s : List A). s ++ (x ∷ [])) (reverse-cons y t) ∙ append-assoc (reverse t) (y ∷ []) (x ∷ []))
       ∙ along-end (reverse t) y x
-      ∙ ap (λ (s : List B). s ++ (f y x ∷ [])) (ap (along f) (sym (reverse-cons y t)) ∙ along-reverse symmetric (y ∷ t))
-      ∙ ap (λ (b : B). reverse (along f (y ∷ t)) ++ (b ∷ [])) (symmetric y x)
-      ∙ sym (reverse-cons (f x y) (along f (y ∷ t)))
+      ∙ ap (λ (s : List B). s ++ (f y x ∷ [])) (ap (along f) (sym (reverse-cons y t)) ∙ along-reverse g turns (y ∷ t))
+      ∙ ap (λ (b : B). reverse (map g (along f (y ∷ t))) ++ (b ∷ [])) (turns x y)
+      ∙ sym (reverse-cons (g (f x y)) (map g (along f (y ∷ t))))
 
 -- Those that pass a test
 
@@ -255,6 +293,11 @@ in-rising k (suc n) m h l = go (compared k m) (in-rising (suc k) n m)
     go (inr (inl e)) ih = inl (sym e)
     go (inr (inr p)) ih = absurd (omega arith)
 
+pub length-rising : (k n : ℕ) → length (rising k n) ≡ n
+unfolding rising
+length-rising k zero = refl
+length-rising k (suc n) = ap suc (length-rising (suc k) n)
+
 -- Nothing twice
 
 module _ {A : Type 0} where
@@ -270,24 +313,20 @@ module _ {A : Type 0} where
   distinct-right [] ys d = d
   distinct-right (x ∷ xs) ys d = distinct-right xs ys (d .1)
 
-  pub in-around : (x : A) (xs : List A) (a : A) (ys : List A) → In x (xs ++ ys) → In x (xs ++ (a ∷ ys))
-  in-around x xs a ys k = go (in-append x xs ys k)
+  -- A list with nothing twice, all of it in another, is no longer than that.
+  pub distinct-within : (xs ys : List A) → Distinct xs → ((x : A) → In x xs → In x ys) → length xs ≤ length ys
+  distinct-within [] ys d h = omega arith
+  distinct-within (x ∷ xs) ys d h = go (in-split x ys (h x (inl refl))) (distinct-within xs)
     where
-      go : In x xs ⊎ In x ys → In x (xs ++ (a ∷ ys))
-      go (inl l) = in-left x xs (a ∷ ys) l
-      go (inr l) = in-right x xs (a ∷ ys) (inr l)
-
-  -- Taking one out leaves nothing twice, and that one nowhere.
-  pub distinct-without : (xs : List A) (a : A) (ys : List A) → Distinct (xs ++ (a ∷ ys)) → Distinct (xs ++ ys) × (In a (xs ++ ys) → ⊥)
-  distinct-without [] a ys d = (d .1, d .0)
-  distinct-without (x ∷ xs) a ys d = go (distinct-without xs a ys (d .1))
-    where
-      none-of : (In a (xs ++ ys) → ⊥) → In a (x ∷ (xs ++ ys)) → ⊥
-      none-of n (inl f) = d .0 (subst (λ (y : A). In y (xs ++ (a ∷ ys))) f (in-here a xs ys))
-      none-of n (inr k) = n k
-
-      go : (Distinct (xs ++ ys) × (In a (xs ++ ys) → ⊥)) → Distinct (x ∷ (xs ++ ys)) × (In a (x ∷ (xs ++ ys)) → ⊥)
-      go (e, n) = ((λ k. d .0 (in-around x xs a ys k), e), none-of n)
+      go : ((us : List A) × (vs : List A) × (ys ≡ us ++ (x ∷ vs))) → ((zs : List A) → Distinct xs → ((y : A) → In y xs → In y zs) → length xs ≤ length zs)
+          → suc (length xs) ≤ length ys
+      go (us, vs, e) ih = let l : length xs ≤ length (us ++ vs) = ih (us ++ vs) (d .1) (λ y k. other y k (in-append y us (x ∷ vs) (rw e at (h y (inr k))))) in
+          omega (arith, ap (λ (t : List A). length t) e, length-append us (x ∷ vs), length-append us vs)
+        where
+          other : (y : A) → In y xs → In y us ⊎ In y (x ∷ vs) → In y (us ++ vs)
+          other y k (inl m) = in-left y us vs m
+          other y k (inr (inl f)) = absurd (d .0 (subst (λ (z : A). In z xs) f k))
+          other y k (inr (inr m)) = in-right y us vs m
 
   pub distinct-filter : (test : A → Bool) (xs : List A) → Distinct xs → Distinct (filter test xs)
   unfolding filter
@@ -317,32 +356,13 @@ in-or-not a (x ∷ xs) = go (same-or-not a x) (in-or-not a xs)
     go (inr f) (inl h) = inl (inr h)
     go (inr f) (inr h) = inr (neither f h)
 
-below-but : (n : ℕ) (zs : List ℕ) → (In n zs → ⊥) → ((x : ℕ) → In x zs → x < suc n) → (x : ℕ) → In x zs → x < n
-below-but n zs f l x k = go (compared x n)
-  where
-    go : (x < n) ⊎ (x ≡ n) ⊎ (n < x) → x < n
-    go (inl p) = p
-    go (inr (inl e)) = absurd (f (subst (λ (y : ℕ). In y zs) e k))
-    go (inr (inr p)) = absurd (omega (arith, l x k))
-
 -- A list of numbers below n with nothing twice has at most n of them.
 pub at-most : (n : ℕ) (xs : List ℕ) → Distinct xs → ((x : ℕ) → In x xs → x < n) → length xs ≤ n
-at-most zero [] d h = omega arith
-at-most zero (x ∷ xs) d h = let l : x < 0 = h x (inl refl) in absurd (omega arith)
-at-most (suc n) xs d h = go (in-or-not n xs) (at-most n)
-  where
-    without : ((ys : List ℕ) × (zs : List ℕ) × (xs ≡ ys ++ (n ∷ zs)))
-        → ((zs : List ℕ) → Distinct zs → ((x : ℕ) → In x zs → x < n) → length zs ≤ n) → length xs ≤ suc n
-    without (ys, zs, e) ih =
-        let r = distinct-without ys n zs (rw e at d) in
-        let below = below-but n (ys ++ zs) (r .1) (λ x k. h x (rw e (in-around x ys n zs k))) in
-        let l : length (ys ++ zs) ≤ n = ih (ys ++ zs) (r .0) below in
-        omega (arith, ap (λ (t : List ℕ). length t) e, length-append ys (n ∷ zs), length-append ys zs)
-
-    go : In n xs ⊎ (In n xs → ⊥) → ((zs : List ℕ) → Distinct zs → ((x : ℕ) → In x zs → x < n) → length zs ≤ n)
-        → length xs ≤ suc n
-    go (inl k) ih = without (in-split n xs k) ih
-    go (inr f) ih = omega (arith, ih xs d (below-but n xs f h))
+at-most n xs d h = omega (
+  arith,
+  distinct-within xs (rising 0 n) d (λ x k. in-rising 0 n x (omega arith) (omega (arith, h x k))),
+  length-rising 0 n,
+)
 
 module _ {A B : Type 0} where
   -- Lists that have nothing twice, none of them anything of another, have nothing twice together.
@@ -448,3 +468,205 @@ module _ {A : Type 0} (before : A → A → Bool)
           → In m (x ∷ xs) × ((z : A) → In z (x ∷ xs) → T (before z m) → ⊥)
       go none f h ih = let i : x ≡ m = cc in rw (← i) (inl refl, single f)
       go (some y) f h ih = pick (before y x) y (λ p. p) (λ p. p) h (ih y f)
+
+-- Relations along a list
+
+module _ {A : Type 0} (R : A → A → Type 0) where
+  pub pairwise-end : (xs : List A) (a : A) → Pairwise R xs → ((x : A) → In x xs → R x a) → Pairwise R (xs ++ (a ∷ []))
+  pairwise-end [] a d h = (λ y k. absurd k, tt)
+  pairwise-end (x ∷ xs) a d h = (λ y k. go y (in-append y xs (a ∷ []) k), pairwise-end xs a (d .1) (λ y k. h y (inr k)))
+    where
+      go : (y : A) → In y xs ⊎ In y (a ∷ []) → R x y
+      go y (inl k) = d .0 y k
+      go y (inr (inl e)) = rw e (h x (inl refl))
+      go y (inr (inr k)) = absurd k
+
+  -- Any two of the list are equal or so related, one way or the other.
+  pub pairwise-in : (xs : List A) → Pairwise R xs → (a b : A) → In a xs → In b xs → (a ≡ b) ⊎ R a b ⊎ R b a
+  pairwise-in (x ∷ xs) d a b (inl e) (inl f) = inl (e ∙ sym f)
+  pairwise-in (x ∷ xs) d a b (inl e) (inr k) = inr (inl (rw e (d .0 b k)))
+  pairwise-in (x ∷ xs) d a b (inr h) (inl f) = inr (inr (rw f (d .0 a h)))
+  pairwise-in (x ∷ xs) d a b (inr h) (inr k) = pairwise-in xs (d .1) a b h k
+
+  -- Two that are so related neither way are one.
+  pub pairwise-one : (xs : List A) → Pairwise R xs → (a b : A) → In a xs → In b xs → (R a b → ⊥) → (R b a → ⊥) → a ≡ b
+  pairwise-one xs d a b i j f g = go (pairwise-in xs d a b i j)
+    where
+      go : (a ≡ b) ⊎ R a b ⊎ R b a → a ≡ b
+      go (inl e) = e
+      go (inr (inl r)) = absurd (f r)
+      go (inr (inr r)) = absurd (g r)
+
+  -- A relation that nothing has to itself leaves nothing twice.
+  pub pairwise-distinct : (xs : List A) → Pairwise R xs → ((x : A) → In x xs → R x x → ⊥) → Distinct xs
+  pairwise-distinct [] d f = tt
+  pairwise-distinct (x ∷ xs) d f = (λ k. f x (inl refl) (d .0 x k), pairwise-distinct xs (d .1) (λ y k. f y (inr k)))
+
+-- Places and fronts of a list
+
+module _ {A : Type 0} where
+  pub place-in : (xs : List A) (i : ℕ) (d : A) → i < length xs → In (getD xs i d) xs
+  place-in [] i d l = absurd (omega arith)
+  place-in (x ∷ xs) zero d l = inl refl
+  place-in (x ∷ xs) (suc i) d l = inr (place-in xs i d (omega arith))
+
+  -- Two places with the same thing are one.
+  pub distinct-places : (xs : List A) (d : A) → Distinct xs → (i j : ℕ) → i < length xs → j < length xs → getD xs i d ≡ getD xs j d → i ≡ j
+  distinct-places [] d D i j l m e = absurd (omega arith)
+  distinct-places (x ∷ xs) d D zero zero l m e = refl
+  distinct-places (x ∷ xs) d D zero (suc j) l m e = absurd (D .0 (subst (λ (y : A). In y xs) (sym e) (place-in xs j d (omega arith))))
+  distinct-places (x ∷ xs) d D (suc i) zero l m e = absurd (D .0 (subst (λ (y : A). In y xs) e (place-in xs i d (omega arith))))
+  distinct-places (x ∷ xs) d D (suc i) (suc j) l m e = ap suc (distinct-places xs d (D .1) i j (omega arith) (omega arith) e)
+
+  -- Lists of one length in front of others are equal where the wholes are.
+  pub append-same : (xs ys us vs : List A) → length xs ≡ length ys → xs ++ us ≡ ys ++ vs → xs ≡ ys
+  append-same [] [] us vs l e = refl
+  append-same [] (y ∷ ys) us vs l e = absurd (omega arith)
+  append-same (x ∷ xs) [] us vs l e = absurd (omega arith)
+  append-same (x ∷ xs) (y ∷ ys) us vs l e = let f : xs ++ us ≡ ys ++ vs = cc in let g : x ≡ y = cc in
+      let h : xs ≡ ys = append-same xs ys us vs (omega arith) f in cc
+
+  pub first-in : (xs : List A) (a : A) → getElem? xs 0 ≡ some a → In a xs
+  first-in [] a e = absurd (none-not-some e)
+  first-in (x ∷ xs) a e = inl (let f : a ≡ x = cc in f)
+
+  -- The one of a list that has nothing else and nothing twice.
+  pub only-one : (xs : List A) (a : A) → Distinct xs → In a xs → ((x : A) → In x xs → x ≡ a) → xs ≡ a ∷ []
+  only-one (x ∷ []) a d h f = ap (λ (y : A). y ∷ []) (f x (inl refl))
+  only-one (x ∷ y ∷ xs) a d h f = absurd (d .0 (inl (f x (inl refl) ∙ sym (f y (inr (inl refl))))))
+
+  -- All of a list, none of it, and its parts under a test
+
+  pub filter-all : (test : A → Bool) (xs : List A) → ((x : A) → In x xs → T (test x)) → filter test xs ≡ xs
+  unfolding filter
+  filter-all test [] f = refl
+  filter-all test (x ∷ xs) f = rw (is-true (test x) (f x (inl refl))) (ap (λ (t : List A). x ∷ t) (filter-all test xs (λ y k. f y (inr k))))
+
+  pub filter-none : (test : A → Bool) (xs : List A) → ((x : A) → In x xs → T (test x) → ⊥) → filter test xs ≡ []
+  filter-none test xs f = nothing-in (filter test xs) (λ a k. let r = filter-in test a xs k in f a (r .0) (r .1))
+
+  pub filter-append : (test : A → Bool) (xs ys : List A) → filter test (xs ++ ys) ≡ filter test xs ++ filter test ys
+  unfolding filter
+  filter-append test [] ys = refl
+  filter-append test (x ∷ xs) ys = rw (filter-append test xs ys) (go (test x))
+    where
+      go : (b : Bool) → consIf b x (filter test xs ++ filter test ys) ≡ consIf b x (filter test xs) ++ filter test ys
+      go true = refl
+      go false = refl
+
+  -- Each of a list passes the test or its negation.
+  pub filter-parts : (test : A → Bool) (xs : List A) → length (filter test xs) + length (filter (λ x. not (test x)) xs) ≡ length xs
+  unfolding filter
+  filter-parts test [] = refl
+  filter-parts test (x ∷ xs) = go (test x) (filter-parts test xs)
+    where
+      go : (b : Bool) → length (filter test xs) + length (filter (λ x. not (test x)) xs) ≡ length xs
+          → length (consIf b x (filter test xs)) + length (consIf (not b) x (filter (λ x. not (test x)) xs)) ≡ suc (length xs)
+      go true e = omega arith
+      go false e = omega arith
+
+-- What a list gives for each of its own
+
+module _ {A B : Type 0} where
+  pub filter-flatMap : (test : B → Bool) (f : A → List B) (xs : List A) → filter test (flatMap f xs) ≡ flatMap (λ x. filter test (f x)) xs
+  unfolding filter flatMap
+  filter-flatMap test f [] = refl
+  filter-flatMap test f (x ∷ xs) = filter-append test (f x) (flatMap f xs) ∙ ap (λ (t : List B). filter test (f x) ++ t) (filter-flatMap test f xs)
+
+  pub flatMap-none : (f : A → List B) (xs : List A) → ((x : A) → In x xs → f x ≡ []) → flatMap f xs ≡ []
+  flatMap-none f xs h = nothing-in (flatMap f xs) (λ b k. let r = flatMap-in f b xs k in subst (λ (t : List B). In b t) (h (r .0) (r .1)) (r .2))
+
+  -- Where one of a list alone gives anything, all that is given is what it gives.
+  pub flatMap-only : (f : A → List B) (a : A) (xs : List A) → Distinct xs → In a xs → ((x : A) → In x xs → (x ≡ a → ⊥) → f x ≡ []) → flatMap f xs ≡ f a
+  unfolding flatMap
+  flatMap-only f a (x ∷ xs) d (inl e) h = rw e (ap (λ (t : List B). f x ++ t) (flatMap-none f xs (λ y k. h y (inr k) (λ g. d .0 (subst (λ (z : A). In z xs) (g ∙ e) k)))) ∙ append-nil (f x))
+  flatMap-only f a (x ∷ xs) d (inr k) h = rw (h x (inl refl) (λ e. d .0 (subst (λ (z : A). In z xs) (sym e) k))) (flatMap-only f a xs (d .1) k (λ y l. h y (inr l)))
+
+  -- Where all that one of a list gives passes a test, and nothing that another gives, what passes is what that one gives.
+  pub filter-flatMap-only :
+      (test : B → Bool)
+      (f : A → List B)
+      (a : A)
+      (xs : List A) →
+      Distinct xs →
+      In a xs →
+      ((b : B) → In b (f a) → T (test b)) →
+      ((x : A) → In x xs → (x ≡ a → ⊥) → (b : B) → In b (f x) → T (test b) → ⊥) →
+      filter test (flatMap f xs) ≡ f a
+  filter-flatMap-only test f a xs d k h n =
+      filter-flatMap test f xs
+      ∙ flatMap-only (λ x. filter test (f x)) a xs d k (λ x i m. filter-none test (f x) (n x i m))
+      ∙ filter-all test (f a) h
+
+  pub length-flatMap-each : (f : A → List B) (n : ℕ) (xs : List A) → ((x : A) → In x xs → length (f x) ≡ n) → length (flatMap f xs) ≡ length xs * n
+  unfolding flatMap
+  length-flatMap-each f n [] h = omega arith
+  length-flatMap-each f n (x ∷ xs) h = omega (arith, length-append (f x) (flatMap f xs), h x (inl refl), length-flatMap-each f n xs (λ y k. h y (inr k)))
+
+  pub map-back : (f : A → B) (g : B → A) → ((x : A) → g (f x) ≡ x) → (xs : List A) → map g (map f xs) ≡ xs
+  map-back f g h [] = refl
+  map-back f g h (x ∷ xs) = rw (h x) (ap (λ (t : List A). x ∷ t) (map-back f g h xs))
+
+  -- What tells two things apart also tells what it gives of them apart.
+  pub map-injective : (f : A → B) → ((x y : A) → f x ≡ f y → x ≡ y) → (xs ys : List A) → map f xs ≡ map f ys → xs ≡ ys
+  map-injective f h [] [] e = refl
+  map-injective f h [] (y ∷ ys) e = absurd (nil-not-cons e)
+  map-injective f h (x ∷ xs) [] e = absurd (nil-not-cons (sym e))
+  map-injective f h (x ∷ xs) (y ∷ ys) e = let i : f x ≡ f y = cc in let j : map f xs ≡ map f ys = cc in cc (h x y i, map-injective f h xs ys j)
+
+  pub distinct-map : (f : A → B) (xs : List A) → Distinct xs → ((x y : A) → In x xs → In y xs → f x ≡ f y → x ≡ y) → Distinct (map f xs)
+  distinct-map f [] d h = tt
+  distinct-map f (x ∷ xs) d h = (λ k. go (map-in f (f x) xs k), distinct-map f xs (d .1) (λ y z k l. h y z (inr k) (inr l)))
+    where
+      go : ((a : A) × In a xs × (f x ≡ f a)) → ⊥
+      go (a, k, e) = d .0 (subst (λ (y : A). In y xs) (sym (h x a (inl refl) (inr k) e)) k)
+
+module _ {A B C : Type 0} where
+  pub map-flatMap : (g : B → C) (f : A → List B) (xs : List A) → map g (flatMap f xs) ≡ flatMap (λ x. map g (f x)) xs
+  unfolding flatMap
+  map-flatMap g f [] = refl
+  map-flatMap g f (x ∷ xs) = map-append g (f x) (flatMap f xs) ∙ ap (λ (t : List C). map g (f x) ++ t) (map-flatMap g f xs)
+
+-- Sums
+
+module _ {A : Type 0} where
+  pub total-add : (f g : A → ℕ) (xs : List A) → total (λ x. f x + g x) xs ≡ total f xs + total g xs
+  total-add f g [] = refl
+  total-add f g (x ∷ xs) = omega (arith, total-add f g xs)
+
+  pub total-append : (f : A → ℕ) (xs ys : List A) → total f (xs ++ ys) ≡ total f xs + total f ys
+  total-append f [] ys = omega arith
+  total-append f (x ∷ xs) ys = omega (arith, total-append f xs ys)
+
+  pub total-most : (f g : A → ℕ) (xs : List A) → ((x : A) → In x xs → f x ≤ g x) → total f xs ≤ total g xs
+  total-most f g [] h = omega arith
+  total-most f g (x ∷ xs) h = omega (arith, h x (inl refl), total-most f g xs (λ y k. h y (inr k)))
+
+  pub total-bounded : (f : A → ℕ) (n : ℕ) (xs : List A) → ((x : A) → In x xs → f x ≤ n) → total f xs ≤ length xs * n
+  total-bounded f n [] h = omega arith
+  total-bounded f n (x ∷ xs) h = omega (arith, h x (inl refl), total-bounded f n xs (λ y k. h y (inr k)))
+
+  -- The sum over a list is the sum over those that pass a test and over those that do not.
+  pub total-parts : (f : A → ℕ) (test : A → Bool) (xs : List A) → total f xs ≡ total f (filter test xs) + total f (filter (λ x. not (test x)) xs)
+  unfolding filter
+  total-parts f test [] = refl
+  total-parts f test (x ∷ xs) = go (test x) (total-parts f test xs)
+    where
+      go : (b : Bool) → total f xs ≡ total f (filter test xs) + total f (filter (λ x. not (test x)) xs)
+          → f x + total f xs ≡ total f (consIf b x (filter test xs)) + total f (consIf (not b) x (filter (λ x. not (test x)) xs))
+      go true e = omega arith
+      go false e = omega arith
+
+module _ {A B : Type 0} where
+  pub length-flatMap : (f : A → List B) (xs : List A) → length (flatMap f xs) ≡ total (λ x. length (f x)) xs
+  unfolding flatMap
+  length-flatMap f [] = refl
+  length-flatMap f (x ∷ xs) = omega (arith, length-append (f x) (flatMap f xs), length-flatMap f xs)
+
+  pub total-flatMap : (h : B → ℕ) (f : A → List B) (xs : List A) → total h (flatMap f xs) ≡ total (λ x. total h (f x)) xs
+  unfolding flatMap
+  total-flatMap h f [] = refl
+  total-flatMap h f (x ∷ xs) = omega (arith, total-append h (f x) (flatMap f xs), total-flatMap h f xs)
+
+  pub length-flatMap-most : (f : A → List B) (n : ℕ) (xs : List A) → ((x : A) → In x xs → length (f x) ≤ n) → length (flatMap f xs) ≤ length xs * n
+  length-flatMap-most f n xs h = omega (arith, length-flatMap f xs, total-bounded (λ x. length (f x)) n xs h)

@@ -1,4 +1,4 @@
--- Being in a list, having nothing twice, how often, the last of a list, and its neighbours: what laws speak of. Their laws stand in ListLaws.
+-- Being in a list, having nothing twice, how often, relations along a list, its last and its neighbours: what laws speak of. Their laws stand in ListLaws.
 -- Assumes nothing.
 use Prim.Native.Nat.{ℕ, _+_}
 use mathlib.Core.Path.{_≡_}
@@ -18,6 +18,11 @@ module _ {A : Type 0} where
   Distinct [] = Unit {0}
   Distinct (x ∷ xs) = (In x xs → ⊥) × Distinct xs
 
+  -- The relation holds between each of the list and every later one.
+  abbrev pub Pairwise : (A → A → Type 0) → List A → Type 0
+  Pairwise R [] = Unit {0}
+  Pairwise R (x ∷ xs) = ((y : A) → In y xs → R x y) × Pairwise R xs
+
   -- The last of `u` and the list after it.
   abbrev pub lastOf : A → List A → A
   lastOf u [] = u
@@ -26,6 +31,11 @@ module _ {A : Type 0} where
   -- The list has a part that begins with `a` and ends with `b`.
   abbrev pub HasPart : A → A → List A → Type 0
   HasPart a b p = (xs : List A) × (t : List A) × (ys : List A) × (p ≡ xs ++ ((a ∷ t) ++ ys)) × (lastOf a t ≡ b)
+
+  -- The sum of what `f` gives for each of the list.
+  abbrev pub total : (A → ℕ) → List A → ℕ
+  total f [] = 0
+  total f (x ∷ xs) = f x + total f xs
 
 module _ {A B : Type 0} where
   -- What `f` gives for each two neighbours of a list, in order: with `f` the link of a hop, the links that a path crosses.

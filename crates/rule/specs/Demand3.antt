@@ -1,5 +1,5 @@
 -- Demand 3, sentence by sentence, in its order: each sentence is a named statement, and `Demand3` holds them all. Frames move by
--- the definitions of Frames alone. This file states; the proofs are not part of it. Assumes nothing.
+-- the definitions of Frames alone. This file states; Demand3Proved has the proofs. Assumes nothing.
 use Prim.Native.Nat.{ℕ, _+_, _≤_, _<_}
 use mathlib.Core.Path.{_≡_}
 use mathlib.Core.Logic.{_⊎_, _↔_, _≢_}
@@ -32,7 +32,6 @@ pub record WrittenFor (t : List ℕ) (u : ℕ) (ws : List ℕ) : Type 0 where
 -- "every accepted table with all its bridges' entries written in full, every VID of it".
 pub record Setting : Type 0 where
   pub table : List ℕ
-  pub bytes : (n : ℕ) → In n table → n < 256
   pub plan : Plan
   pub accepted : verdict table ≡ answered plan
   pub lists : ℕ → List ℕ

@@ -20,7 +20,7 @@ use Rattle.rule.specs.Answers.{CostAndHops}
 use Rattle.rule.specs.Calls.{checkOutcome, pathAnswer}
 use Rattle.rule.specs.declared.answer.Counts.{Counts}
 
-abbrev diamond : List (List ℕ)
+abbrev pub diamond : List (List ℕ)
 diamond =
     (0x10000001 ∷ 0x80000200 ∷ 0x00000001 ∷ [])
     ∷ (0x10000002 ∷ 0x80000200 ∷ 0x00000002 ∷ [])

@@ -17,3 +17,15 @@ pub mod Tables
 pub mod Figures
 pub mod Worked
 pub mod Demand3
+pub mod PlanLaws
+pub mod Accepted
+pub mod OneRecord
+pub mod LinkLaws
+pub mod IdentifierLaws
+pub mod EntryLaws
+pub mod FrameLaws
+pub mod GroupLaws
+pub mod CallLaws
+pub mod ListBound
+pub mod Demand3Proved
+pub mod Settings

@@ -1,2 +1,3 @@
 -- What the functions of the check compute, and the laws that link them to the verdict.
 pub mod HalfLinks
+pub mod HalfLinkLaws

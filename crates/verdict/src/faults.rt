@@ -1,1 +1,1 @@
-// x
+// The faults of a record.

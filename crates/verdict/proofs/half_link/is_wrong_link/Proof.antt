@@ -1,56 +1,47 @@
+-- `verdict::half_link::is_wrong_link` asks the index for the half-links of the link number, the last first. Assumes nothing.
+use Prim.Native.Nat.{_+_, _*_, _-_}
+use native.Mathlib.Omega.{arith}
+use mathlib.Core.Path.{refl}
+use Rattle.index.specs.Index.{holds}
+use Rattle.index.specs.Places.{last-within}
+use Rattle.table.specs.Readers.{halfLinkValues}
+use Rattle.verdict.specs.HalfLinkLaws.{first-of-number, third-of-number, second-of-number}
 use borrow.Author.Needs.{needs}
 use Rattle.verdict.proofs.half_link.is_wrong_link.Statement.{statement}
 use Rattle.verdict.proofs.half_link.is_wrong_link.Tie as tie
-use Rattle.verdict.proofs.half_link.is_wrong_link.Reads as reads
-use Rattle.verdict.proofs.half_link.is_wrong_link.Lts as lts
-use Rattle.index.proofs.chain.last_place.Reads as last-place-reads
-use Rattle.index.proofs.chain.place_before.Reads as place-before-reads
-use Rattle.table.proofs.half_link.half_link_at.Reads as half-link-at-reads
-use Rattle.verdict.proofs.half_link.is_mirror.Reads as is-mirror-reads
 
--- src/half_link.rt:66:9
 last-place-requires : tie.Need-last-place-requires
 last-place-requires c κs = search needs
 
--- src/half_link.rt:68:9
 returns : tie.Need-returns
-returns c = ?
+returns c = first-of-number (c .before .before .before .before .pre .1) (halfLinkValues (c .before .before .before .before .args .h)) (c .before .last-place .result) (c .before .last-place .ensures) (c .if1 .taken)
 
--- src/half_link.rt:70:8
 place-before-requires : tie.Need-place-before-requires
-place-before-requires c κs = ?
+place-before-requires c κs = (c .before .before .before .before .pre .1 .indexed, omega arith, omega (arith, c .before .last-place .ensures, last-within (holds (c .before .before .before .before .args .links .now) (c .before .before .before .before .args .h .link)) (c .before .before .before .before .args .count)))
 
--- src/half_link.rt:71:9
 returns-2 : tie.Need-returns-2
-returns-2 c = ?
+returns-2 c = third-of-number (c .before .before .before .before .before .before .pre .1) (halfLinkValues (c .before .before .before .before .before .before .args .h)) (c .before .before .before .last-place .result) (c .before .before .before .last-place .ensures) (c .before .before .if1 .left) (c .before .place-before .result) (c .before .place-before .ensures) (c .if2 .taken)
 
--- src/half_link.rt:73:26
 cast-at : tie.Need-cast-at
 cast-at c = search needs
 
--- src/half_link.rt:73:26
 sub-at : tie.Need-sub-at
 sub-at c = search needs
 
--- src/half_link.rt:73:21
 mul-at : tie.Need-mul-at
 mul-at c = search needs
 
--- src/half_link.rt:73:14
 add-at : tie.Need-add-at
 add-at c = search needs
 
--- src/half_link.rt:74:19
 half-link-at-requires : tie.Need-half-link-at-requires
-half-link-at-requires c κs = ?
+half-link-at-requires c κs = omega (arith, c .before .before .before .last-place .ensures, last-within (holds (c .before .before .before .before .before .before .args .links .now) (c .before .before .before .before .before .before .args .h .link)) (c .before .before .before .before .before .before .args .count))
 
--- src/half_link.rt:74:6
 is-mirror-requires : tie.Need-is-mirror-requires
 is-mirror-requires c κs = search needs
 
--- src/half_link.rt:62:1
 returns-3 : tie.Need-returns-3
-returns-3 c = ?
+returns-3 c = second-of-number (c .before .before .before .before .before .before .before .before .pre .1) (halfLinkValues (c .before .before .before .before .before .before .before .before .args .h)) (c .before .before .before .before .before .last-place .result) (c .before .before .before .before .before .last-place .ensures) (c .before .before .before .before .if1 .left) (c .before .before .before .place-before .result) (c .before .before .before .place-before .ensures) (c .before .before .if2 .left) (c .before .before .before .before .before .before .before .before .args .from + 3 * (c .before .before .before .before .before .last-place .result - 1)) refl (halfLinkValues (c .before .half-link-at .result)) (c .before .half-link-at .ensures) (c .is-mirror .result) (c .is-mirror .ensures)
 
 pub is-wrong-link-spec : {M : Type 1} → statement M
 is-wrong-link-spec =

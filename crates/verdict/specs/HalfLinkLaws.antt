@@ -1,0 +1,133 @@
+-- The half-links of a link number, and a near bridge with port that is there already, by the last place of an index. Assumes nothing.
+use Prim.Native.Nat.{ℕ, zero, suc, _+_, _*_, _-_, _≤_, _<_}
+use native.Mathlib.Omega.{arith}
+use native.Mathlib.Numerals.{add-one}
+use mathlib.Core.Path.{_≡_, refl, sym, ap, _∙_}
+use mathlib.Core.List.{List, [], _∷_, _++_, append-nil, map, map-append}
+use mathlib.Core.Bool.{Bool, true, false, not, cond, _&&_}
+use mathlib.Core.Logic.{_⊎_, inl, inr}
+use lib.Dec.{eqb}
+use lib.ListN.{drop}
+use borrow.Author.Tests.{eq-eqb, ne-eqb, eqb-true}
+use Rattle.graph.specs.Lists.{rising, any, filter, consIf}
+use Rattle.graph.specs.ListLaws.{filter-append, same-or-not}
+use Rattle.graph.specs.Searching.{rising-more}
+use Rattle.rule.specs.Records.{HalfLink, halfLinkOf}
+use Rattle.rule.specs.Check.{repeatsPort, hasLink, mirrors, wrongHalf}
+use Rattle.table.specs.Positions.{recordAt, recordsAt}
+use Rattle.table.specs.PositionLaws.{search-records}
+use Rattle.index.specs.Places.{lastPlace, last-within, last-passes, last-same}
+use Rattle.index.specs.Index.{keyAt, holds, Indexed, earlierPlace}
+use Rattle.verdict.specs.HalfLinks.{portKey, numberKey, Keyed}
+
+-- What passes a test among the first `n` values, by the last place that passes.
+module _ {A : Type 0} (f : ℕ → A) (test : A → Bool) where
+  abbrev passing : ℕ → List A
+  passing n = filter test (map f (rising 0 n))
+
+  passing-more : (n : ℕ) → passing (suc n) ≡ passing n ++ consIf (test (f n)) (f n) []
+  unfolding filter
+  passing-more n =
+      ap (λ (t : List ℕ). filter test (map f t)) (rising-more 0 n)
+      ∙ ap (filter test) (map-append f (rising 0 n) ((0 + n) ∷ []))
+      ∙ filter-append test (map f (rising 0 n)) (f (0 + n) ∷ [])
+      ∙ ap (λ (k : ℕ). passing n ++ consIf (test (f k)) (f k) []) (omega arith)
+
+  nothing-passes : (n : ℕ) → lastPlace (λ i. test (f i)) n ≡ 0 → passing n ≡ []
+  unfolding lastPlace rising filter
+  nothing-passes zero e = refl
+  nothing-passes (suc n) e = go (test (f n)) refl e (nothing-passes n)
+    where
+      go :
+          (b : Bool) →
+          test (f n) ≡ b →
+          cond b (suc n) (lastPlace (λ i. test (f i)) n) ≡ 0 →
+          (lastPlace (λ i. test (f i)) n ≡ 0 → passing n ≡ []) →
+          passing (suc n) ≡ []
+      go true h e ih = absurd (omega arith)
+      go false h e ih = passing-more n ∙ rw (h, ih e) refl
+
+  last-passing : (n i : ℕ) → lastPlace (λ k. test (f k)) n ≡ suc i → passing n ≡ passing i ++ (f i ∷ [])
+  unfolding lastPlace rising filter
+  last-passing zero i e = absurd (omega arith)
+  last-passing (suc n) i e = go (test (f n)) refl e (last-passing n i)
+    where
+      go :
+          (b : Bool) →
+          test (f n) ≡ b →
+          cond b (suc n) (lastPlace (λ k. test (f k)) n) ≡ suc i →
+          (lastPlace (λ k. test (f k)) n ≡ suc i → passing n ≡ passing i ++ (f i ∷ [])) →
+          passing (suc n) ≡ passing i ++ (f i ∷ [])
+      go true h e ih = passing-more n ∙ rw h (ap (λ (k : ℕ). passing k ++ (f k ∷ [])) (let z : n ≡ i = omega arith in z))
+      go false h e ih = passing-more n ∙ rw h (append-nil (passing n)) ∙ ih e
+
+-- Two or more in front of the record: it is a third.
+third-is-wrong : (h : HalfLink) (xs : List HalfLink) (a b : HalfLink) → true ≡ wrongHalf h ((xs ++ (a ∷ [])) ++ (b ∷ []))
+third-is-wrong h [] a b = refl
+third-is-wrong h (x ∷ []) a b = refl
+third-is-wrong h (x ∷ y ∷ xs) a b = refl
+
+-- The half-links of the record's link number.
+module _ {links ws : List ℕ} {from n : ℕ} (k : Keyed numberKey links ws from n) (h : HalfLink) where
+  abbrev halfLinkAt : ℕ → HalfLink
+  halfLinkAt = recordAt halfLinkOf 3 from ws
+
+  abbrev ofNumber : ℕ → Bool
+  ofNumber i = hasLink (h .link) (halfLinkAt i)
+
+  abbrev earlier : List HalfLink
+  earlier = filter (hasLink (h .link)) (recordsAt halfLinkOf 3 from ws n)
+
+  by-index : (m : ℕ) → m ≤ n → lastPlace (holds links (h .link)) m ≡ lastPlace ofNumber m
+  by-index m l =
+      last-same (holds links (h .link)) ofNumber m λ i s. ap (λ (x : ℕ). eqb x (h .link)) (k .keys i (omega arith))
+
+  pub first-of-number : (place : ℕ) → place ≡ lastPlace (holds links (h .link)) n → place ≡ 0 → false ≡ wrongHalf h earlier
+  unfolding recordsAt
+  first-of-number place e z =
+      sym (ap (wrongHalf h) (nothing-passes halfLinkAt (hasLink (h .link)) n (sym (by-index n (omega arith)) ∙ sym e ∙ z)))
+
+  module _ (place : ℕ) (e : place ≡ lastPlace (holds links (h .link)) n) (i : ℕ) (p : place ≡ suc i) where
+    within : i < n
+    within = omega (arith, last-within (holds links (h .link)) n)
+
+    up-to-last : earlier ≡ filter (hasLink (h .link)) (map halfLinkAt (rising 0 i)) ++ (halfLinkAt i ∷ [])
+    unfolding recordsAt
+    up-to-last = last-passing halfLinkAt (hasLink (h .link)) n i (sym (by-index n (omega arith)) ∙ sym e ∙ p)
+
+    -- The place before, as the index has it, is the last of the link number among the half-links before.
+    place-before : earlierPlace links place ≡ lastPlace ofNumber i
+    place-before =
+        ap (earlierPlace links) p
+        ∙ ap (λ (x : ℕ). lastPlace (holds links x) i)
+        (eqb-true (keyAt links i) (h .link) (last-passes (holds links (h .link)) n i (sym e ∙ p)))
+        ∙ by-index i (omega (arith, within))
+
+    third : (q j : ℕ) → q ≡ earlierPlace links place → q ≡ suc j → true ≡ wrongHalf h earlier
+    third q j f g =
+        third-is-wrong h (filter (hasLink (h .link)) (map halfLinkAt (rising 0 j))) (halfLinkAt j) (halfLinkAt i)
+        ∙ ap (λ (t : List HalfLink). wrongHalf h (t ++ (halfLinkAt i ∷ [])))
+        (sym (last-passing halfLinkAt (hasLink (h .link)) i j (sym place-before ∙ sym f ∙ g)))
+        ∙ ap (wrongHalf h) (sym up-to-last)
+
+    second : (q : ℕ) → q ≡ earlierPlace links place → q ≡ 0 → not (mirrors h (halfLinkAt i)) ≡ wrongHalf h earlier
+    second q f g =
+        ap (λ (t : List HalfLink). wrongHalf h (t ++ (halfLinkAt i ∷ [])))
+        (sym (nothing-passes halfLinkAt (hasLink (h .link)) i (sym place-before ∙ sym f ∙ g)))
+        ∙ ap (wrongHalf h) (sym up-to-last)
+
+  module _ (place : ℕ) (e : place ≡ lastPlace (holds links (h .link)) n) (some : place ≡ 0 → ⊥) (q : ℕ) (f : q ≡ earlierPlace links place) where
+    pub third-of-number : (q ≡ 0 → ⊥) → true ≡ wrongHalf h earlier
+    third-of-number g = third place e (place - 1) (omega arith) q (q - 1) f (omega arith)
+
+    pub second-of-number :
+        q ≡ 0 →
+        (at : ℕ) →
+        at ≡ from + 3 * (place - 1) →
+        (v : HalfLink) →
+        v ≡ halfLinkOf (drop at ws) →
+        (m : Bool) →
+        m ≡ mirrors h v →
+        not m ≡ wrongHalf h earlier
+    second-of-number g at a v b m c =
+        ap not (c ∙ ap (mirrors h) (b ∙ ap (λ (w : ℕ). halfLinkOf (drop w ws)) a)) ∙ second place e (place - 1) (omega arith) q f g
