@@ -1,15 +1,11 @@
 -- The mask spread over the bytes of an identifier: one XOR of all bytes is the XOR of each.
 -- Assumes nothing.
-use Prim.Native.Nat.{ℕ, zero, suc, _+_, _*_, _/_, _%_, _^_, _<_}
+use Prim.Native.Nat.{ℕ, zero, suc, _+_, _*_, _/_, _%_, _<_}
 use native.Mathlib.Omega.{arith}
-use mathlib.Core.Path.{_≡_, refl, sym, ap, _∙_}
+use mathlib.Core.Path.{_≡_, refl, ap, _∙_}
 use lib.Bits.{bitXor, xor-block}
+use Rattle.ect.specs.Masks.{spread}
 use Rattle.rule.specs.Identifiers.{maskOf, maskedBytes, maskedIdentifier}
-
--- The mask in each of the lowest `n` bytes.
-unfoldable pub spread : ℕ → ℕ → ℕ
-spread zero mask = 0
-spread (suc n) mask = spread n mask * 256 + mask
 
 -- The numbers of `n` bytes are those below this.
 unfoldable pub numbersOf : ℕ → ℕ

@@ -4,7 +4,7 @@ use Prim.Native.Nat.{ℕ, _+_, _*_, _≤_, _<_}
 use mathlib.Core.Path.{_≡_}
 use mathlib.Core.List.{List}
 use lib.ListN.{length, take, drop}
-use Rattle.graph.specs.OrderLaws.{Upward}
+use Rattle.graph.specs.Order.{Upward}
 
 -- Where the row of a bridge begins.
 abbrev pub rowPlace : ℕ → ℕ

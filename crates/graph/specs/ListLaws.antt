@@ -181,6 +181,11 @@ module _ {A B : Type 0} where
       go : ((a : A) × In a xs × (b ≡ f a)) → (a : A) × In a (x ∷ xs) × (b ≡ f a)
       go (a, k, e) = (a, inr k, e)
 
+  pub map-at : (f : A → B) (xs : List A) (n : ℕ) (a : A) (b : B) → n < length xs → getD (map f xs) n b ≡ f (getD xs n a)
+  map-at f [] n a b h = absurd (omega arith)
+  map-at f (x ∷ xs) zero a b h = refl
+  map-at f (x ∷ xs) (suc n) a b h = map-at f xs n a b (omega arith)
+
   pub in-flatMap : (f : A → List B) (b : B) (a : A) (xs : List A) → In a xs → In b (f a) → In b (flatMap f xs)
   unfolding flatMap
   in-flatMap f b a (x ∷ xs) (inl e) k = in-left b (f x) (flatMap f xs) (subst (λ (y : A). In b (f y)) e k)

@@ -1,9 +1,10 @@
 -- The few functions of lists that the definitions use and the toolchain's library lacks. Their laws stand in ListLaws.
 -- Assumes nothing.
-use Prim.Native.Nat.{ℕ, zero, suc}
-use mathlib.Core.List.{List, [], _∷_}
+use Prim.Native.Nat.{ℕ, zero, suc, _+_}
+use mathlib.Core.List.{List, [], _∷_, _++_}
 use mathlib.Core.Option.{Option, none, some}
 use mathlib.Core.Bool.{Bool, true, false, cond, _||_}
+use lib.ListN.{length, take, drop}
 
 -- The `n` numbers from `k` upward.
 unfoldable pub rising : ℕ → ℕ → List ℕ
@@ -35,3 +36,7 @@ module _ {A : Type 0} where
   unfoldable pub lowestBy : (A → A → Bool) → List A → Option A
   lowestBy before [] = none
   lowestBy before (x ∷ xs) = lowerOf before x (lowestBy before xs)
+
+  -- `part` in the place of what stood from `at` on: what a function that writes a part leaves.
+  abbrev pub spliced : List A → ℕ → List A → List A
+  spliced xs at part = take at xs ++ (part ++ drop (at + length part) xs)

@@ -1,4 +1,4 @@
--- When an entry is faulty, test by test in the order of the code, and when it matches.
+-- When an entry is faulty, test by test in the order of the code.
 -- Assumes nothing.
 use Prim.Native.Nat.{ℕ, _+_, _<_}
 use native.Mathlib.Omega.{arith}

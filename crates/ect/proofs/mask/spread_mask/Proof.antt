@@ -1,5 +1,5 @@
 -- `ect::mask::spread_mask` puts the mask into each of eight bytes. Assumes nothing.
-use Rattle.ect.specs.MaskLaws.{spread}
+use Rattle.ect.specs.Masks.{spread}
 use borrow.Author.Needs.{needs}
 use Rattle.ect.proofs.mask.spread_mask.Statement.{statement}
 use Rattle.ect.proofs.mask.spread_mask.Tie as tie
