@@ -90,7 +90,7 @@ pub record Fault : Type 0 where
   pub number : ℕ
   pub applies : Bool
 
-abbrev fault : ℕ → Bool → Fault
+abbrev pub fault : ℕ → Bool → Fault
 fault n b = record { number = n; applies = b }
 
 -- The faults of the record that begins with the words `r`, "in checking order". Its kind is that of the row `l`.

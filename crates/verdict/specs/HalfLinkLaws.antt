@@ -4,7 +4,7 @@ use native.Mathlib.Omega.{arith}
 use native.Mathlib.Numerals.{add-one}
 use mathlib.Core.Path.{_≡_, refl, sym, ap, _∙_}
 use mathlib.Core.List.{List, [], _∷_, _++_, append-nil, map, map-append}
-use mathlib.Core.Bool.{Bool, true, false, not, cond, _&&_}
+use mathlib.Core.Bool.{Bool, true, false, not, cond, _&&_, _||_}
 use mathlib.Core.Logic.{_⊎_, inl, inr}
 use lib.Dec.{eqb}
 use lib.ListN.{drop}
@@ -131,3 +131,53 @@ module _ {links ws : List ℕ} {from n : ℕ} (k : Keyed numberKey links ws from
         not m ≡ wrongHalf h earlier
     second-of-number g at a v b m c =
         ap not (c ∙ ap (mirrors h) (b ∙ ap (λ (w : ℕ). halfLinkOf (drop w ws)) a)) ∙ second place e (place - 1) (omega arith) q f g
+
+-- A near bridge with port
+
+any-append : {A : Type 0} (test : A → Bool) (xs ys : List A) → any test (xs ++ ys) ≡ any test xs || any test ys
+unfolding any
+any-append test [] ys = refl
+any-append test (x ∷ xs) ys = go (test x) (any-append test xs ys)
+  where
+    go : (b : Bool) → any test (xs ++ ys) ≡ any test xs || any test ys → b || any test (xs ++ ys) ≡ (b || any test xs) || any test ys
+    go true h = refl
+    go false h = h
+
+-- Some number passes where there is a last place that does.
+any-last : (test : ℕ → Bool) (n : ℕ) → any test (rising 0 n) ≡ not (eqb (lastPlace test n) 0)
+unfolding lastPlace any rising
+any-last test zero = refl
+any-last test (suc n) =
+    ap (any test) (rising-more 0 n) ∙ any-append test (rising 0 n) ((0 + n) ∷ [])
+    ∙ ap (λ (k : ℕ). any test (rising 0 n) || (test k || false)) (let z : 0 + n ≡ n = omega arith in z)
+    ∙ go (test n) (any test (rising 0 n)) (any-last test n)
+  where
+    go : (b a : Bool) → a ≡ not (eqb (lastPlace test n) 0) → a || (b || false) ≡ not (eqb (cond b (suc n) (lastPlace test n)) 0)
+    go true true h = sym (ap not (ne-eqb (suc n) 0 (λ z. absurd (omega arith))))
+    go true false h = sym (ap not (ne-eqb (suc n) 0 (λ z. absurd (omega arith))))
+    go false true h = h
+    go false false h = h
+
+same-key : (a b c d : ℕ) → b < 65536 → d < 65536 → eqb (a * 65536 + b) (c * 65536 + d) ≡ (eqb a c && eqb b d)
+same-key a b c d l m = go (same-or-not a c) (same-or-not b d)
+  where
+    go : (a ≡ c) ⊎ (a ≡ c → ⊥) → (b ≡ d) ⊎ (b ≡ d → ⊥) → eqb (a * 65536 + b) (c * 65536 + d) ≡ (eqb a c && eqb b d)
+    go (inl e) (inl f) = rw (eq-eqb a c e, eq-eqb b d f) (eq-eqb (a * 65536 + b) (c * 65536 + d) (omega arith))
+    go (inl e) (inr f) =
+        rw (eq-eqb a c e, ne-eqb b d f) (ne-eqb (a * 65536 + b) (c * 65536 + d) (λ z. f (omega arith)))
+    go (inr e) f = rw (ne-eqb a c e) (ne-eqb (a * 65536 + b) (c * 65536 + d) (λ z. e (omega arith)))
+
+pub port-repeated :
+    {ports ws : List ℕ} {from n : ℕ} →
+    Keyed portKey ports ws from n →
+    (h : HalfLink) →
+    h .port < 65536 →
+    not (eqb (lastPlace (holds ports (h .near * 65536 + h .port)) n) 0)
+    ≡ any (repeatsPort h) (recordsAt halfLinkOf 3 from ws n)
+port-repeated {ports} {ws} {from} {n} k h l =
+    ap (λ (x : ℕ). not (eqb x 0))
+    (last-same (holds ports (h .near * 65536 + h .port)) (λ i. repeatsPort h (recordAt halfLinkOf 3 from ws i)) n λ i s.
+    ap (λ (x : ℕ). eqb x (h .near * 65536 + h .port)) (k .keys i s)
+    ∙ same-key (recordAt halfLinkOf 3 from ws i .near) (recordAt halfLinkOf 3 from ws i .port) (h .near) (h .port) (omega arith) l)
+    ∙ sym (any-last (λ i. repeatsPort h (recordAt halfLinkOf 3 from ws i)) n)
+    ∙ sym (search-records halfLinkOf 3 from ws (repeatsPort h) n)
