@@ -21,11 +21,11 @@ use Rattle.rule.specs.PlanLaws.{BridgesApart, PortsApart, VidsApart, Mem
 
 -- No fault applies
 
-abbrev NoFault : List Fault → Type 0
+abbrev pub NoFault : List Fault → Type 0
 NoFault [] = Unit {0}
 NoFault (f ∷ fs) = (T (f .applies) → ⊥) × NoFault fs
 
-no-fault : (fs : List Fault) → lowestFault fs ≡ none → NoFault fs
+pub no-fault : (fs : List Fault) → lowestFault fs ≡ none → NoFault fs
 unfolding lowestFault
 no-fault [] e = tt
 no-fault (f ∷ fs) e = go (f .applies) (λ h. h) e (no-fault fs)

@@ -185,5 +185,8 @@ words-follow t s b e = go (le-or-gt (length t / 4) (wordsRead s + 1))
         ∙ sym (lt-ltb (wordsRead s + 1) (length t / 4) l) ∙ e
 
 -- The bridge numbers and the port of a half-link have 16 bits.
-pub of-16-bits : (r : List ℕ) (h : HalfLink) → readOf halfLinkLayout r ≡ whole (halfLink h) → (h .near < 65536) × (h .port < 65536)
-of-16-bits r h e = rw (let z : h ≡ halfLinkOf r = cc (whole-decoded halfLinkLayout r (halfLink h) e) in z) (omega arith, omega arith)
+pub of-16-bits : (h : HalfLink) (r : List ℕ) → h ≡ halfLinkOf r → (h .near < 65536) × (h .port < 65536)
+of-16-bits h r e = rw e (omega arith, omega arith)
+
+pub read-of-16-bits : (r : List ℕ) (h : HalfLink) → readOf halfLinkLayout r ≡ whole (halfLink h) → (h .near < 65536) × (h .port < 65536)
+read-of-16-bits r h e = of-16-bits h r (cc (whole-decoded halfLinkLayout r (halfLink h) e))

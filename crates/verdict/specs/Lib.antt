@@ -3,3 +3,5 @@ pub mod HalfLinks
 pub mod HalfLinkLaws
 pub mod Faults
 pub mod FaultLaws
+pub mod Steps
+pub mod StepLaws

@@ -2,3 +2,4 @@
 pub mod faults;
 pub mod half_link;
 pub mod repeats;
+pub mod step;

@@ -1,0 +1,33 @@
+-- `verdict::step::after_bridge` refuses the record by its lowest fault, or takes it. Assumes nothing.
+use mathlib.Core.Path.{refl, sym, ap, _∙_}
+use Rattle.rule.specs.declared.answer.RecordKind.{RecordKind}
+use Rattle.rule.specs.Words.{wordsOf}
+use Rattle.rule.specs.Records.{bridgeLayout}
+use Rattle.verdict.specs.Faults.{numbered}
+use Rattle.verdict.specs.StepLaws.{refused-step, refused-still, bridge-taken, taken-still, bridge-stands}
+use borrow.Author.Needs.{needs}
+use Rattle.verdict.proofs.step.after_bridge.Statement.{statement}
+use Rattle.verdict.proofs.step.after_bridge.Tie as tie
+
+bridge-fault-requires : tie.Need-bridge-fault-requires
+bridge-fault-requires c κs = search needs
+
+words-read-requires : tie.Need-words-read-requires
+words-read-requires c κs = search needs
+
+refusal-requires : tie.Need-refusal-requires
+refusal-requires c κs = search needs
+
+returns : tie.Need-returns
+returns c = (refused-step (wordsOf (c .before .before .before .before .before .args .table .now)) (c .before .before .before .before .before .args .s) bridgeLayout (c .before .before .before .bridge-fault .result) RecordKind.Bridge _ (c .before .before .before .bridge-fault .ensures) (c .before .before .if1 .taken) refl (c .before .words-read .result) (c .before .words-read .ensures) (c .refusal .ensures), refused-still (c .refusal .ensures))
+
+add-t7 : tie.Need-add-t7
+add-t7 c = search needs
+
+returns-2 : tie.Need-returns-2
+returns-2 c = (bridge-taken (wordsOf (c .before .before .before .before .args .table .now)) (c .before .before .before .before .args .s) _ (ap numbered (sym (c .before .if1 .left)) ∙ c .before .before .bridge-fault .ensures) refl, taken-still (bridge-stands (wordsOf (c .before .before .before .before .args .table .now)) (c .before .before .before .before .args .s) (ap numbered (sym (c .before .if1 .left)) ∙ c .before .before .bridge-fault .ensures)) refl)
+
+pub after-bridge-spec : {M : Type 1} → statement M
+after-bridge-spec =
+    tie.close
+    (tie.spec bridge-fault-requires words-read-requires refusal-requires returns add-t7 returns-2)

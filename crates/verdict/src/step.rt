@@ -1,0 +1,131 @@
+// One record read: it is taken, or it ends the table, or it is refused with its lowest fault (01, "Refusals in checking order").
+use crate::faults::bridge_fault;
+use crate::faults::end_fault;
+use crate::faults::half_link_fault;
+use crate::faults::member_fault;
+use crate::faults::vid_fault;
+use crate::half_link::port_key;
+use index::entry::enter;
+use rule::answer::RecordKind;
+use table::half_link::half_link_at;
+use table::shape::Shape;
+use table::words::word_at;
+ghost use mathlib.Core.Path.{_≡_};
+ghost use Prim.Native.Nat.{_*_, _≤_, _<_};
+ghost use lib.ListN.{length};
+ghost use Rattle.rule.specs.Words.{wordsOf};
+ghost use Rattle.rule.specs.Records.{bridgeLayout, halfLinkLayout, vidLayout, memberLayout, endLayout};
+ghost use Rattle.rule.specs.Check.{stepOf};
+ghost use Rattle.table.specs.Positions.{wordsRead, readingAt};
+ghost use Rattle.verdict.specs.Steps.{concerned, Indexes, Stepped, stepAs, Still, Kept};
+ghost use Rattle.verdict.specs.declared.step.Step.{Step};
+
+pub enum Step {
+    Next(Shape),
+    End,
+    Refused {
+        number: u32,
+        kind: RecordKind,
+        word: u32,
+    },
+}
+
+// The refusal of a record: "for 2 kind is none".
+fn refusal(number: u32, kind: RecordKind, word: usize) -> Step
+    requires { ⌜ word < 4294967296 ⌝ }
+    ensures { λ r. ⌜ r ≡ Step.Refused number (concerned number kind) word ⌝ }
+{
+    if number == 2 {
+        return Step::Refused {
+            number: number,
+            kind: RecordKind::None,
+            word: word as u32,
+        };
+    }
+    Step::Refused {
+        number: number,
+        kind: kind,
+        word: word as u32,
+    }
+}
+
+fn after_bridge(table: &[u8], s: Shape) -> Step
+    requires { ⌜ (4 * wordsRead s ≤ length (now table)) × (length (now table) ≤ 7492) ⌝ }
+    ensures { λ r. ⌜ Stepped (wordsOf (now (table .entry))) s (stepAs (wordsOf (now (table .entry))) s bridgeLayout) r × Still s r ⌝ }
+{
+    let fault = bridge_fault(table, s);
+    if fault != 0 {
+        return refusal(fault, RecordKind::Bridge, s.words_read());
+    }
+    Step::Next(Shape {
+        bridges: s.bridges + 1,
+        half_links: s.half_links,
+        vids: s.vids,
+        members: s.members,
+    })
+}
+
+fn after_half_link(table: &[u8], s: Shape, ports: &mut [u32], links: &mut [u32]) -> Step
+    requires { ⌜ (4 * wordsRead s ≤ length (now table)) × (length (now table) ≤ 7492) ⌝ }
+    requires { ⌜ Indexes (now ports) (now links) (wordsOf (now table)) s ⌝ }
+    ensures { λ r. ⌜ Stepped (wordsOf (now (table .entry))) s (stepAs (wordsOf (now (table .entry))) s halfLinkLayout) r ⌝ }
+    ensures { λ r. ⌜ Kept (wordsOf (now (table .entry))) (now (ports .exit)) (now (links .exit)) r ⌝ }
+{
+    let fault = half_link_fault(table, s, &ports[..], &links[..]);
+    let at = s.words_read();
+    if fault != 0 {
+        return refusal(fault, RecordKind::HalfLink, at);
+    }
+    let h = half_link_at(table, at);
+    enter(ports, s.half_links, port_key(h.near, h.port));
+    enter(links, s.half_links, h.link);
+    Step::Next(Shape {
+        bridges: s.bridges,
+        half_links: s.half_links + 1,
+        vids: s.vids,
+        members: s.members,
+    })
+}
+
+fn after_vid(table: &[u8], s: Shape) -> Step
+    requires { ⌜ (4 * wordsRead s ≤ length (now table)) × (length (now table) ≤ 7492) ⌝ }
+    ensures { λ r. ⌜ Stepped (wordsOf (now (table .entry))) s (stepAs (wordsOf (now (table .entry))) s vidLayout) r × Still s r ⌝ }
+{
+    let fault = vid_fault(table, s);
+    if fault != 0 {
+        return refusal(fault, RecordKind::Vid, s.words_read());
+    }
+    Step::Next(Shape {
+        bridges: s.bridges,
+        half_links: s.half_links,
+        vids: s.vids + 1,
+        members: s.members,
+    })
+}
+
+fn after_member(table: &[u8], s: Shape) -> Step
+    requires { ⌜ (4 * wordsRead s ≤ length (now table)) × (length (now table) ≤ 7492) ⌝ }
+    ensures { λ r. ⌜ Stepped (wordsOf (now (table .entry))) s (stepAs (wordsOf (now (table .entry))) s memberLayout) r × Still s r ⌝ }
+{
+    let fault = member_fault(table, s);
+    if fault != 0 {
+        return refusal(fault, RecordKind::Member, s.words_read());
+    }
+    Step::Next(Shape {
+        bridges: s.bridges,
+        half_links: s.half_links,
+        vids: s.vids,
+        members: s.members + 1,
+    })
+}
+
+fn after_end(table: &[u8], s: Shape) -> Step
+    requires { ⌜ (4 * wordsRead s ≤ length (now table)) × (length (now table) ≤ 7492) ⌝ }
+    ensures { λ r. ⌜ Stepped (wordsOf (now (table .entry))) s (stepAs (wordsOf (now (table .entry))) s endLayout) r × Still s r ⌝ }
+{
+    let fault = end_fault(table, s);
+    if fault != 0 {
+        return refusal(fault, RecordKind::End, s.words_read());
+    }
+    Step::End
+}
