@@ -1,4 +1,5 @@
 -- Document 01 as definitions. Read in this order: the table, what it says, the calls, the frames, the figures, demand 3.
+-- Below Demand3 stand the laws that prove it, and its proof.
 pub mod Words
 pub mod Records
 pub mod Outcome
