@@ -24,7 +24,9 @@ pub mod OneRecord
 pub mod LinkLaws
 pub mod IdentifierLaws
 pub mod EntryLaws
+pub mod Network
 pub mod FrameLaws
+pub mod ListedPorts
 pub mod GroupLaws
 pub mod CallLaws
 pub mod ListBound

@@ -19,7 +19,8 @@ use Rattle.rule.specs.Entries.{entryWords, listOf, firstPort, leavingPor
 use Rattle.rule.specs.PlanLaws.{PlanLaws}
 use Rattle.rule.specs.OneRecord.{distinct-vids, one-vid, distinct-members, one-member}
 use Rattle.rule.specs.EntryLaws.{portsTo, portsBehind, others, transmits, listed-port, distinct-ports, receives-says}
-use Rattle.rule.specs.GroupLaws.{few-ports}
+use Rattle.rule.specs.Network.{Network}
+use Rattle.rule.specs.ListedPorts.{few-ports}
 
 at-most-one : (port : List ℕ → Option ℕ) (o : Option (List ℕ)) → length (portsOf port o) ≤ 1
 at-most-one port none = omega arith
@@ -66,9 +67,13 @@ module _ (p : Plan) (L : PlanLaws p) (b : ℕ) (known : b < length (p .bridges))
   unfolding most
   most-there m f = rw (is-false (eqb (m .bridge) b) (λ t. f (eqb→eq (m .bridge) b t)))
 
-  few-listed : (v : Vid) (m : Member) → In m (p .members) → length (portsBehind p v b m) ≤ most m
+  -- The plan with its own words.
+  abbrev net : (v : Vid) → In v (p .vids) → Network
+  net v k = record { plan = p; laws = L; vid = v; of-plan = k; lists = entryListOf p; written = λ u l. refl }
+
+  few-listed : (v : Vid) → In v (p .vids) → (m : Member) → In m (p .members) → length (portsBehind p v b m) ≤ most m
   unfolding receiverPorts
-  few-listed v m k = go (same-or-not (m .bridge) b)
+  few-listed v i m k = go (same-or-not (m .bridge) b)
     where
       go : (m .bridge ≡ b) ⊎ (m .bridge ≡ b → ⊥) → length (portsBehind p v b m) ≤ most m
       go (inl e) = omega (
@@ -79,7 +84,7 @@ module _ (p : Plan) (L : PlanLaws p) (b : ℕ) (known : b < length (p .bridges))
         length-flatMap-most (λ r. portsOf (leavingPort (p .halfLinks) b) (chosenPath p (v .index) (m .bridge) (r .bridge))) 1 (filter (receives m) (p .members))
             (λ r i. at-most-one (leavingPort (p .halfLinks) b) (chosenPath p (v .index) (m .bridge) (r .bridge))),
       )
-      go (inr f) = omega (arith, most-there m f, few-ports p L v m k b known (λ e. f (sym e)), L .few-bridges)
+      go (inr f) = omega (arith, most-there m f, few-ports (net v i) m k b known (λ e. f (sym e)), L .few-bridges)
 
   -- The transmitting members of all VIDs: each is a member of one VID.
   abbrev transmitters : List Member
@@ -166,13 +171,13 @@ module _ (p : Plan) (L : PlanLaws p) (b : ℕ) (known : b < length (p .bridges))
             length-append xs (m ∷ ys),
           )
 
-  group-entries : (v : Vid) → length (groupEntries p v b (p .members)) ≤ total most (filter (transmits p v b) (p .members))
+  group-entries : (v : Vid) → In v (p .vids) → length (groupEntries p v b (p .members)) ≤ total most (filter (transmits p v b) (p .members))
   unfolding groupEntries
-  group-entries v = omega (
+  group-entries v i = omega (
     arith,
     length-flatMap (λ m. map (groupEntry p v m) (portsBehind p v b m)) (filter (transmits p v b) (p .members)),
     total-most (λ m. length (map (groupEntry p v m) (portsBehind p v b m))) most (filter (transmits p v b) (p .members))
-        (λ m k. omega (arith, length-map (portsBehind p v b m) (groupEntry p v m), few-listed v m (transmitter-vid v m k .0))),
+        (λ m k. omega (arith, length-map (portsBehind p v b m) (groupEntry p v m), few-listed v i m (transmitter-vid v m k .0))),
   )
 
   -- "No bridge's list exceeds 14,931 words."
@@ -183,7 +188,7 @@ module _ (p : Plan) (L : PlanLaws p) (b : ℕ) (known : b < length (p .bridges))
     length-flatMap-each entryWords 3 (entriesOf p b) (λ e k. refl),
     length-flatMap (λ v. individualEntries p v b ++ groupEntries p v b (p .members)) (p .vids),
     total-most (λ v. length (individualEntries p v b ++ groupEntries p v b (p .members))) (λ v. 63 + total most (filter (transmits p v b) (p .members))) (p .vids)
-        (λ v k. omega (arith, length-append (individualEntries p v b) (groupEntries p v b (p .members)), few-individual v, group-entries v)),
+        (λ v k. omega (arith, length-append (individualEntries p v b) (groupEntries p v b (p .members)), few-individual v, group-entries v k)),
     total-add (λ v. 63) (λ v. total most (filter (transmits p v b) (p .members))) (p .vids),
     total-bounded (λ v. 63) 63 (p .vids) (λ v k. omega arith),
     total-flatMap most (λ v. filter (transmits p v b) (p .members)) (p .vids),
