@@ -11,7 +11,7 @@ use lib.Dec.{T, leb, eqb, ltb, le→leb, leb→le, eqb→eq, ltb→lt}
 use lib.ListN.{length, drop, length-append}
 use Rattle.graph.specs.Lists.{filter}
 use Rattle.graph.specs.Members.{In}
-use Rattle.graph.specs.ListLaws.{le-or-gt, both, first-of, last-of, either-left, either-right, passes, eq-eqb, in-append, in-left, filter-in, in-filter, any-in, in-any, pairwise-end, first-in, none-not-some}
+use Rattle.graph.specs.ListLaws.{le-or-gt, first-of, last-of, equal-two, two-equal, equal-three, either-left, either-right, passes, eq-eqb, in-append, in-left, filter-in, in-filter, any-in, in-any, pairwise-end, first-in, none-not-some}
 use Rattle.rule.specs.Words.{wordsOf, bits}
 use Rattle.rule.specs.Records.{Bridge, HalfLink, Vid, Member, Record, bridge, halfLink, vid, member, end, address, endCount, Layout, Range, inLimits, bridgeOf, halfLinkOf, vidOf, memberOf, layouts, layoutOf, bridgeLayout, halfLinkLayout, vidLayout, memberLayout}
 use Rattle.rule.specs.Outcome.{Outcome, answered, refused, refusedAs}
@@ -118,10 +118,7 @@ module _ (p : Plan) (L : PlanLaws p) where
   mirrors h f e k i = go (filter (λ e. eqb (e .link) (h .link)) (p .halfLinks)) f (in-filter (λ e. eqb (e .link) (h .link)) e (p .halfLinks) k (eq-eqb (e .link) (h .link) i))
     where
       mirror : (e′ : HalfLink) → e ≡ e′ → T (eqb (h .near) (e′ .far) && eqb (h .far) (e′ .near)) → (h .near ≡ e .far) × (h .far ≡ e .near)
-      mirror e′ i t = rw i (
-        eqb→eq (h .near) (e′ .far) (first-of (eqb (h .near) (e′ .far)) (eqb (h .far) (e′ .near)) t),
-        eqb→eq (h .far) (e′ .near) (last-of (eqb (h .near) (e′ .far)) (eqb (h .far) (e′ .near)) t),
-      )
+      mirror e′ i t = rw i (two-equal (h .near) (e′ .far) (h .far) (e′ .near) t)
 
       go : (es : List HalfLink) → (T (wrongHalf h es) → ⊥) → In e es → (h .near ≡ e .far) × (h .far ≡ e .near)
       go (e′ ∷ []) f (inl i) = mirror e′ i (passes (eqb (h .near) (e′ .far) && eqb (h .far) (e′ .near)) f)
@@ -147,7 +144,7 @@ module _ (p : Plan) (L : PlanLaws p) where
     where
       apart : (e : HalfLink) → In e (p .halfLinks) → PortsApart e h
       apart e k i j = f (in-any (λ e. eqb (e .near) (h .near) && eqb (e .port) (h .port)) e (p .halfLinks) k
-          (both (eqb (e .near) (h .near)) (eqb (e .port) (h .port)) (eq-eqb (e .near) (h .near) i) (eq-eqb (e .port) (h .port) j)))
+          (equal-two (e .near) (h .near) (e .port) (h .port) i j))
 
   with-vid : (v : Vid) → length (p .vids) < 16 → v .vid ≤ 4094 → (T (repeated p (vid v)) → ⊥) → PlanLaws (withRecord p (vid v))
   with-vid v l s f = record {
@@ -185,8 +182,7 @@ module _ (p : Plan) (L : PlanLaws p) where
     where
       apart : (e : Member) → In e (p .members) → MembersApart e m
       apart e k i j n = f (in-any (λ e. eqb (e .bridge) (m .bridge) && eqb (e .isid) (m .isid) && eqb (e .vid) (m .vid)) e (p .members) k
-          (both (eqb (e .bridge) (m .bridge) && eqb (e .isid) (m .isid)) (eqb (e .vid) (m .vid))
-          (both (eqb (e .bridge) (m .bridge)) (eqb (e .isid) (m .isid)) (eq-eqb (e .bridge) (m .bridge) i) (eq-eqb (e .isid) (m .isid) j)) (eq-eqb (e .vid) (m .vid) n)))
+          (equal-three (e .bridge) (m .bridge) (e .isid) (m .isid) (e .vid) (m .vid) i j n))
 
 -- A record without a fault keeps the laws
 

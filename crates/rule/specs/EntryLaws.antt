@@ -11,7 +11,7 @@ use lib.Dec.{T, eqb, eqb→eq, T-not, not-T}
 use lib.ListN.{length}
 use Rattle.graph.specs.Lists.{rising, filter, any}
 use Rattle.graph.specs.Members.{In, Distinct}
-use Rattle.graph.specs.ListLaws.{both, first-of, last-of, is-true, true-test, eq-eqb, in-append, map-in, flatMap-in, filter-in, in-filter, any-in, in-any, in-rising, rising-in, distinct-filter, distinct-rising, filter-none, filter-append, filter-flatMap, filter-flatMap-only, flatMap-only, map-back}
+use Rattle.graph.specs.ListLaws.{both, first-of, last-of, equal-three, three-equal, is-true, true-test, eq-eqb, in-append, map-in, flatMap-in, filter-in, in-filter, any-in, in-any, in-rising, rising-in, distinct-filter, distinct-rising, filter-none, filter-append, filter-flatMap, filter-flatMap-only, flatMap-only, map-back}
 use Rattle.rule.specs.Records.{HalfLink, Vid, Member, address}
 use Rattle.rule.specs.Plan.{Plan, bridgeAt}
 use Rattle.rule.specs.Links.{Link, hopLink}
@@ -123,15 +123,10 @@ abbrev matches : ℕ → ℕ → ℕ → Entry → Bool
 matches kind vid addr e = eqb (e .kind) kind && eqb (e .vid) vid && eqb (e .address) addr
 
 matches-says : (kind vid addr : ℕ) (e : Entry) → T (matches kind vid addr e) → (e .kind ≡ kind) × (e .vid ≡ vid) × (e .address ≡ addr)
-matches-says kind vid addr e t = let r = first-of (eqb (e .kind) kind && eqb (e .vid) vid) (eqb (e .address) addr) t in (
-  eqb→eq (e .kind) kind (first-of (eqb (e .kind) kind) (eqb (e .vid) vid) r),
-  eqb→eq (e .vid) vid (last-of (eqb (e .kind) kind) (eqb (e .vid) vid) r),
-  eqb→eq (e .address) addr (last-of (eqb (e .kind) kind && eqb (e .vid) vid) (eqb (e .address) addr) t),
-)
+matches-says kind vid addr e t = three-equal (e .kind) kind (e .vid) vid (e .address) addr t
 
 says-matches : (kind vid addr : ℕ) (e : Entry) → e .kind ≡ kind → e .vid ≡ vid → e .address ≡ addr → T (matches kind vid addr e)
-says-matches kind vid addr e i j k = both (eqb (e .kind) kind && eqb (e .vid) vid) (eqb (e .address) addr)
-    (both (eqb (e .kind) kind) (eqb (e .vid) vid) (eq-eqb (e .kind) kind i) (eq-eqb (e .vid) vid j)) (eq-eqb (e .address) addr k)
+says-matches kind vid addr e i j k = equal-three (e .kind) kind (e .vid) vid (e .address) addr i j k
 
 module _ (p : Plan) (v : Vid) (b : ℕ) where
   -- The other bridges by number, and the ports of the entry for one of them: one, or none where no path leads there.

@@ -8,13 +8,13 @@ use mathlib.Core.List.{List, [], _∷_, map}
 use mathlib.Core.Option.{Option, none, some, Option·map}
 use mathlib.Core.Logic.{_⊎_, inl, inr}
 use mathlib.Core.Bool.{Bool, _&&_, and-false, or-false}
-use lib.Dec.{T, eqb, eqb→eq, ltb→lt, lt→ltb}
+use lib.Dec.{T, eqb, ltb→lt, lt→ltb}
 use lib.ListN.{length}
 use Rattle.graph.specs.Lists.{filter}
 use Rattle.graph.specs.Order.{Lower, lower}
 use Rattle.graph.specs.Graph.{GraphLaws, Joined}
 use Rattle.graph.specs.Members.{In, Distinct}
-use Rattle.graph.specs.ListLaws.{compared, both, first-of, last-of, eq-eqb, in-map, map-in, in-flatMap, flatMap-in, filter-in, in-filter, any-in, in-any, distinct-flatMap, distinct-filter, distinct-map, pairwise-one, only-one, lowest-none}
+use Rattle.graph.specs.ListLaws.{compared, equal-two, two-equal, equal-three, three-equal, in-map, map-in, in-flatMap, flatMap-in, filter-in, in-filter, any-in, in-any, distinct-flatMap, distinct-filter, distinct-map, pairwise-one, only-one, lowest-none}
 use Rattle.graph.specs.OrderLaws.{lowest-ranked}
 use Rattle.rule.specs.Records.{HalfLink, unusableMetric}
 use Rattle.rule.specs.Plan.{Plan}
@@ -36,19 +36,12 @@ module _ (hs : List HalfLink) where
   abbrev seenFrom : HalfLink → List Link
   seenFrom h = map (λ m. record { here = h; there = m }) (filter (mates h) hs)
 
-  mate-says : (h m : HalfLink) → T (mates h m) → (h .link ≡ m .link) × (h .near ≡ m .far) × (h .far ≡ m .near)
-  mate-says h m t = let r = first-of (eqb (h .link) (m .link) && eqb (h .near) (m .far)) (eqb (h .far) (m .near)) t in (
-    eqb→eq (h .link) (m .link) (first-of (eqb (h .link) (m .link)) (eqb (h .near) (m .far)) r),
-    eqb→eq (h .near) (m .far) (last-of (eqb (h .link) (m .link)) (eqb (h .near) (m .far)) r),
-    eqb→eq (h .far) (m .near) (last-of (eqb (h .link) (m .link) && eqb (h .near) (m .far)) (eqb (h .far) (m .near)) t),
-  )
-
   pub usable-says : (l : Link) → In l (usableLinks hs) → Usable hs l
   unfolding usableLinks linksOf
   usable-says l k = let r = filter-in (λ l. usableMetric (linkCost l)) l (linksOf hs) k in go (flatMap-in seenFrom l hs (r .0)) (ltb→lt (linkCost l) unusableMetric (r .1))
     where
       mate : (h : HalfLink) → In h hs → linkCost l < 16777215 → ((m : HalfLink) × In m (filter (mates h) hs) × (l ≡ record { here = h; there = m })) → Usable hs l
-      mate h i u (m, j, e) = let r = filter-in (mates h) m hs j in let s = mate-says h m (r .1) in
+      mate h i u (m, j, e) = let r = filter-in (mates h) m hs j in let s = three-equal (h .link) (m .link) (h .near) (m .far) (h .far) (m .near) (r .1) in
           subst (λ (z : Link). Usable hs z) (sym e)
           (record { here-listed = i; there-listed = r .0; one-number = s .0; near-far = s .1; far-near = s .2; usable = subst (λ (z : Link). linkCost z < 16777215) e u })
 
@@ -61,9 +54,8 @@ module _ (hs : List HalfLink) where
       (in-flatMap seenFrom l (l .here) hs (U .here-listed)
       (in-map (λ m. record { here = l .here; there = m }) (l .there) (filter (mates (l .here)) hs)
       (in-filter (mates (l .here)) (l .there) hs (U .there-listed)
-      (both (eqb (l .here .link) (l .there .link) && eqb (l .here .near) (l .there .far)) (eqb (l .here .far) (l .there .near))
-      (both (eqb (l .here .link) (l .there .link)) (eqb (l .here .near) (l .there .far)) (eq-eqb (l .here .link) (l .there .link) (U .one-number)) (eq-eqb (l .here .near) (l .there .far) (U .near-far)))
-      (eq-eqb (l .here .far) (l .there .near) (U .far-near))))))
+      (equal-three (l .here .link) (l .there .link) (l .here .near) (l .there .far) (l .here .far) (l .there .near)
+      (U .one-number) (U .near-far) (U .far-near)))))
       (lt→ltb (linkCost l) unusableMetric (U .usable))
 
   pub usable-turned : (l : Link) → Usable hs l → Usable hs (turned l)
@@ -84,19 +76,13 @@ module _ (hs : List HalfLink) where
       let s = map-in (λ z. record { here = k; there = z }) l (filter (mates k) hs) n in
       ap (λ (z : Link). z .here) (sym (r .2) ∙ s .2)))
 
-  connects-says : (u v : ℕ) (l : Link) → T (connects u v l) → (from l ≡ u) × (to l ≡ v)
-  connects-says u v l t = (eqb→eq (from l) u (first-of (eqb (from l) u) (eqb (to l) v) t), eqb→eq (to l) v (last-of (eqb (from l) u) (eqb (to l) v) t))
-
-  says-connects : (u v : ℕ) (l : Link) → from l ≡ u → to l ≡ v → T (connects u v l)
-  says-connects u v l e f = both (eqb (from l) u) (eqb (to l) v) (eq-eqb (from l) u e) (eq-eqb (to l) v f)
-
   between-says : (u v : ℕ) (l : Link) → In l (linksBetween hs u v) → Usable hs l × (from l ≡ u) × (to l ≡ v)
   unfolding linksBetween
-  between-says u v l k = let r = filter-in (connects u v) l (usableLinks hs) k in let c = connects-says u v l (r .1) in (usable-says l (r .0), c .0, c .1)
+  between-says u v l k = let r = filter-in (connects u v) l (usableLinks hs) k in let c = two-equal (from l) u (to l) v (r .1) in (usable-says l (r .0), c .0, c .1)
 
   says-between : (u v : ℕ) (l : Link) → Usable hs l → from l ≡ u → to l ≡ v → In l (linksBetween hs u v)
   unfolding linksBetween
-  says-between u v l U e f = in-filter (connects u v) l (usableLinks hs) (says-usable l U) (says-connects u v l e f)
+  says-between u v l U e f = in-filter (connects u v) l (usableLinks hs) (says-usable l U) (equal-two (from l) u (to l) v e f)
 
 -- "the cheapest usable link, of equals the lower link number": links compare by cost, then number.
 abbrev linkRank : Link → List ℕ
@@ -146,10 +132,10 @@ module _ (p : Plan) (L : PlanLaws p) where
   port-crosses l U = ap only (only-one (filter test (usableLinks (p .halfLinks))) l
       (distinct-filter test (usableLinks (p .halfLinks)) (distinct-usable (p .halfLinks) (distinct-half-links p L)))
       (in-filter test l (usableLinks (p .halfLinks)) (says-usable (p .halfLinks) l U)
-      (both (eqb (from l) (from l)) (eqb (l .here .port) (l .here .port)) (eq-eqb (from l) (from l) refl) (eq-eqb (l .here .port) (l .here .port) refl)))
-      (λ k i. let r = filter-in test k (usableLinks (p .halfLinks)) i in same k (usable-says (p .halfLinks) k (r .0))
-      (eqb→eq (from k) (from l) (first-of (eqb (from k) (from l)) (eqb (k .here .port) (l .here .port)) (r .1)))
-      (eqb→eq (k .here .port) (l .here .port) (last-of (eqb (from k) (from l)) (eqb (k .here .port) (l .here .port)) (r .1)))))
+      (equal-two (from l) (from l) (l .here .port) (l .here .port) refl refl))
+      (λ k i. let r = filter-in test k (usableLinks (p .halfLinks)) i in
+      let c = two-equal (from k) (from l) (k .here .port) (l .here .port) (r .1) in
+      same k (usable-says (p .halfLinks) k (r .0)) (c .0) (c .1)))
     where
       test : Link → Bool
       test k = eqb (from k) (from l) && eqb (k .here .port) (l .here .port)
@@ -233,7 +219,7 @@ module _ (p : Plan) (L : PlanLaws p) where
   pub joined-says : (u v : ℕ) → T (joined (p .halfLinks) u v) → Joined (graphOf p) u v
   unfolding joined
   joined-says u v t = let r = any-in (connects u v) (usableLinks (p .halfLinks)) t in
-      let c = connects-says (p .halfLinks) u v (r .0) (r .2) in
+      let c = two-equal (from (r .0)) u (to (r .0)) v (r .2) in
       go (hopLink (p .halfLinks) u v) refl (r .0) (usable-says (p .halfLinks) (r .0) (r .1)) (c .0) (c .1)
     where
       go : (o : Option Link) → hopLink (p .halfLinks) u v ≡ o → (l : Link) → Usable (p .halfLinks) l → from l ≡ u → to l ≡ v → Joined (graphOf p) u v
@@ -243,4 +229,4 @@ module _ (p : Plan) (L : PlanLaws p) where
   pub says-joined : (u v : ℕ) → Joined (graphOf p) u v → T (joined (p .halfLinks) u v)
   unfolding joined
   says-joined u v j = let (l, e) = joined-hop u v j in let K = hop-takes (p .halfLinks) u v l e in
-      in-any (connects u v) l (usableLinks (p .halfLinks)) (says-usable (p .halfLinks) l (K .link)) (says-connects (p .halfLinks) u v l (K .near) (K .far))
+      in-any (connects u v) l (usableLinks (p .halfLinks)) (says-usable (p .halfLinks) l (K .link)) (equal-two (from l) u (to l) v (K .near) (K .far))

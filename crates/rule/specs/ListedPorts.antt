@@ -12,7 +12,7 @@ use lib.ListN.{length, length-map}
 use Rattle.graph.specs.Lists.{filter}
 use Rattle.graph.specs.Members.{In, Distinct}
 use Rattle.graph.specs.Notions.{Least, Leaves}
-use Rattle.graph.specs.ListLaws.{last-of, is-true, eq-eqb, eqb-other, none-not-some, map-in, in-flatMap, flatMap-in, filter-in, in-filter, at-most, distinct-flatMap, distinct-map, length-flatMap-each}
+use Rattle.graph.specs.ListLaws.{two-equal, is-true, eq-eqb, eqb-other, none-not-some, map-in, in-flatMap, flatMap-in, filter-in, in-filter, at-most, distinct-flatMap, distinct-map, length-flatMap-each}
 use Rattle.graph.specs.Paths.{entered-inside}
 use Rattle.graph.specs.ChosenPaths.{chosen-first, chosen-distinct}
 use Rattle.rule.specs.Records.{HalfLink, Member}
@@ -89,7 +89,7 @@ module _ (hs : List HalfLink) where
   unfolding crossed
   crossed-port u port l e =
       let r = filter-in (λ l. eqb (from l) u && eqb (l .here .port) port) l (usableLinks hs) (only-is (filter (λ l. eqb (from l) u && eqb (l .here .port) port) (usableLinks hs)) l e) in
-      eqb→eq (l .here .port) port (last-of (eqb (from l) u) (eqb (l .here .port) port) (r .1))
+      two-equal (from l) u (l .here .port) port (r .1) .1
 
 -- The ports listed for a transmitting member
 
