@@ -30,7 +30,8 @@ unfolding lowestFault
 no-fault [] e = tt
 no-fault (f ∷ fs) e = go (f .applies) (λ h. h) e (no-fault fs)
   where
-    go : (b : Bool) → (T (f .applies) → T b) → cond b (some (f .number)) (lowestFault fs) ≡ none → (lowestFault fs ≡ none → NoFault fs) → NoFault (f ∷ fs)
+    go : (b : Bool) → (T (f .applies) → T b) → cond b (some (f .number)) (lowestFault fs) ≡ none → (lowestFault fs ≡ none → NoFault fs)
+        → NoFault (f ∷ fs)
     go true h e ih = absurd (none-not-some (sym e))
     go false h e ih = (h, ih e)
 
@@ -50,7 +51,8 @@ in-ranges (g ∷ gs) r f = let h = passes (inLimits (g .limits) (g .value r)) (f
 )
 
 not-outside : (gs : List Range) (r : List ℕ) (wrong : Bool) → (T (outsideRange gs r || wrong) → ⊥) → InRanges gs r
-not-outside gs r wrong f = in-ranges gs r (λ g k h. f (either-left (outsideRange gs r) wrong (in-any (λ g. not (inLimits (g .limits) (g .value r))) g gs k h)))
+not-outside gs r wrong f = in-ranges gs r
+    (λ g k h. f (either-left (outsideRange gs r) wrong (in-any (λ g. not (inLimits (g .limits) (g .value r))) g gs k h)))
 
 not-leb : (m n : ℕ) → (T (leb m n) → ⊥) → n < m
 not-leb m n f = go (le-or-gt m n)
@@ -88,7 +90,8 @@ half-link-still n k h l f = record {
 }
 
 module _ (p : Plan) (L : PlanLaws p) where
-  with-bridge : (b : Bridge) → length (p .bridges) < 64 → b .spSourceId ≤ 1048575 → (T (repeated p (bridge b)) → ⊥) → PlanLaws (withRecord p (bridge b))
+  with-bridge : (b : Bridge) → length (p .bridges) < 64 → b .spSourceId ≤ 1048575 → (T (repeated p (bridge b)) → ⊥)
+      → PlanLaws (withRecord p (bridge b))
   with-bridge b l s f = record {
     few-bridges = omega (arith, longer (p .bridges) b);
     few-vids = L .few-vids;
@@ -99,9 +102,11 @@ module _ (p : Plan) (L : PlanLaws p) where
     members-apart = L .members-apart;
     mirrored = L .mirrored;
     bridge-fits = each-end (λ b. b .spSourceId ≤ 1048575) (p .bridges) b (L .bridge-fits) s;
-    half-link-fits = λ h k. half-link-still (length (p .bridges)) (length (p .bridges ++ (b ∷ []))) h (omega (arith, longer (p .bridges) b)) (L .half-link-fits h k);
+    half-link-fits = λ h k. half-link-still (length (p .bridges)) (length (p .bridges ++ (b ∷ []))) h (omega (arith, longer (p .bridges) b))
+        (L .half-link-fits h k);
     vid-fits = L .vid-fits;
-    member-fits = λ m k. let M = L .member-fits m k in record { isid = M .isid; bridge-known = omega (arith, longer (p .bridges) b, M .bridge-known); vid-known = M .vid-known };
+    member-fits = λ m k. let M = L .member-fits m k in
+        record { isid = M .isid; bridge-known = omega (arith, longer (p .bridges) b, M .bridge-known); vid-known = M .vid-known };
   }
     where
       same : Bridge → Bool
@@ -109,13 +114,16 @@ module _ (p : Plan) (L : PlanLaws p) where
 
       apart : (e : Bridge) → In e (p .bridges) → BridgesApart e b
       apart e k = record {
-        addresses = λ i. f (in-any same e (p .bridges) k (either-left (eqb (address e) (address b)) (eqb (e .spSourceId) (b .spSourceId)) (eq-eqb (address e) (address b) i)));
-        sources = λ i. f (in-any same e (p .bridges) k (either-right (eqb (address e) (address b)) (eqb (e .spSourceId) (b .spSourceId)) (eq-eqb (e .spSourceId) (b .spSourceId) i)));
+        addresses = λ i. f (in-any same e (p .bridges) k
+            (either-left (eqb (address e) (address b)) (eqb (e .spSourceId) (b .spSourceId)) (eq-eqb (address e) (address b) i)));
+        sources = λ i. f (in-any same e (p .bridges) k
+            (either-right (eqb (address e) (address b)) (eqb (e .spSourceId) (b .spSourceId)) (eq-eqb (e .spSourceId) (b .spSourceId) i)));
       }
 
   -- A second half-link of a link number mirrors the first; a third is refused.
   mirrors : (h : HalfLink) → (T (wrongLink p (halfLink h)) → ⊥) → (e : HalfLink) → In e (p .halfLinks) → Mirrors e h
-  mirrors h f e k i = go (filter (λ e. eqb (e .link) (h .link)) (p .halfLinks)) f (in-filter (λ e. eqb (e .link) (h .link)) e (p .halfLinks) k (eq-eqb (e .link) (h .link) i))
+  mirrors h f e k i = go (filter (λ e. eqb (e .link) (h .link)) (p .halfLinks)) f
+      (in-filter (λ e. eqb (e .link) (h .link)) e (p .halfLinks) k (eq-eqb (e .link) (h .link) i))
     where
       mirror : (e′ : HalfLink) → e ≡ e′ → T (eqb (h .near) (e′ .far) && eqb (h .far) (e′ .near)) → (h .near ≡ e .far) × (h .far ≡ e .near)
       mirror e′ i t = rw i (two-equal (h .near) (e′ .far) (h .far) (e′ .near) t)
@@ -153,7 +161,8 @@ module _ (p : Plan) (L : PlanLaws p) where
     few-members = L .few-members;
     bridges-apart = L .bridges-apart;
     ports-apart = L .ports-apart;
-    vids-apart = pairwise-end VidsApart (p .vids) v (L .vids-apart) (λ e k i. f (in-any (λ e. eqb (e .vid) (v .vid)) e (p .vids) k (eq-eqb (e .vid) (v .vid) i)));
+    vids-apart = pairwise-end VidsApart (p .vids) v (L .vids-apart)
+        (λ e k i. f (in-any (λ e. eqb (e .vid) (v .vid)) e (p .vids) k (eq-eqb (e .vid) (v .vid) i)));
     members-apart = L .members-apart;
     mirrored = L .mirrored;
     bridge-fits = L .bridge-fits;
@@ -195,15 +204,21 @@ keeps-bridge s r N L = let G = not-outside (bridgeLayout .ranges) r false (N .1 
 
 keeps-half-link : (s : Reading) (r : List ℕ) → Keeps s r halfLinkLayout
 keeps-half-link s r N L = let G = not-outside (halfLinkLayout .ranges) r false (N .1 .1 .1 .1 .0) in
-    with-half-link (s .plan) L (halfLinkOf r) (fits (halfLinkOf r) (G .0 .0) (G .1 .0 .0) (G .1 .0 .1) (N .1 .1 .1 .1 .1 .0)) (N .1 .1 .1 .1 .1 .1 .0) (N .1 .1 .1 .1 .1 .1 .1 .0)
+    with-half-link (s .plan) L (halfLinkOf r) (fits (halfLinkOf r) (G .0 .0) (G .1 .0 .0) (G .1 .0 .1) (N .1 .1 .1 .1 .1 .0))
+    (N .1 .1 .1 .1 .1 .1 .0) (N .1 .1 .1 .1 .1 .1 .1 .0)
   where
-    fits : (h : HalfLink) → 1 ≤ h .metric → 1 ≤ h .port → h .port ≤ 4095 → (T (unknownName (s .plan) (halfLink h)) → ⊥) → HalfLinkFits (length (s .plan .bridges)) h
+    fits : (h : HalfLink) → 1 ≤ h .metric → 1 ≤ h .port → h .port ≤ 4095 → (T (unknownName (s .plan) (halfLink h)) → ⊥)
+        → HalfLinkFits (length (s .plan .bridges)) h
     fits h m l g f = record {
       metric = m;
       least-port = l;
       greatest-port = g;
-      near-known = known (h .near) n (λ k. f (either-left (not (ltb (h .near) n) || not (ltb (h .far) n)) (eqb (h .near) (h .far)) (either-left (not (ltb (h .near) n)) (not (ltb (h .far) n)) k)));
-      far-known = known (h .far) n (λ k. f (either-left (not (ltb (h .near) n) || not (ltb (h .far) n)) (eqb (h .near) (h .far)) (either-right (not (ltb (h .near) n)) (not (ltb (h .far) n)) k)));
+      near-known = known (h .near) n
+          (λ k. f (either-left (not (ltb (h .near) n) || not (ltb (h .far) n)) (eqb (h .near) (h .far))
+          (either-left (not (ltb (h .near) n)) (not (ltb (h .far) n)) k)));
+      far-known = known (h .far) n (λ k. f
+          (either-left (not (ltb (h .near) n) || not (ltb (h .far) n)) (eqb (h .near) (h .far))
+          (either-right (not (ltb (h .near) n)) (not (ltb (h .far) n)) k)));
       apart = λ e. f (either-right (not (ltb (h .near) n) || not (ltb (h .far) n)) (eqb (h .near) (h .far)) (eq-eqb (h .near) (h .far) e));
     }
       where
@@ -216,14 +231,18 @@ keeps-vid s r N L = let G = not-outside (vidLayout .ranges) r false (N .1 .1 .1 
 
 keeps-member : (s : Reading) (r : List ℕ) → Keeps s r memberLayout
 keeps-member s r N L = let G = not-outside (memberLayout .ranges) r false (N .1 .1 .1 .1 .0) in
-    with-member (s .plan) L (memberOf r) (not-leb 64 (length (s .plan .members)) (N .1 .1 .1 .0)) (fits (memberOf r) (G .0 .1) (N .1 .1 .1 .1 .1 .0)) (N .1 .1 .1 .1 .1 .1 .0)
+    with-member (s .plan) L (memberOf r) (not-leb 64 (length (s .plan .members)) (N .1 .1 .1 .0))
+    (fits (memberOf r) (G .0 .1) (N .1 .1 .1 .1 .1 .0)) (N .1 .1 .1 .1 .1 .1 .0)
   where
     fits : (m : Member) → m .isid ≤ 16777214 → (T (unknownName (s .plan) (member m)) → ⊥) → MemberFits (s .plan) m
     fits m i f = record {
       isid = i;
-      bridge-known = known (m .bridge) (length (s .plan .bridges)) (λ k. f (either-left (not (knownBridge (s .plan) (m .bridge))) (not (knownVid (s .plan) (m .vid))) k));
+      bridge-known = known (m .bridge) (length (s .plan .bridges))
+          (λ k. f (either-left (not (knownBridge (s .plan) (m .bridge))) (not (knownVid (s .plan) (m .vid))) k));
       vid-known =
-          let r = any-in (λ v. eqb (v .vid) (m .vid)) (s .plan .vids) (passes (knownVid (s .plan) (m .vid)) (λ k. f (either-right (not (knownBridge (s .plan) (m .bridge))) (not (knownVid (s .plan) (m .vid))) k))) in
+          let r = any-in (λ v. eqb (v .vid) (m .vid)) (s .plan .vids)
+          (passes (knownVid (s .plan) (m .vid))
+          (λ k. f (either-right (not (knownBridge (s .plan) (m .bridge))) (not (knownVid (s .plan) (m .vid))) k))) in
           (r .0, r .1, eqb→eq (r .0 .vid) (m .vid) (r .2));
     }
 
@@ -252,12 +271,15 @@ not-answered : {number : ℕ} {kind : Option ℕ} {at : ℕ} {p : Plan} → refu
 not-answered {number} {kind} {at} {p} e = let z : _≡_ {A = ℕ} 0 1 = cc in omega arith
 
 -- Reading on from a plan that meets the laws ends, where it ends with an answer, with one that meets them.
-module _ (p : Plan) (next : Reading → Outcome Plan) (on : (s : Reading) → PlanLaws (s .plan) → next s ≡ answered p → PlanLaws p) (s : Reading) (L : PlanLaws (s .plan)) where
-  taken-laws : (l : Layout) (e : Record) (c : Option ℕ) → endCount e ≡ c → PlanLaws (withRecord (s .plan) e) → after next (taken s l e c) ≡ answered p → PlanLaws p
+module _ (p : Plan) (next : Reading → Outcome Plan) (on : (s : Reading) → PlanLaws (s .plan) → next s ≡ answered p → PlanLaws p) (s : Reading)
+    (L : PlanLaws (s .plan)) where
+  taken-laws : (l : Layout) (e : Record) (c : Option ℕ) → endCount e ≡ c → PlanLaws (withRecord (s .plan) e)
+      → after next (taken s l e c) ≡ answered p → PlanLaws p
   taken-laws l e none i K h = on (record { at = s .at + l .words; last = l .kind; plan = withRecord (s .plan) e }) K h
   taken-laws l e (some c) i K h = let j : s .plan ≡ p = cc in subst (λ (q : Plan). PlanLaws q) (end-leaves (s .plan) e c i ∙ j) K
 
-  judged-laws : (l : Layout) (r : List ℕ) (f : Option ℕ) → lowestFault (faults s l r) ≡ f → In l layouts → after next (judged s l r f) ≡ answered p → PlanLaws p
+  judged-laws : (l : Layout) (r : List ℕ) (f : Option ℕ) → lowestFault (faults s l r) ≡ f → In l layouts
+      → after next (judged s l r f) ≡ answered p → PlanLaws p
   judged-laws l r none i k h = taken-laws l (l .decoded r) (endCount (l .decoded r)) refl (kept s r l k (no-fault (faults s l r) i) L) h
   judged-laws l r (some f) i k h = absurd (not-answered h)
 

@@ -84,22 +84,26 @@ module _ (s : Setting) where
           append-same q path (drop (length q) (G .lent)) (G .rest)
           (omega (arith, G .bridges, ap (λ (z : CostAndHops). z .hops) e, ap (λ (z : List ℕ). length z) g)) f
 
-      go : (o : Option (List ℕ)) → chosenPath (s .plan) (s .vid .index) a b ≡ o → lentTo (G .lent) (pathFound (s .plan) o) ≡ (answered values, path ++ G .rest)
+      go : (o : Option (List ℕ)) → chosenPath (s .plan) (s .vid .index) a b ≡ o
+          → lentTo (G .lent) (pathFound (s .plan) o) ≡ (answered values, path ++ G .rest)
           → ChosenFor net a b path × (values ≡ measured (s .plan) path)
       go none e f = absurd (refused-not-answered (ap (λ (z : Outcome CostAndHops × List ℕ). z .0) f))
       go (some q) e f =
           let P = path-is-chosen (s .plan) laws (s .vid .index) a b q e in
-          let r = lent-says (G .lent) (record { values = measured (s .plan) q; words = q }) values (path ++ G .rest) (answered values, path ++ G .rest) f refl refl in
+          let r = lent-says (G .lent) (record { values = measured (s .plan) q; words = q }) values (path ++ G .rest)
+          (answered values, path ++ G .rest) f refl refl in
           let g : q ≡ path = same q P (r .0) (r .1) in
           (subst (λ (z : List ℕ). ChosenFor net a b z) g P, subst (λ (z : List ℕ). values ≡ measured (s .plan) z) g (sym (r .0)))
 
   -- Each chosen path is given, where the lent list holds it and no more.
-  chosen-given : (a b : ℕ) → a < length (s .plan .bridges) → b < length (s .plan .bridges) → (q : List ℕ) → ChosenFor net a b q → Given s a b q (measured (s .plan) q)
+  chosen-given : (a b : ℕ) → a < length (s .plan .bridges) → b < length (s .plan .bridges) → (q : List ℕ) → ChosenFor net a b q
+      → Given s a b q (measured (s .plan) q)
   chosen-given a b h k q P = record {
     lent = q;
     rest = [];
     call =
-        path-call a b h k q ∙ ap (λ (o : Option (List ℕ)). lentTo q (pathFound (s .plan) o)) (chosen-is-path (s .plan) laws (s .vid .index) a b q P)
+        path-call a b h k q ∙ ap (λ (o : Option (List ℕ)). lentTo q (pathFound (s .plan) o))
+        (chosen-is-path (s .plan) laws (s .vid .index) a b q P)
         ∙ lent-holds (record { values = measured (s .plan) q; words = q });
     bridges = let (t, g, W) = chosen-first (graph net) (key net) a b q P in omega (arith, ap (λ (z : List ℕ). length z) g);
   }
@@ -108,18 +112,25 @@ module _ (s : Setting) where
 
   -- "Whatever list is lent, the path call refuses with 12 exactly when no chain of usable links joins a and b".
   pub refused-12 : Refusal12 s
-  refused-12 a b B lent = (λ e. go (chosenPath (s .plan) (s .vid .index) a b) refl (sym (ap (λ (z : Outcome CostAndHops × List ℕ). z .0) call) ∙ e), back)
+  refused-12 a b B lent = (
+    λ e. go (chosenPath (s .plan) (s .vid .index) a b) refl
+        (sym (ap (λ (z : Outcome CostAndHops × List ℕ). z .0) call) ∙ e),
+    back,
+  )
     where
       call : pathOutcome (s .table) (s .vid .vid) a b lent ≡ lentTo lent (pathFound (s .plan) (chosenPath (s .plan) (s .vid .index) a b))
       call = path-call a b (B .first) (B .second) lent
 
-      go : (o : Option (List ℕ)) → chosenPath (s .plan) (s .vid .index) a b ≡ o → lentTo lent (pathFound (s .plan) o) .0 ≡ refusedAs 12 → Apart s a b
-      go none e f = λ q c. let (path, P) = chain-chosen a b q c in none-not-some (sym e ∙ chosen-is-path (s .plan) laws (s .vid .index) a b path P)
+      go : (o : Option (List ℕ)) → chosenPath (s .plan) (s .vid .index) a b ≡ o → lentTo lent (pathFound (s .plan) o) .0 ≡ refusedAs 12
+          → Apart s a b
+      go none e f = λ q c. let (path, P) = chain-chosen a b q c in
+          none-not-some (sym e ∙ chosen-is-path (s .plan) laws (s .vid .index) a b path P)
       go (some q) e f = absurd (lent-not-12 lent (record { values = measured (s .plan) q; words = q }) f)
 
       back : Apart s a b → pathOutcome (s .table) (s .vid .vid) a b lent .0 ≡ refusedAs 12
       back f = ap (λ (z : Outcome CostAndHops × List ℕ). z .0) (call
-          ∙ ap (λ (o : Option (List ℕ)). lentTo lent (pathFound (s .plan) o)) (no-path-is-none (s .plan) laws (s .vid .index) a b (λ q o. f q (path-chain a b q o))))
+          ∙ ap (λ (o : Option (List ℕ)). lentTo lent (pathFound (s .plan) o))
+          (no-path-is-none (s .plan) laws (s .vid .index) a b (λ q o. f q (path-chain a b q o))))
 
   -- "and exactly then a has no entry for b".
   pub no-entry : NoEntry s
@@ -169,8 +180,10 @@ module _ (s : Setting) where
       let (P, f) = given-chosen a b (B .first) (B .second) path values G in
       let Q : ChosenFor net a b (front ++ ((c ∷ between ++ (d ∷ [])) ++ back)) = subst (λ (z : List ℕ). ChosenFor net a b z) (e ∙ whole) P in
       let h : c < length (s .plan .bridges) = inside P c (subst (λ (z : List ℕ). In c z) (sym e) (in-here c front (between ++ (d ∷ back)))) in
-      let k : d < length (s .plan .bridges) = inside P d (subst (λ (z : List ℕ). In d z) (sym e) (in-right d front (c ∷ between ++ (d ∷ back)) (inr (in-here d between back)))) in
-      let there : ChosenFor net c d (c ∷ between ++ (d ∷ [])) = subst (λ (z : ℕ). ChosenFor net c z (c ∷ between ++ (d ∷ []))) (lastOf-append c between d [])
+      let k : d < length (s .plan .bridges) = inside P d
+      (subst (λ (z : List ℕ). In d z) (sym e) (in-right d front (c ∷ between ++ (d ∷ back)) (inr (in-here d between back)))) in
+      let there : ChosenFor net c d (c ∷ between ++ (d ∷ [])) = subst (λ (z : ℕ). ChosenFor net c z (c ∷ between ++ (d ∷ [])))
+      (lastOf-append c between d [])
       (chosen-part (graph net) (key net) a b front c (between ++ (d ∷ [])) back Q) in
       let again : ChosenFor net d c (d ∷ reverse between ++ (c ∷ [])) = subst (λ (z : List ℕ). ChosenFor net d c z) turned
       (chosen-reverse (graph net) (graph-meets net) (key net) c d (c ∷ between ++ (d ∷ [])) there) in (
@@ -196,7 +209,8 @@ module _ (s : Setting) where
   pub receivers-once : Receivers s
   receivers-once m M n l = (
     λ r R q c. let (path, P) = chain-chosen (m .bridge) (r .bridge) q c in
-        reached-once net m (M .ofTable) (M .transmits) (M .inVid) r (R .ofTable) (says-receives m r (R .receives) (R .inService .1) (R .inService .0) (R .other)) (R .other) path P n l,
+        reached-once net m (M .ofTable) (M .transmits) (M .inVid) r (R .ofTable)
+        (says-receives m r (R .receives) (R .inService .1) (R .inService .0) (R .other)) (R .other) path P n l,
     no-copy-stays net m (M .ofTable) (M .transmits) (M .inVid) n l,
   )
 

@@ -50,15 +50,18 @@ module _ (N : Network) where
 
   -- What a bridge's words hold for another bridge.
   ports-read : (u b : ℕ) → u < size N → b < size N → (b ≡ u → ⊥) → portsAt u b ≡ portsTo (N .plan) (N .vid) u b
-  ports-read u b l k n = ap (entryPorts 8 (N .vid .vid) (address (bridgeAt (N .plan) b))) (N .written u l) ∙ individual-ports (N .plan) (N .laws) (N .vid) u b (N .of-plan) k n
+  ports-read u b l k n = ap (entryPorts 8 (N .vid .vid) (address (bridgeAt (N .plan) b))) (N .written u l)
+      ∙ individual-ports (N .plan) (N .laws) (N .vid) u b (N .of-plan) k n
 
   -- "exactly then a has no entry for b" (demand 3): without a path there is none.
   pub no-path-no-port : (u b : ℕ) → u < size N → b < size N → (b ≡ u → ⊥)
       → ((q : List ℕ) → Path (graph N) u b q → ⊥) → portsAt u b ≡ []
-  no-path-no-port u b l k n f = ports-read u b l k n ∙ ap (portsOf (firstPort (links N))) (no-path-is-none (N .plan) (N .laws) (N .vid .index) u b f)
+  no-path-no-port u b l k n f = ports-read u b l k n
+      ∙ ap (portsOf (firstPort (links N))) (no-path-is-none (N .plan) (N .laws) (N .vid .index) u b f)
 
   -- Where a path is chosen the one entry has the port of the link that its first hop takes.
-  pub port-of-hop : (u w b : ℕ) (t : List ℕ) (l : Link) → ChosenFor N u b (u ∷ w ∷ t) → hopLink (links N) u w ≡ some l → portsAt u b ≡ l .here .port ∷ []
+  pub port-of-hop : (u w b : ℕ) (t : List ℕ) (l : Link) → ChosenFor N u b (u ∷ w ∷ t) → hopLink (links N) u w ≡ some l
+      → portsAt u b ≡ l .here .port ∷ []
   port-of-hop u w b t l P e =
       ports-read u b (graph-meets N .inside u w (P .path .1 .0)) (end-inside (graph N) (graph-meets N) u w t b (P .path .1))
       (λ f. chosen-other (graph N) (key N) u w b t P (sym f))
@@ -98,7 +101,8 @@ module _ (N : Network) where
       ap (map some) (moves-on b n a w t k P e)
       ∙ (λ i. sym e i ∷ crosses-onward b n w t (chosen-after (graph N) (key N) a w b t P) (omega arith) i)
 
-  pub crosses-path : (b n a : ℕ) (q : List ℕ) → ChosenFor N a b q → hops q ≤ n → map some (crossings (leave b) b n a) ≡ along (hopLink (links N)) q
+  pub crosses-path : (b n a : ℕ) (q : List ℕ) → ChosenFor N a b q → hops q ≤ n
+      → map some (crossings (leave b) b n a) ≡ along (hopLink (links N)) q
   crosses-path b n a q P l = go (chosen-first (graph N) (key N) a b q P)
     where
       go : ((t : List ℕ) × (q ≡ a ∷ t) × Least (graph N) a t b) → map some (crossings (leave b) b n a) ≡ along (hopLink (links N)) q
@@ -114,7 +118,8 @@ module _ (N : Network) where
   -- "The frame from b to a passes the same links in reverse" (demand 3).
   pub same-links : (a b n : ℕ) (q : List ℕ) → ChosenFor N a b q → hops q ≤ n
       → crossings (leave a) a n b ≡ reverse (map turned (crossings (leave b) b n a))
-  same-links a b n q P l = map-injective some (λ k m e. Option·some-injective k m e) (crossings (leave a) a n b) (reverse (map turned (crossings (leave b) b n a)))
+  same-links a b n q P l = map-injective some (λ k m e. Option·some-injective k m e) (crossings (leave a) a n b)
+      (reverse (map turned (crossings (leave b) b n a)))
       (crosses-path a n b (reverse q) (chosen-reverse (graph N) (graph-meets N) (key N) a b q P) (omega (arith, length-reverse q))
       ∙ along-reverse (hopLink (links N)) (Option·map turned) (hop-turned (N .plan) (N .laws)) q
       ∙ ap (λ (os : List (Option Link)). reverse (map (Option·map turned) os)) (sym (crosses-path b n a q P l))
@@ -133,7 +138,8 @@ module _ (N : Network) where
   crossed-is-hop b (suc n) a [] P l k = absurd (subst (λ (ls : List Link). In l ls) (stops-there b n a (P .path .1)) k)
   crossed-is-hop b (suc n) a (w ∷ t) P l k =
       let (m, e) = joined-hop (N .plan) (N .laws) a w (P .path .1 .0) in
-      go m e (subst (λ (ls : List Link). In l ls) (moves-on b n a w t m P e) k) (crossed-is-hop b n w t (chosen-after (graph N) (key N) a w b t P) l)
+      go m e (subst (λ (ls : List Link). In l ls) (moves-on b n a w t m P e) k)
+      (crossed-is-hop b n w t (chosen-after (graph N) (key N) a w b t P) l)
     where
       go : (m : Link) → hopLink (links N) a w ≡ some m → In l (m ∷ crossings (leave b) b n w)
           → (In l (crossings (leave b) b n w) → (c : ℕ) × (x : ℕ) × Leaves c x (w ∷ t) × (hopLink (links N) c x ≡ some l))
@@ -143,7 +149,8 @@ module _ (N : Network) where
 
   -- "At each bridge that the frame from a enters, the entry for a names the arrival port" (demand 3): from a bridge `w` whose chosen
   -- path to `a` begins with the hop to `c`, entered from there.
-  pub arrival-named : (a c w : ℕ) (t : List ℕ) (l : Link) → ChosenFor N w a (w ∷ c ∷ t) → hopLink (links N) c w ≡ some l → portsAt (to l) a ≡ arrivalPort l ∷ []
+  pub arrival-named : (a c w : ℕ) (t : List ℕ) (l : Link) → ChosenFor N w a (w ∷ c ∷ t) → hopLink (links N) c w ≡ some l
+      → portsAt (to l) a ≡ arrivalPort l ∷ []
   arrival-named a c w t l P e = subst (λ (z : ℕ). portsAt z a ≡ arrivalPort l ∷ []) (sym (hop-takes (links N) c w l e .far))
       (port-of-hop w c a t (turned l) P (hop-turned (N .plan) (N .laws) c w ∙ ap (Option·map turned) e))
 
@@ -154,7 +161,8 @@ module _ (N : Network) where
   lost a b zero h i d f = refl
   lost a b (suc n) h i d f =
       eqb-other a b [] (thenOn (crossings (leave b) b n) (leave b a)) d
-      ∙ ap (λ (ports : List ℕ). thenOn (crossings (leave b) b n) (crossedBy (links N) a (only ports))) (no-path-no-port a b h i (λ e. d (sym e)) f)
+      ∙ ap (λ (ports : List ℕ). thenOn (crossings (leave b) b n) (crossedBy (links N) a (only ports)))
+      (no-path-no-port a b h i (λ e. d (sym e)) f)
 
   pub frame-arrival : (a b n : ℕ) → a < size N → b < size N → (a ≡ b → ⊥) → (l : Link)
       → In l (crossings (leave b) b n a) → portsAt (to l) a ≡ arrivalPort l ∷ []

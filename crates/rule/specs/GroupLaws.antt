@@ -55,7 +55,8 @@ module _ (N : Network) (m : Member) (of-table : In m (N .plan .members)) (transm
   leaves-led : (u : ℕ) → u < size N → leaving u ≡ ledFrom N m u
   unfolding copiesLeave
   leaves-led u l = ap (flatMap (λ port. listOf (crossed (links N) u port)))
-      (ap (entryPorts 9 (N .vid .vid) (groupAddress (bridgeAt (N .plan) (m .bridge) .spSourceId) (m .isid))) (N .written u l) ∙ group-ports (N .plan) (N .laws) (N .vid) u m (N .of-plan) of-table transmits in-vid)
+      (ap (entryPorts 9 (N .vid .vid) (groupAddress (bridgeAt (N .plan) (m .bridge) .spSourceId) (m .isid))) (N .written u l)
+      ∙ group-ports (N .plan) (N .laws) (N .vid) u m (N .of-plan) of-table transmits in-vid)
 
   led-leaving : (u : ℕ) → u < size N → (l : Link) → In l (leaving u) → Led N m u l
   led-leaving u k l i = led-says N m u l (subst (λ (ls : List Link). In l ls) (leaves-led u k) i)
@@ -126,7 +127,8 @@ module _ (N : Network) (m : Member) (of-table : In m (N .plan .members)) (transm
       → entryPorts 8 (N .vid .vid) (address (bridgeAt (N .plan) (m .bridge))) ((N .lists) (to l)) ≡ arrivalPort l ∷ []
   unfolding copiesCross
   copy-arrives zero l k = absurd k
-  copy-arrives (suc n) l k = go (in-append l (copiesCross leaving (m .bridge) n) (flatMap leaving (copies leaving (m .bridge) n)) k) (copy-arrives n l)
+  copy-arrives (suc n) l k = go (in-append l (copiesCross leaving (m .bridge) n) (flatMap leaving (copies leaving (m .bridge) n)) k)
+      (copy-arrives n l)
     where
       from-bridge : (c : ℕ) → In c (copies leaving (m .bridge) n) → In l (leaving c)
           → entryPorts 8 (N .vid .vid) (address (bridgeAt (N .plan) (m .bridge))) ((N .lists) (to l)) ≡ arrivalPort l ∷ []
@@ -134,7 +136,8 @@ module _ (N : Network) (m : Member) (of-table : In m (N .plan .members)) (transm
           let inside : c < size N = copy-inside (graph N) (key N) (m .bridge) Wanted (graph-meets N) sender-known next hands-down n c
           (subst (λ (z : List ℕ). In c z) (copies-agree leaving (m .bridge) n) i) in
           let D = led-leaving c inside l j in
-          let (t, P) = copy-arrival (graph N) (key N) (m .bridge) Wanted (graph-meets N) sender-known next hands-down c (to l) inside (in-map to l (leaving c) j) in
+          let (t, P) = copy-arrival (graph N) (key N) (m .bridge) Wanted (graph-meets N) sender-known next hands-down c (to l) inside
+          (in-map to l (leaving c) j) in
           arrival-named N (m .bridge) c (to l) t l P (ap (hopLink (links N) c) (led-enters N m c l D) ∙ D .hop)
 
       go : In l (copiesCross leaving (m .bridge) n) ⊎ In l (flatMap leaving (copies leaving (m .bridge) n))

@@ -45,9 +45,12 @@ xor-apart : (k x y m : ℕ) → x < 2 ^ k → y < 2 ^ k → bitXor x m ≡ bitXo
 xor-apart zero x y m h l e = omega arith
 xor-apart (suc k) x y m h l e =
     let D = digit-apart (x % 2) (y % 2) (m % 2) (omega arith) (omega arith) (omega arith) in
-    let s : bitXor (x / 2) (m / 2) * 2 + differ (x % 2) (m % 2) ≡ bitXor (y / 2) (m / 2) * 2 + differ (y % 2) (m % 2) = sym (xor-step x m) ∙ e ∙ xor-step y m in
-    let f : bitXor (x / 2) (m / 2) ≡ bitXor (y / 2) (m / 2) = halves (bitXor (x / 2) (m / 2)) (bitXor (y / 2) (m / 2)) (differ (x % 2) (m % 2)) (differ (y % 2) (m % 2)) (D .0) (D .1) s in
-    let g : differ (x % 2) (m % 2) ≡ differ (y % 2) (m % 2) = rests (bitXor (x / 2) (m / 2)) (bitXor (y / 2) (m / 2)) (differ (x % 2) (m % 2)) (differ (y % 2) (m % 2)) (D .0) (D .1) s in
+    let s : bitXor (x / 2) (m / 2) * 2 + differ (x % 2) (m % 2) ≡ bitXor (y / 2) (m / 2) * 2 + differ (y % 2) (m % 2) = sym (xor-step x m) ∙ e
+    ∙ xor-step y m in
+    let f : bitXor (x / 2) (m / 2) ≡ bitXor (y / 2) (m / 2) = halves (bitXor (x / 2) (m / 2)) (bitXor (y / 2) (m / 2)) (differ (x % 2) (m % 2))
+    (differ (y % 2) (m % 2)) (D .0) (D .1) s in
+    let g : differ (x % 2) (m % 2) ≡ differ (y % 2) (m % 2) = rests (bitXor (x / 2) (m / 2)) (bitXor (y / 2) (m / 2)) (differ (x % 2) (m % 2))
+    (differ (y % 2) (m % 2)) (D .0) (D .1) s in
     let i : x / 2 ≡ y / 2 = xor-apart k (x / 2) (y / 2) (m / 2) (omega arith) (omega arith) f in
     let j : x % 2 ≡ y % 2 = D .2 g in
     omega arith
@@ -62,7 +65,8 @@ xor-apart (suc k) x y m h l e =
 masked-same : (n m i j : ℕ) → m < 256 → maskedBytes n m i ≡ maskedBytes n m j → i % 256 ^ n ≡ j % 256 ^ n
 unfolding maskedBytes
 masked-same zero m i j l e = omega arith
-masked-same (suc n) m i j l e = rw pow-suc (mod-mul i positive (omega arith) ∙ low (masked-same n m (i / 256) (j / 256) l (s .0)) ∙ sym (mod-mul j positive (omega arith)))
+masked-same (suc n) m i j l e = rw pow-suc
+    (mod-mul i positive (omega arith) ∙ low (masked-same n m (i / 256) (j / 256) l (s .0)) ∙ sym (mod-mul j positive (omega arith)))
   where
     positive : 0 < 256 ^ n
     positive = one-le-pow n 256 (omega arith)
@@ -84,7 +88,8 @@ mask-is-byte n = go (le-or-gt 16 n)
   where
     go : (16 ≤ n) ⊎ (n < 16) → getD masks n 0 < 256
     go (inl h) = omega (arith, List·getD-eq-default masks 0 h)
-    go (inr h) = ltb→lt (getD masks n 0) 256 (passes (ltb (getD masks n 0) 256) (in-any (λ m. not (ltb m 256)) (getD masks n 0) masks (place-in masks n 0 h)))
+    go (inr h) = ltb→lt (getD masks n 0) 256
+        (passes (ltb (getD masks n 0) 256) (in-any (λ m. not (ltb m 256)) (getD masks n 0) masks (place-in masks n 0 h)))
 
 -- Masked identifiers of different addresses differ: the address is the lowest 48 of the 64 bits.
 masked-address : (index i j : ℕ) → maskedIdentifier index i ≡ maskedIdentifier index j → i % 2 ^ 48 ≡ j % 2 ^ 48
@@ -96,4 +101,7 @@ masked-address index i j e =
 module _ (p : Plan) (L : PlanLaws p) where
   -- Every key of an accepted plan meets what the laws of chosen paths ask.
   pub key-laws : (index : ℕ) → KeyLaws (graphOf p) (keyOf p index)
-  key-laws index = record { distinct = λ u v h k e. one-address p L u v h k (masked-address index (bridgeAt p u .identifier) (bridgeAt p v .identifier) e) }
+  key-laws index = record {
+    distinct = λ u v h k e. one-address p L u v h k
+        (masked-address index (bridgeAt p u .identifier) (bridgeAt p v .identifier) e);
+  }

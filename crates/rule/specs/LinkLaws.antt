@@ -38,12 +38,22 @@ module _ (hs : List HalfLink) where
 
   pub usable-says : (l : Link) → In l (usableLinks hs) → Usable hs l
   unfolding usableLinks linksOf
-  usable-says l k = let r = filter-in (λ l. usableMetric (linkCost l)) l (linksOf hs) k in go (flatMap-in seenFrom l hs (r .0)) (ltb→lt (linkCost l) unusableMetric (r .1))
+  usable-says l k = let r = filter-in (λ l. usableMetric (linkCost l)) l (linksOf hs) k in
+      go (flatMap-in seenFrom l hs (r .0)) (ltb→lt (linkCost l) unusableMetric (r .1))
     where
-      mate : (h : HalfLink) → In h hs → linkCost l < 16777215 → ((m : HalfLink) × In m (filter (mates h) hs) × (l ≡ record { here = h; there = m })) → Usable hs l
-      mate h i u (m, j, e) = let r = filter-in (mates h) m hs j in let s = three-equal (h .link) (m .link) (h .near) (m .far) (h .far) (m .near) (r .1) in
+      mate : (h : HalfLink) → In h hs → linkCost l < 16777215
+          → ((m : HalfLink) × In m (filter (mates h) hs) × (l ≡ record { here = h; there = m })) → Usable hs l
+      mate h i u (m, j, e) = let r = filter-in (mates h) m hs j in
+          let s = three-equal (h .link) (m .link) (h .near) (m .far) (h .far) (m .near) (r .1) in
           subst (λ (z : Link). Usable hs z) (sym e)
-          (record { here-listed = i; there-listed = r .0; one-number = s .0; near-far = s .1; far-near = s .2; usable = subst (λ (z : Link). linkCost z < 16777215) e u })
+          (record {
+            here-listed = i;
+            there-listed = r .0;
+            one-number = s .0;
+            near-far = s .1;
+            far-near = s .2;
+            usable = subst (λ (z : Link). linkCost z < 16777215) e u;
+          })
 
       go : ((h : HalfLink) × In h hs × In l (seenFrom h)) → linkCost l < 16777215 → Usable hs l
       go (h, i, j) u = mate h i u (map-in (λ m. record { here = h; there = m }) l (filter (mates h) hs) j)
@@ -71,14 +81,16 @@ module _ (hs : List HalfLink) where
   distinct-usable : Distinct hs → Distinct (usableLinks hs)
   unfolding usableLinks linksOf
   distinct-usable d = distinct-filter (λ l. usableMetric (linkCost l)) (linksOf hs) (distinct-flatMap seenFrom hs d
-      (λ h k. distinct-map (λ m. record { here = h; there = m }) (filter (mates h) hs) (distinct-filter (mates h) hs d) (λ m n i j e. ap (λ (l : Link). l .there) e))
+      (λ h k. distinct-map (λ m. record { here = h; there = m }) (filter (mates h) hs) (distinct-filter (mates h) hs d)
+      (λ m n i j e. ap (λ (l : Link). l .there) e))
       (λ h k l i j m n. let r = map-in (λ z. record { here = h; there = z }) l (filter (mates h) hs) m in
       let s = map-in (λ z. record { here = k; there = z }) l (filter (mates k) hs) n in
       ap (λ (z : Link). z .here) (sym (r .2) ∙ s .2)))
 
   between-says : (u v : ℕ) (l : Link) → In l (linksBetween hs u v) → Usable hs l × (from l ≡ u) × (to l ≡ v)
   unfolding linksBetween
-  between-says u v l k = let r = filter-in (connects u v) l (usableLinks hs) k in let c = two-equal (from l) u (to l) v (r .1) in (usable-says l (r .0), c .0, c .1)
+  between-says u v l k = let r = filter-in (connects u v) l (usableLinks hs) k in let c = two-equal (from l) u (to l) v (r .1) in
+      (usable-says l (r .0), c .0, c .1)
 
   says-between : (u v : ℕ) (l : Link) → Usable hs l → from l ≡ u → to l ≡ v → In l (linksBetween hs u v)
   unfolding linksBetween
@@ -102,7 +114,8 @@ pub record Takes (hs : List HalfLink) (u v : ℕ) (l : Link) : Type 0 where
 module _ (hs : List HalfLink) where
   pub hop-takes : (u v : ℕ) (l : Link) → hopLink hs u v ≡ some l → Takes hs u v l
   unfolding hopLink
-  hop-takes u v l e = let r = lowest-ranked linkRank before by-cost-then-number (linksBetween hs u v) l e in let s = between-says hs u v l (r .0) in
+  hop-takes u v l e = let r = lowest-ranked linkRank before by-cost-then-number (linksBetween hs u v) l e in
+      let s = between-says hs u v l (r .0) in
       record { link = s .0; near = s .1; far = s .2; lowest = λ k U i j. r .1 k (says-between hs u v k U i j) }
 
   pub no-hop : (u v : ℕ) → hopLink hs u v ≡ none → (l : Link) → Usable hs l → from l ≡ u → to l ≡ v → ⊥
@@ -149,7 +162,8 @@ module _ (p : Plan) (L : PlanLaws p) where
 
   -- Two links that a hop takes, one in each direction, are one link.
   both-ways : (u v : ℕ) (l k : Link) → Takes (p .halfLinks) u v l → Takes (p .halfLinks) v u k → k ≡ turned l
-  both-ways u v l k K M = one-link k (turned l) (M .link) U (equal (compared (linkCost k) (linkCost l)) (compared (number k) (number l)) ∙ K .link .one-number) (M .near ∙ v-near)
+  both-ways u v l k K M = one-link k (turned l) (M .link) U
+      (equal (compared (linkCost k) (linkCost l)) (compared (number k) (number l)) ∙ K .link .one-number) (M .near ∙ v-near)
     where
       U : Usable (p .halfLinks) (turned l)
       U = usable-turned (p .halfLinks) l (K .link)
@@ -166,7 +180,8 @@ module _ (p : Plan) (L : PlanLaws p) where
       not-higher : Lower (linkRank (turned k)) (linkRank l) → ⊥
       not-higher = K .lowest (turned k) W (sym (M .link .far-near) ∙ M .far) (sym (M .link .near-far) ∙ M .near)
 
-      equal : (linkCost k < linkCost l) ⊎ (linkCost k ≡ linkCost l) ⊎ (linkCost l < linkCost k) → (number k < number l) ⊎ (number k ≡ number l) ⊎ (number l < number k) → number k ≡ number l
+      equal : (linkCost k < linkCost l) ⊎ (linkCost k ≡ linkCost l) ⊎ (linkCost l < linkCost k)
+          → (number k < number l) ⊎ (number k ≡ number l) ⊎ (number l < number k) → number k ≡ number l
       equal (inl c) n = absurd (not-higher (inl (omega arith)))
       equal (inr (inr c)) n = absurd (not-lower (inl (omega arith)))
       equal (inr (inl c)) (inl n) = absurd (not-higher (inr (omega arith, inl (omega (arith, M .link .one-number)))))
@@ -178,7 +193,8 @@ module _ (p : Plan) (L : PlanLaws p) where
   hop-turned u v = go (hopLink (p .halfLinks) u v) (hopLink (p .halfLinks) v u) refl refl
     where
       back : (x y : ℕ) (l : Link) → Takes (p .halfLinks) x y l → hopLink (p .halfLinks) y x ≡ none → ⊥
-      back x y l K e = no-hop (p .halfLinks) y x e (turned l) (usable-turned (p .halfLinks) l (K .link)) (sym (K .link .far-near) ∙ K .far) (sym (K .link .near-far) ∙ K .near)
+      back x y l K e = no-hop (p .halfLinks) y x e (turned l) (usable-turned (p .halfLinks) l (K .link)) (sym (K .link .far-near) ∙ K .far)
+          (sym (K .link .near-far) ∙ K .near)
 
       go : (o c : Option Link) → hopLink (p .halfLinks) u v ≡ o → hopLink (p .halfLinks) v u ≡ c → c ≡ Option·map turned o
       go none none e f = refl
@@ -208,7 +224,8 @@ module _ (p : Plan) (L : PlanLaws p) where
       cost-turned none = refl
       cost-turned (some l) = omega arith
 
-      go : (u v : ℕ) (o : Option Link) → hopLink (p .halfLinks) u v ≡ o → costOf (hopLink (p .halfLinks) u v) ≡ costOf (hopLink (p .halfLinks) v u)
+      go : (u v : ℕ) (o : Option Link) → hopLink (p .halfLinks) u v ≡ o
+          → costOf (hopLink (p .halfLinks) u v) ≡ costOf (hopLink (p .halfLinks) v u)
       go u v o e = cost-turned (hopLink (p .halfLinks) u v) ∙ ap costOf (sym (hop-turned u v))
 
       inside : (u v : ℕ) → 0 < costOf (hopLink (p .halfLinks) u v) → u < length (p .bridges)
@@ -222,11 +239,13 @@ module _ (p : Plan) (L : PlanLaws p) where
       let c = two-equal (from (r .0)) u (to (r .0)) v (r .2) in
       go (hopLink (p .halfLinks) u v) refl (r .0) (usable-says (p .halfLinks) (r .0) (r .1)) (c .0) (c .1)
     where
-      go : (o : Option Link) → hopLink (p .halfLinks) u v ≡ o → (l : Link) → Usable (p .halfLinks) l → from l ≡ u → to l ≡ v → Joined (graphOf p) u v
+      go : (o : Option Link) → hopLink (p .halfLinks) u v ≡ o → (l : Link) → Usable (p .halfLinks) l → from l ≡ u → to l ≡ v
+          → Joined (graphOf p) u v
       go none e l U i j = absurd (no-hop (p .halfLinks) u v e l U i j)
       go (some k) e l U i j = hop-joined u v k e
 
   pub says-joined : (u v : ℕ) → Joined (graphOf p) u v → T (joined (p .halfLinks) u v)
   unfolding joined
   says-joined u v j = let (l, e) = joined-hop u v j in let K = hop-takes (p .halfLinks) u v l e in
-      in-any (connects u v) l (usableLinks (p .halfLinks)) (says-usable (p .halfLinks) l (K .link)) (equal-two (from l) u (to l) v (K .near) (K .far))
+      in-any (connects u v) l (usableLinks (p .halfLinks)) (says-usable (p .halfLinks) l (K .link))
+      (equal-two (from l) u (to l) v (K .near) (K .far))

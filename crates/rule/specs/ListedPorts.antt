@@ -66,10 +66,16 @@ module _ (hs : List HalfLink) where
   leaving-says c port [] e = absurd (none-not-some e)
   leaving-says c port (x ∷ t) e = go (eqb x c) (eqb→eq x c) e (leaving-says c port t)
     where
-      here : x ≡ c → firstPort hs (x ∷ t) ≡ some port → (w : ℕ) × (l : Link) × Leaves c w (x ∷ t) × (hopLink hs c w ≡ some l) × (port ≡ l .here .port)
+      here : x ≡ c → firstPort hs (x ∷ t) ≡ some port
+          → (w : ℕ) × (l : Link) × Leaves c w (x ∷ t) × (hopLink hs c w ≡ some l) × (port ≡ l .here .port)
       here f e = let (u, w, s, l, g, h, i) = first-port-says hs (x ∷ t) port (is-listed (firstPort hs (x ∷ t)) port e) in
-          let j : x ≡ u = cc in
-          (w, l, subst (λ (z : List ℕ). Leaves c w z) (sym g) (inl (sym f ∙ j, refl)), subst (λ (z : ℕ). hopLink hs z w ≡ some l) (sym j ∙ f) h, i)
+          let j : x ≡ u = cc in (
+            w,
+            l,
+            subst (λ (z : List ℕ). Leaves c w z) (sym g) (inl (sym f ∙ j, refl)),
+            subst (λ (z : ℕ). hopLink hs z w ≡ some l) (sym j ∙ f) h,
+            i,
+          )
 
       go : (b : Bool) → (T b → x ≡ c) → cond b (firstPort hs (x ∷ t)) (leavingPort hs c t) ≡ some port
           → (leavingPort hs c t ≡ some port → (w : ℕ) × (l : Link) × Leaves c w t × (hopLink hs c w ≡ some l) × (port ≡ l .here .port))
@@ -77,18 +83,21 @@ module _ (hs : List HalfLink) where
       go true f e ih = here (f tt) e
       go false f e ih = let (w, l, h, i, j) = ih e in (w, l, later-leaves c w x t h, i, j)
 
-  says-leaving : (c w : ℕ) (q : List ℕ) → Distinct q → Leaves c w q → (l : Link) → hopLink hs c w ≡ some l → leavingPort hs c q ≡ some (l .here .port)
+  says-leaving : (c w : ℕ) (q : List ℕ) → Distinct q → Leaves c w q → (l : Link) → hopLink hs c w ≡ some l
+      → leavingPort hs c q ≡ some (l .here .port)
   unfolding leavingPort
   says-leaving c w (x ∷ y ∷ t) d (inl (e, f)) l g = let h : hopLink hs x y ≡ some l = cc in
       rw (is-true (eqb x c) (eq-eqb x c (sym e))) (ap (Option·map (λ l. l .here .port)) h)
   says-leaving c w (x ∷ y ∷ t) d (inr h) l g =
-      eqb-other x c (firstPort hs (x ∷ y ∷ t)) (leavingPort hs c (y ∷ t)) (λ e. d .0 (subst (λ (z : ℕ). In z (y ∷ t)) (sym e) (left-in c w (y ∷ t) h)))
+      eqb-other x c (firstPort hs (x ∷ y ∷ t)) (leavingPort hs c (y ∷ t))
+      (λ e. d .0 (subst (λ (z : ℕ). In z (y ∷ t)) (sym e) (left-in c w (y ∷ t) h)))
       ∙ says-leaving c w (y ∷ t) (d .1) h l g
 
   crossed-port : (u port : ℕ) (l : Link) → crossed hs u port ≡ some l → l .here .port ≡ port
   unfolding crossed
   crossed-port u port l e =
-      let r = filter-in (λ l. eqb (from l) u && eqb (l .here .port) port) l (usableLinks hs) (only-is (filter (λ l. eqb (from l) u && eqb (l .here .port) port) (usableLinks hs)) l e) in
+      let r = filter-in (λ l. eqb (from l) u && eqb (l .here .port) port) l (usableLinks hs)
+      (only-is (filter (λ l. eqb (from l) u && eqb (l .here .port) port) (usableLinks hs)) l e) in
       two-equal (from l) u (l .here .port) port (r .1) .1
 
 -- The ports listed for a transmitting member
@@ -135,7 +144,16 @@ module _ (N : Network) (m : Member) where
           let (w, l, h, f, g) = leaving-says (links N) u port q (listed-is (leavingPort (links N) u q) port j) in (
             l,
             ap (crossed (links N) u) g ∙ hop-crosses (N .plan) (N .laws) u w l f,
-            record { receiver = r; of-table = i; receives = t; path = q; chosen = path-is-chosen (N .plan) (N .laws) (N .vid .index) (m .bridge) (r .bridge) q e; next = w; leaves = h; hop = f },
+            record {
+              receiver = r;
+              of-table = i;
+              receives = t;
+              path = q;
+              chosen = path-is-chosen (N .plan) (N .laws) (N .vid .index) (m .bridge) (r .bridge) q e;
+              next = w;
+              leaves = h;
+              hop = f;
+            },
           )
 
   leads-port : (u : ℕ) (l : Link) → Led u l → In (l .here .port) (listed u)
@@ -146,11 +164,14 @@ module _ (N : Network) (m : Member) where
       F = N .laws .half-link-fits (l .here) (hop-takes (links N) u (D .next) l (D .hop) .link .here-listed)
 
       found : In (l .here .port) (behind u)
-      found = in-flatMap (λ r. portsOf (leavingPort (links N) u) (pathTo r)) (l .here .port) (D .receiver) (filter (receives m) (N .plan .members))
+      found = in-flatMap (λ r. portsOf (leavingPort (links N) u) (pathTo r)) (l .here .port) (D .receiver)
+          (filter (receives m) (N .plan .members))
           (in-filter (receives m) (D .receiver) (N .plan .members) (D .of-table) (D .receives))
-          (subst (λ (o : Option (List ℕ)). In (l .here .port) (portsOf (leavingPort (links N) u) o)) (sym (chosen-is-path (N .plan) (N .laws) (N .vid .index) (m .bridge) (D .receiver .bridge) (D .path) (D .chosen)))
+          (subst (λ (o : Option (List ℕ)). In (l .here .port) (portsOf (leavingPort (links N) u) o))
+          (sym (chosen-is-path (N .plan) (N .laws) (N .vid .index) (m .bridge) (D .receiver .bridge) (D .path) (D .chosen)))
           (is-listed (leavingPort (links N) u (D .path)) (l .here .port)
-          (says-leaving (links N) u (D .next) (D .path) (chosen-distinct (graph N) (key N) (m .bridge) (D .receiver .bridge) (D .path) (D .chosen)) (D .leaves) l (D .hop))))
+          (says-leaving (links N) u (D .next) (D .path)
+          (chosen-distinct (graph N) (key N) (m .bridge) (D .receiver .bridge) (D .path) (D .chosen)) (D .leaves) l (D .hop))))
 
   -- Where a led link enters.
   pub led-enters : (u : ℕ) (l : Link) (D : Led u l) → to l ≡ D .next
@@ -175,7 +196,8 @@ module _ (N : Network) (m : Member) where
   led-once u = distinct-map to (ledFrom u)
       (distinct-flatMap (λ port. listOf (crossed (links N) u port)) (listed u) (distinct-ports (behind u))
       (λ port i. one (crossed (links N) u port))
-      (λ port port′ l i j h k. sym (crossed-port (links N) u port l (listed-is (crossed (links N) u port) l h)) ∙ crossed-port (links N) u port′ l (listed-is (crossed (links N) u port′) l k)))
+      (λ port port′ l i j h k. sym (crossed-port (links N) u port l (listed-is (crossed (links N) u port) l h))
+      ∙ crossed-port (links N) u port′ l (listed-is (crossed (links N) u port′) l k)))
       (λ l k i j e. same l k (led-says u l i) (led-says u k j) e)
     where
       one : (o : Option Link) → Distinct (listOf o)
@@ -192,7 +214,8 @@ module _ (N : Network) (m : Member) where
     arith,
     at-most (size N) (u ∷ m .bridge ∷ map to (ledFrom u)) (not-here, (not-sender, led-once u)) below,
     length-map (ledFrom u) to,
-    length-flatMap-each (λ port. listOf (crossed (links N) u port)) 1 (listed u) (λ port k. let (l, e, D) = port-leads u port k in ap (λ (o : Option Link). length (listOf o)) e),
+    length-flatMap-each (λ port. listOf (crossed (links N) u port)) 1 (listed u)
+        (λ port k. let (l, e, D) = port-leads u port k in ap (λ (o : Option Link). length (listOf o)) e),
   )
     where
       led-to : (w : ℕ) → In w (map to (ledFrom u)) → (l : Link) × Led u l × (w ≡ to l)
@@ -203,12 +226,15 @@ module _ (N : Network) (m : Member) where
 
       not-here : In u (m .bridge ∷ map to (ledFrom u)) → ⊥
       not-here (inl e) = n e
-      not-here (inr k) = let (l, D, e) = led-to u k in entered-other u (D .next) (D .path) (distinct l D) (D .leaves) (sym (led-enters u l D) ∙ sym e)
+      not-here (inr k) = let (l, D, e) = led-to u k in
+          entered-other u (D .next) (D .path) (distinct l D) (D .leaves) (sym (led-enters u l D) ∙ sym e)
 
       not-sender : In (m .bridge) (map to (ledFrom u)) → ⊥
-      not-sender k = let (l, D, e) = led-to (m .bridge) k in first l D e (chosen-first (graph N) (key N) (m .bridge) (D .receiver .bridge) (D .path) (D .chosen))
+      not-sender k = let (l, D, e) = led-to (m .bridge) k in
+          first l D e (chosen-first (graph N) (key N) (m .bridge) (D .receiver .bridge) (D .path) (D .chosen))
         where
-          first : (l : Link) (D : Led u l) → m .bridge ≡ to l → ((t : List ℕ) × (D .path ≡ m .bridge ∷ t) × Least (graph N) (m .bridge) t (D .receiver .bridge)) → ⊥
+          first : (l : Link) (D : Led u l) → m .bridge ≡ to l
+              → ((t : List ℕ) × (D .path ≡ m .bridge ∷ t) × Least (graph N) (m .bridge) t (D .receiver .bridge)) → ⊥
           first l D e (t, f, W) =
               let d : Distinct (m .bridge ∷ t) = subst (λ (z : List ℕ). Distinct z) f (distinct l D) in
               let h : Leaves u (D .next) (m .bridge ∷ t) = subst (λ (z : List ℕ). Leaves u (D .next) z) f (D .leaves) in
@@ -218,4 +244,5 @@ module _ (N : Network) (m : Member) where
       below w (inl e) = rw e l
       below w (inr (inl e)) = rw e (N .laws .member-fits m of-table .bridge-known)
       below w (inr (inr k)) = let (l, D, e) = led-to w k in
-          subst (λ (z : ℕ). z < size N) (sym (e ∙ led-enters u l D)) (entered-inside (graph N) (graph-meets N) u (D .next) (hop-joined (N .plan) (N .laws) u (D .next) l (D .hop)))
+          subst (λ (z : ℕ). z < size N) (sym (e ∙ led-enters u l D))
+          (entered-inside (graph N) (graph-meets N) u (D .next) (hop-joined (N .plan) (N .laws) u (D .next) l (D .hop)))
