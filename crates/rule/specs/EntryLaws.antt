@@ -176,7 +176,7 @@ module _ (p : Plan) (L : PlanLaws p) where
       go : (o : Option (List ℕ)) → In port (portsOf (firstPort (p .halfLinks)) o) → port ≤ 4095
       go none k = absurd k
       go (some path) k = let (u, w, t, l, e, f, g) = first-port-says (p .halfLinks) path port k in
-          rw g (L .half-link-fits (l .here) (hop-takes (p .halfLinks) u w l f .link .here-listed) .greatest-port)
+          rw g (L .half-links .fits (l .here) (hop-takes (p .halfLinks) u w l f .link .here-listed) .greatest-port)
 
   individual-fits : (v : Vid) (b : ℕ) → v .vid ≤ 4094 → (e : Entry) → In e (individualEntries p v b) → EntryFits e
   individual-fits v b l e k = let (d, port, i, j, f) = individual-says p v b e k in
@@ -185,8 +185,8 @@ module _ (p : Plan) (L : PlanLaws p) where
 
   group-fits : (v : Vid) (b : ℕ) → v .vid ≤ 4094 → (e : Entry) → In e (groupEntries p v b (p .members)) → EntryFits e
   group-fits v b l e k = let (m, port, i, t, j, f) = group-says p v b e k in
-      let M = L .member-fits m i in
-      let s : bridgeAt p (m .bridge) .spSourceId ≤ 1048575 = L .bridge-fits (bridgeAt p (m .bridge))
+      let M = L .members .fits m i in
+      let s : bridgeAt p (m .bridge) .spSourceId ≤ 1048575 = L .bridges .fits (bridgeAt p (m .bridge))
       (listed-bridge p L (m .bridge) (M .bridge-known)) in
       subst (λ (z : Entry). EntryFits z) (sym f)
       (record {
@@ -199,7 +199,7 @@ module _ (p : Plan) (L : PlanLaws p) where
   entry-fits : (b : ℕ) (e : Entry) → In e (entriesOf p b) → EntryFits e
   unfolding entriesOf
   entry-fits b e k = let (v, i, j) = flatMap-in (λ v. individualEntries p v b ++ groupEntries p v b (p .members)) e (p .vids) k in
-      go v (L .vid-fits v i) (in-append e (individualEntries p v b) (groupEntries p v b (p .members)) j)
+      go v (L .vids .fits v i) (in-append e (individualEntries p v b) (groupEntries p v b (p .members)) j)
     where
       go : (v : Vid) → v .vid ≤ 4094 → In e (individualEntries p v b) ⊎ In e (groupEntries p v b (p .members)) → EntryFits e
       go v l (inl k) = individual-fits v b l e k
@@ -291,15 +291,15 @@ module _ (p : Plan) (L : PlanLaws p) where
           omega (arith, ap (λ (z : Entry). z .kind) f, matches-says 9 (v .vid) addr e t .0))
 
       source : (c : Member) → In c (p .members) → bridgeAt p (c .bridge) .spSourceId ≤ 1048575
-      source c j = L .bridge-fits (bridgeAt p (c .bridge)) (listed-bridge p L (c .bridge) (L .member-fits c j .bridge-known))
+      source c j = L .bridges .fits (bridgeAt p (c .bridge)) (listed-bridge p L (c .bridge) (L .members .fits c j .bridge-known))
 
       -- Another transmitting member of the VID has another group address.
       one-address-one-member : (c : Member) → In c (p .members) → c .vid ≡ v .vid
           → groupAddress (bridgeAt p (c .bridge) .spSourceId) (c .isid) ≡ addr → c ≡ m
       one-address-one-member c j f g =
           let says = group-address-says (bridgeAt p (c .bridge) .spSourceId) (bridgeAt p (m .bridge) .spSourceId) (c .isid) (m .isid)
-          (source c j) (source m i) (L .member-fits c j .isid) (L .member-fits m i .isid) g in
-          one-member p L c m j i (one-source p L (c .bridge) (m .bridge) (L .member-fits c j .bridge-known) (L .member-fits m i .bridge-known)
+          (source c j) (source m i) (L .members .fits c j .isid) (L .members .fits m i .isid) g in
+          one-member p L c m j i (one-source p L (c .bridge) (m .bridge) (L .members .fits c j .bridge-known) (L .members .fits m i .bridge-known)
           (says .0)) (says .1) (f ∙ sym e)
 
       transmitters : List Member

@@ -65,7 +65,7 @@ module _ (N : Network) (m : Member) (of-table : In m (N .plan .members)) (transm
   next u = entersFrom leaving (m .bridge) u
 
   sender-known : m .bridge < size N
-  sender-known = N .laws .member-fits m of-table .bridge-known
+  sender-known = N .laws .members .fits m of-table .bridge-known
 
   -- What the laws of copies ask.
   hands-down : HandsDown (graph N) (key N) (m .bridge) Wanted next

@@ -125,8 +125,8 @@ module _ (hs : List HalfLink) where
 module _ (p : Plan) (L : PlanLaws p) where
   -- A half-link is determined by its link number and its near bridge: the other of that number has the near bridge for its far one.
   one-half : (h k : HalfLink) → In h (p .halfLinks) → In k (p .halfLinks) → h .link ≡ k .link → h .near ≡ k .near → h ≡ k
-  one-half h k i j e f = pairwise-one Mirrors (p .halfLinks) (L .mirrored) h k i j
-      (λ M. L .half-link-fits h i .apart (f ∙ M e .0)) (λ M. L .half-link-fits k j .apart (sym f ∙ M (sym e) .0))
+  one-half h k i j e f = pairwise-one Mirrors (p .halfLinks) (L .half-links .mirrored) h k i j
+      (λ M. L .half-links .fits h i .apart (f ∙ M e .0)) (λ M. L .half-links .fits k j .apart (sym f ∙ M (sym e) .0))
 
   -- A link is determined by its number and the bridge from which it is seen.
   pub one-link : (l k : Link) → Usable (p .halfLinks) l → Usable (p .halfLinks) k → number l ≡ number k → from l ≡ from k → l ≡ k
@@ -204,7 +204,7 @@ module _ (p : Plan) (L : PlanLaws p) where
 
   -- Every usable link costs at least 1, so a hop costs 0 exactly where two bridges are not joined.
   costs-something : (l : Link) → Usable (p .halfLinks) l → 0 < linkCost l
-  costs-something l U = omega (arith, L .half-link-fits (l .here) (U .here-listed) .metric)
+  costs-something l U = omega (arith, L .half-links .fits (l .here) (U .here-listed) .metric)
 
   pub hop-joined : (u v : ℕ) (l : Link) → hopLink (p .halfLinks) u v ≡ some l → Joined (graphOf p) u v
   hop-joined u v l e = subst (λ (o : Option Link). 0 < costOf o) (sym e) (costs-something l (hop-takes (p .halfLinks) u v l e .link))
@@ -230,7 +230,7 @@ module _ (p : Plan) (L : PlanLaws p) where
 
       inside : (u v : ℕ) → 0 < costOf (hopLink (p .halfLinks) u v) → u < length (p .bridges)
       inside u v j = let (l, e) = joined-hop u v j in let K = hop-takes (p .halfLinks) u v l e in
-          subst (λ (z : ℕ). z < length (p .bridges)) (K .near) (L .half-link-fits (l .here) (K .link .here-listed) .near-known)
+          subst (λ (z : ℕ). z < length (p .bridges)) (K .near) (L .half-links .fits (l .here) (K .link .here-listed) .near-known)
 
   -- "Two bridges are joined when a usable link connects them".
   pub joined-says : (u v : ℕ) → T (joined (p .halfLinks) u v) → Joined (graphOf p) u v

@@ -36,7 +36,7 @@ module _ (p : Plan) (L : PlanLaws p) (b : ℕ) (known : b < length (p .bridges))
   unfolding individualEntries
   few-individual v = omega (
     arith,
-    L .few-bridges,
+    L .bridges .few,
     length-flatMap-most (λ d. map (individualEntry p v d) (portsTo p v b d)) 1 (others p v b) (λ d k.
         omega (
           arith,
@@ -92,7 +92,7 @@ module _ (p : Plan) (L : PlanLaws p) (b : ℕ) (known : b < length (p .bridges))
             (filter (receives m) (p .members))
             (λ r i. at-most-one (leavingPort (p .halfLinks) b) (chosenPath p (v .index) (m .bridge) (r .bridge))),
       )
-      go (inr f) = omega (arith, most-there m f, few-ports (net v i) m k b known (λ e. f (sym e)), L .few-bridges)
+      go (inr f) = omega (arith, most-there m f, few-ports (net v i) m k b known (λ e. f (sym e)), L .bridges .few)
 
   -- The transmitting members of all VIDs: each is a member of one VID.
   abbrev transmitters : List Member
@@ -174,7 +174,7 @@ module _ (p : Plan) (L : PlanLaws p) (b : ℕ) (known : b < length (p .bridges))
         ap (total most) e,
         few-elsewhere,
         filter-parts atThis (p .members),
-        L .few-members,
+        L .members .few,
       )
       go (m ∷ ms) e =
           let k = here-says m transmitters (subst (λ (z : List Member). In m z) (sym e) (inl refl)) in
@@ -186,7 +186,7 @@ module _ (p : Plan) (L : PlanLaws p) (b : ℕ) (known : b < length (p .bridges))
             few-here,
             few-elsewhere,
             filter-parts atThis (p .members),
-            L .few-members,
+            L .members .few,
             ap (λ (z : List Member). length z) f,
             length-append xs (m ∷ ys),
           )
@@ -214,5 +214,5 @@ module _ (p : Plan) (L : PlanLaws p) (b : ℕ) (known : b < length (p .bridges))
     total-bounded (λ v. 63) 63 (p .vids) (λ v k. omega arith),
     total-flatMap most (λ v. filter (transmits p v b) (p .members)) (p .vids),
     few-group,
-    L .few-vids,
+    L .vids .few,
   )

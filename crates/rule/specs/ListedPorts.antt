@@ -161,7 +161,7 @@ module _ (N : Network) (m : Member) where
   leads-port u l D = port-listed (behind u) (l .here .port) (F .least-port) (F .greatest-port) found
     where
       F : HalfLinkFits (size N) (l .here)
-      F = N .laws .half-link-fits (l .here) (hop-takes (links N) u (D .next) l (D .hop) .link .here-listed)
+      F = N .laws .half-links .fits (l .here) (hop-takes (links N) u (D .next) l (D .hop) .link .here-listed)
 
       found : In (l .here .port) (behind u)
       found = in-flatMap (λ r. portsOf (leavingPort (links N) u) (pathTo r)) (l .here .port) (D .receiver)
@@ -242,7 +242,7 @@ module _ (N : Network) (m : Member) where
 
       below : (w : ℕ) → In w (u ∷ m .bridge ∷ map to (ledFrom u)) → w < size N
       below w (inl e) = rw e l
-      below w (inr (inl e)) = rw e (N .laws .member-fits m of-table .bridge-known)
+      below w (inr (inl e)) = rw e (N .laws .members .fits m of-table .bridge-known)
       below w (inr (inr k)) = let (l, D, e) = led-to w k in
           subst (λ (z : ℕ). z < size N) (sym (e ∙ led-enters u l D))
           (entered-inside (graph N) (graph-meets N) u (D .next) (hop-joined (N .plan) (N .laws) u (D .next) l (D .hop)))
