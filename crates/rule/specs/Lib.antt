@@ -30,5 +30,6 @@ pub mod ListedPorts
 pub mod GroupLaws
 pub mod CallLaws
 pub mod ListBound
+pub mod SettingLaws
 pub mod Demand3Proved
 pub mod Settings
