@@ -58,7 +58,8 @@ module _ (s : Setting) where
     λ f. no-path-no-port (net s) a b (B .first) (B .second) (λ e. B .different (sym e)) (λ q o. f q (path-chain s a b q o)),
   )
     where
-      entry : portsFor s a b ≡ [] → (path : List ℕ) → ChosenFor (net s) a b path → ((t : List ℕ) × (path ≡ a ∷ t) × LeastCost (graph (net s)) a t b) → ⊥
+      entry : portsFor s a b ≡ [] → (path : List ℕ) → ChosenFor (net s) a b path
+          → ((t : List ℕ) × (path ≡ a ∷ t) × LeastCost (graph (net s)) a t b) → ⊥
       entry e path P ([], f, W) = B .different (W .way)
       entry e path P (w ∷ t, f, W) =
           let Q : ChosenFor (net s) a b (a ∷ w ∷ t) = rw f at P in
@@ -97,7 +98,8 @@ module _ (s : Setting) where
   pub parts : Parts s
   parts a b B path values G front c between d back e =
       let (P, f) = given-chosen s a b (B .first) (B .second) path values G in
-      let Q : ChosenFor (net s) a b (front ++ ((c ∷ between ++ (d ∷ [])) ++ back)) = subst (λ (z : List ℕ). ChosenFor (net s) a b z) (e ∙ whole) P in
+      let Q : ChosenFor (net s) a b (front ++ ((c ∷ between ++ (d ∷ [])) ++ back)) = subst (λ (z : List ℕ). ChosenFor (net s) a b z)
+      (e ∙ whole) P in
       let h : c < length (s .plan .bridges) = inside P c (subst (λ (z : List ℕ). In c z) (sym e) (in-here c front (between ++ (d ∷ back)))) in
       let k : d < length (s .plan .bridges) = inside P d
       (subst (λ (z : List ℕ). In d z) (sym e) (in-right d front (c ∷ between ++ (d ∷ back)) (inr (in-here d between back)))) in
