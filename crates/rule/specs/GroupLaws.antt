@@ -6,50 +6,54 @@ use mathlib.Core.List.{List, [], _∷_, _++_, map, flatMap, map-append}
 use mathlib.Core.Logic.{_⊎_, inl, inr}
 use mathlib.Core.Bool.{true}
 use lib.Dec.{T}
-use Rattle.graph.specs.Chosen.{Chosen}
 use Rattle.graph.specs.Members.{In, Distinct, times}
 use Rattle.graph.specs.Notions.{Leaves}
 use Rattle.graph.specs.Moves.{copies as roundOf, entered, Feeds, HandsDown}
 use Rattle.graph.specs.ListLaws.{in-map, map-in, flatMap-in, in-append, map-flatMap}
 use Rattle.graph.specs.Forwarding.{departure}
 use Rattle.graph.specs.Copies.{copy-inside, copy-arrival, at-most-once, sender-never, no-copy-left, receiver-once}
-use Rattle.rule.specs.Records.{Member, address}
+use Rattle.rule.specs.Records.{Member}
 use Rattle.rule.specs.Plan.{bridgeAt}
 use Rattle.rule.specs.Links.{Link, to, hopLink}
 use Rattle.rule.specs.Entries.{listOf, groupAddress, receives}
 use Rattle.rule.specs.Frames.{crossed, arrivalPort, entryPorts, copiesLeave, copies, copiesCross, reached}
 use Rattle.rule.specs.LinkLaws.{hop-takes, joined-hop}
 use Rattle.rule.specs.EntryLaws.{group-ports}
-use Rattle.rule.specs.Network.{Network, size, links, graph, key, graph-meets}
-use Rattle.rule.specs.FrameLaws.{arrival-named}
+use Rattle.rule.specs.Network.{Network, size, links, graph, key, graph-meets, ChosenFor}
+use Rattle.rule.specs.FrameLaws.{portsAt, arrival-named}
 use Rattle.rule.specs.ListedPorts.{ReceivesAt, Led, ledFrom, led-says, says-led, led-once, led-enters}
 
 -- Copies over the plan and over its graph
 
+-- The bridges that copies at a bridge enter.
+abbrev entersFrom : (ℕ → List Link) → ℕ → List ℕ
+entersFrom leave u = map to (leave u)
+
 -- The rounds of copies, and the bridges that they enter, are those that the laws over graphs speak of.
 module _ (leave : ℕ → List Link) (sender : ℕ) where
-  abbrev pub entersFrom : ℕ → List ℕ
-  entersFrom u = map to (leave u)
-
-  pub copies-agree : (n : ℕ) → copies leave sender n ≡ roundOf entersFrom sender n
+  pub copies-agree : (n : ℕ) → copies leave sender n ≡ roundOf (entersFrom leave) sender n
   unfolding copies roundOf
   copies-agree zero = refl
-  copies-agree (suc n) = map-flatMap to leave (copies leave sender n) ∙ ap (flatMap entersFrom) (copies-agree n)
+  copies-agree (suc n) = map-flatMap to leave (copies leave sender n) ∙ ap (flatMap (entersFrom leave)) (copies-agree n)
 
-  pub reached-agree : (n : ℕ) → reached leave sender n ≡ entered entersFrom sender n
+  pub reached-agree : (n : ℕ) → reached leave sender n ≡ entered (entersFrom leave) sender n
   unfolding copiesCross entered roundOf
   reached-agree zero = refl
   reached-agree (suc n) = map-append to (copiesCross leave sender n) (flatMap leave (copies leave sender n))
-      ∙ (λ i. reached-agree n i ++ (map-flatMap to leave (copies leave sender n) ∙ ap (flatMap entersFrom) (copies-agree n)) i)
+      ∙ (λ i. reached-agree n i ++ (map-flatMap to leave (copies leave sender n) ∙ ap (flatMap (entersFrom leave)) (copies-agree n)) i)
 
 -- The sender's copies
 
 module _ (N : Network) (m : Member) (of-table : In m (N .plan .members)) (transmits : m .transmits ≡ true) (in-vid : m .vid ≡ N .vid .vid) where
+  -- The sender's receivers, the links by which its copies leave a bridge, and the bridges that they enter.
   abbrev Wanted : ℕ → Type 0
   Wanted r = ReceivesAt N m r
 
   abbrev pub leaving : ℕ → List Link
   leaving u = copiesLeave (links N) (N .lists) (N .vid .vid) (groupAddress (bridgeAt (N .plan) (m .bridge) .spSourceId) (m .isid)) u
+
+  abbrev pub next : ℕ → List ℕ
+  next u = entersFrom leaving u
 
   -- "once for each entry of kind 9 at its bridge with the VID and the group address of sender and I-SID, by that entry's port".
   leaves-led : (u : ℕ) → u < size N → leaving u ≡ ledFrom N m u
@@ -60,9 +64,6 @@ module _ (N : Network) (m : Member) (of-table : In m (N .plan .members)) (transm
 
   led-leaving : (u : ℕ) → u < size N → (l : Link) → In l (leaving u) → Led N m u l
   led-leaving u k l i = led-says N m u l (subst (λ (ls : List Link). In l ls) (leaves-led u k) i)
-
-  abbrev pub next : ℕ → List ℕ
-  next u = entersFrom leaving (m .bridge) u
 
   sender-known : m .bridge < size N
   sender-known = N .laws .members .fits m of-table .bridge-known
@@ -93,7 +94,7 @@ module _ (N : Network) (m : Member) (of-table : In m (N .plan .members)) (transm
             of-table = i;
             receives = t;
             path = q;
-            chosen = subst (λ (z : ℕ). Chosen (graph N) (key N) (m .bridge) z q) e P;
+            chosen = subst (λ (z : ℕ). ChosenFor N (m .bridge) z q) e P;
             next = w;
             leaves = h;
             hop = f;
@@ -103,7 +104,7 @@ module _ (N : Network) (m : Member) (of-table : In m (N .plan .members)) (transm
 
   -- "reaches exactly once every other receiving member of its service to which a path from the sender leads" (demand 3).
   pub reached-once : (r : Member) → In r (N .plan .members) → T (receives m r) → (r .bridge ≡ m .bridge → ⊥) → (q : List ℕ)
-      → Chosen (graph N) (key N) (m .bridge) (r .bridge) q → (n : ℕ) → size N ≤ n
+      → ChosenFor N (m .bridge) (r .bridge) q → (n : ℕ) → size N ≤ n
       → times (r .bridge) (reached leaving (m .bridge) n) ≡ 1
   reached-once r i t d q P n l = ap (times (r .bridge)) (reached-agree leaving (m .bridge) n)
       ∙ receiver-once (graph N) (key N) (m .bridge) Wanted (graph-meets N) sender-known next hands-down (r .bridge) (r, i, t, refl) d q P n l
@@ -124,14 +125,14 @@ module _ (N : Network) (m : Member) (of-table : In m (N .plan .members)) (transm
 
   -- At each bridge that a copy enters, the entry for the sender names the arrival port.
   pub copy-arrives : (n : ℕ) (l : Link) → In l (copiesCross leaving (m .bridge) n)
-      → entryPorts 8 (N .vid .vid) (address (bridgeAt (N .plan) (m .bridge))) ((N .lists) (to l)) ≡ arrivalPort l ∷ []
+      → portsAt N (to l) (m .bridge) ≡ arrivalPort l ∷ []
   unfolding copiesCross
   copy-arrives zero l k = absurd k
   copy-arrives (suc n) l k = go (in-append l (copiesCross leaving (m .bridge) n) (flatMap leaving (copies leaving (m .bridge) n)) k)
       (copy-arrives n l)
     where
       from-bridge : (c : ℕ) → In c (copies leaving (m .bridge) n) → In l (leaving c)
-          → entryPorts 8 (N .vid .vid) (address (bridgeAt (N .plan) (m .bridge))) ((N .lists) (to l)) ≡ arrivalPort l ∷ []
+          → portsAt N (to l) (m .bridge) ≡ arrivalPort l ∷ []
       from-bridge c i j =
           let inside : c < size N = copy-inside (graph N) (key N) (m .bridge) Wanted (graph-meets N) sender-known next hands-down n c
           (subst (λ (z : List ℕ). In c z) (copies-agree leaving (m .bridge) n) i) in
@@ -141,7 +142,7 @@ module _ (N : Network) (m : Member) (of-table : In m (N .plan .members)) (transm
           arrival-named N (m .bridge) c (to l) t l P (ap (hopLink (links N) c) (led-enters N m c l D) ∙ D .hop)
 
       go : In l (copiesCross leaving (m .bridge) n) ⊎ In l (flatMap leaving (copies leaving (m .bridge) n))
-          → (In l (copiesCross leaving (m .bridge) n) → entryPorts 8 (N .vid .vid) (address (bridgeAt (N .plan) (m .bridge))) ((N .lists) (to l)) ≡ arrivalPort l ∷ [])
-          → entryPorts 8 (N .vid .vid) (address (bridgeAt (N .plan) (m .bridge))) ((N .lists) (to l)) ≡ arrivalPort l ∷ []
+          → (In l (copiesCross leaving (m .bridge) n) → portsAt N (to l) (m .bridge) ≡ arrivalPort l ∷ [])
+          → portsAt N (to l) (m .bridge) ≡ arrivalPort l ∷ []
       go (inl i) ih = ih i
       go (inr i) ih = let (c, j, h) = flatMap-in leaving l (copies leaving (m .bridge) n) i in from-bridge c j h

@@ -1,5 +1,8 @@
 -- "No bridge's list exceeds 14,931 words" (01, "Entries"): at most 16 times 63 individual entries and 63 times 63 group entries of three
--- words each. Assumes nothing.
+-- words each. A bridge has an individual entry for each other bridge and VID at most. For a transmitting member at another bridge each
+-- listed port leads to a bridge that is neither this one nor the sender, so there are 62 at most. The transmitting members at this bridge
+-- are of different services, so their receivers are different members at other bridges. With `r` members at other bridges that makes at
+-- most 62 r group entries, and r more where a transmitting member is at this bridge, which leaves 63 for r. Assumes nothing.
 use Prim.Native.Nat.{ℕ, _+_, _*_, _≤_, _<_}
 use native.Mathlib.Omega.{arith}
 use mathlib.Core.Path.{_≡_, refl, sym, ap, _∙_, subst}
