@@ -30,7 +30,7 @@ pub record Usable (hs : List HalfLink) (l : Link) : Type 0 where
   pub one-number : l .here .link ≡ l .there .link
   pub near-far : l .here .near ≡ l .there .far
   pub far-near : l .here .far ≡ l .there .near
-  pub usable : linkCost l < 16777215
+  pub usable : linkCost l < unusableMetric
 
 module _ (hs : List HalfLink) where
   abbrev seenFrom : HalfLink → List Link
@@ -41,7 +41,7 @@ module _ (hs : List HalfLink) where
   usable-says l k = let r = filter-in (λ l. usableMetric (linkCost l)) l (linksOf hs) k in
       go (flatMap-in seenFrom l hs (r .0)) (ltb→lt (linkCost l) unusableMetric (r .1))
     where
-      mate : (h : HalfLink) → In h hs → linkCost l < 16777215
+      mate : (h : HalfLink) → In h hs → linkCost l < unusableMetric
           → ((m : HalfLink) × In m (filter (mates h) hs) × (l ≡ record { here = h; there = m })) → Usable hs l
       mate h i u (m, j, e) = let r = filter-in (mates h) m hs j in
           let s = three-equal (h .link) (m .link) (h .near) (m .far) (h .far) (m .near) (r .1) in
@@ -52,10 +52,10 @@ module _ (hs : List HalfLink) where
             one-number = s .0;
             near-far = s .1;
             far-near = s .2;
-            usable = subst (λ (z : Link). linkCost z < 16777215) e u;
+            usable = subst (λ (z : Link). linkCost z < unusableMetric) e u;
           })
 
-      go : ((h : HalfLink) × In h hs × In l (seenFrom h)) → linkCost l < 16777215 → Usable hs l
+      go : ((h : HalfLink) × In h hs × In l (seenFrom h)) → linkCost l < unusableMetric → Usable hs l
       go (h, i, j) u = mate h i u (map-in (λ m. record { here = h; there = m }) l (filter (mates h) hs) j)
 
   pub says-usable : (l : Link) → Usable hs l → In l (usableLinks hs)
@@ -204,7 +204,8 @@ module _ (p : Plan) (L : PlanLaws p) where
 
   -- Every usable link costs at least 1, so a hop costs 0 exactly where two bridges are not joined.
   costs-something : (l : Link) → Usable (p .halfLinks) l → 0 < linkCost l
-  costs-something l U = omega (arith, L .half-links .fits (l .here) (U .here-listed) .metric)
+  costs-something l U =
+      omega (arith, L .half-links .fits (l .here) (U .here-listed) .metric, L .half-links .fits (l .there) (U .there-listed) .metric)
 
   pub hop-joined : (u v : ℕ) (l : Link) → hopLink (p .halfLinks) u v ≡ some l → Joined (graphOf p) u v
   hop-joined u v l e = subst (λ (o : Option Link). 0 < costOf o) (sym e) (costs-something l (hop-takes (p .halfLinks) u v l e .link))
@@ -218,15 +219,14 @@ module _ (p : Plan) (L : PlanLaws p) where
 
   -- The graph of an accepted plan meets what the laws of chosen paths ask.
   pub graph-laws : GraphLaws (graphOf p)
-  graph-laws = record { symmetric = λ u v. go u v (hopLink (p .halfLinks) u v) refl; inside = inside }
+  graph-laws = record {
+    symmetric = λ u v. cost-turned (hopLink (p .halfLinks) u v) ∙ ap costOf (sym (hop-turned u v));
+    inside = inside;
+  }
     where
       cost-turned : (o : Option Link) → costOf o ≡ costOf (Option·map turned o)
       cost-turned none = refl
       cost-turned (some l) = omega arith
-
-      go : (u v : ℕ) (o : Option Link) → hopLink (p .halfLinks) u v ≡ o
-          → costOf (hopLink (p .halfLinks) u v) ≡ costOf (hopLink (p .halfLinks) v u)
-      go u v o e = cost-turned (hopLink (p .halfLinks) u v) ∙ ap costOf (sym (hop-turned u v))
 
       inside : (u v : ℕ) → 0 < costOf (hopLink (p .halfLinks) u v) → u < length (p .bridges)
       inside u v j = let (l, e) = joined-hop u v j in let K = hop-takes (p .halfLinks) u v l e in
