@@ -96,6 +96,20 @@ is-false false f = refl
 pub true-test : (b : Bool) → b ≡ true → T b
 true-test b e = rw e tt
 
+-- Tests for the equality of two pairs and of three.
+pub equal-two : (a b c d : ℕ) → a ≡ b → c ≡ d → T (eqb a b && eqb c d)
+equal-two a b c d e f = both (eqb a b) (eqb c d) (eq-eqb a b e) (eq-eqb c d f)
+
+pub two-equal : (a b c d : ℕ) → T (eqb a b && eqb c d) → (a ≡ b) × (c ≡ d)
+two-equal a b c d t = (eqb→eq a b (first-of (eqb a b) (eqb c d) t), eqb→eq c d (last-of (eqb a b) (eqb c d) t))
+
+pub equal-three : (a b c d m n : ℕ) → a ≡ b → c ≡ d → m ≡ n → T (eqb a b && eqb c d && eqb m n)
+equal-three a b c d m n e f g = both (eqb a b && eqb c d) (eqb m n) (equal-two a b c d e f) (eq-eqb m n g)
+
+pub three-equal : (a b c d m n : ℕ) → T (eqb a b && eqb c d && eqb m n) → (a ≡ b) × (c ≡ d) × (m ≡ n)
+three-equal a b c d m n t = let r = two-equal a b c d (first-of (eqb a b && eqb c d) (eqb m n) t) in
+    (r .0, r .1, eqb→eq m n (last-of (eqb a b && eqb c d) (eqb m n) t))
+
 -- Constructors
 
 module _ {A : Type 0} where

@@ -35,14 +35,15 @@ module _ {A : Type 0} where
   refused-not-answered {n} {k} {at} {a} e = let z : _≡_ {A = ℕ} 0 1 = cc in omega arith
 
   -- An answer's values and the list's later contents.
-  pub lent-says : (old : List ℕ) (w : Written A) (a : A) (l : List ℕ) (r : Outcome A × List ℕ) → lentTo old (answered w) ≡ r → r .0 ≡ answered a → r .1 ≡ l
+  pub lent-says : (old : List ℕ) (w : Written A) (a : A) (l : List ℕ) → lentTo old (answered w) ≡ (answered a, l)
       → (w .values ≡ a) × (overwritten (w .words) old ≡ l)
-  lent-says old w a l r e f g = go (le-or-gt (length (w .words)) (length old))
+  lent-says old w a l e = go (le-or-gt (length (w .words)) (length old))
     where
       go : (length (w .words) ≤ length old) ⊎ (length old < length (w .words)) → (w .values ≡ a) × (overwritten (w .words) old ≡ l)
       go (inl h) = let d = rw (holds (length (w .words)) (length old) h) at e in
-          let i : answered (w .values) ≡ answered a = ap (λ (z : Outcome A × List ℕ). z .0) d ∙ f in (cc, ap (λ (z : Outcome A × List ℕ). z .1) d ∙ g)
-      go (inr h) = let d = rw (too-short (length (w .words)) (length old) h) at e in absurd (refused-not-answered (ap (λ (z : Outcome A × List ℕ). z .0) d ∙ f))
+          let i : answered (w .values) ≡ answered a = ap (λ (z : Outcome A × List ℕ). z .0) d in (cc, ap (λ (z : Outcome A × List ℕ). z .1) d)
+      go (inr h) = let d = rw (too-short (length (w .words)) (length old) h) at e in
+          absurd (refused-not-answered (ap (λ (z : Outcome A × List ℕ). z .0) d))
 
   -- A list that holds the answer and no more.
   pub lent-holds : (w : Written A) → lentTo (w .words) (answered w) ≡ (answered (w .values), w .words ++ [])
@@ -73,12 +74,17 @@ module _ (t : List ℕ) (p : Plan) (accepted : verdict t ≡ answered p) (L : Pl
       → pathAnswer t (v .vid) a b ≡ pathFound p (chosenPath p (v .index) a b)
   unfolding pathAnswer
   path-asked v k a b h l =
-      (λ i. andThen (accepted i) λ q. named (knownBridge q a && knownBridge q b) (vidRecord q (v .vid)) λ w. pathFound q (chosenPath q (w .index) a b))
-      ∙ (λ i. named (is-true (knownBridge p a && knownBridge p b) (both (knownBridge p a) (knownBridge p b) (lt→ltb a (length (p .bridges)) h) (lt→ltb b (length (p .bridges)) l)) i)
+      (λ i. andThen (accepted i) λ q. named (knownBridge q a && knownBridge q b) (vidRecord q (v .vid)) λ w. pathFound q
+      (chosenPath q (w .index) a b))
+      ∙ (λ i. named (is-true (knownBridge p a && knownBridge p b)
+      (both (knownBridge p a) (knownBridge p b) (lt→ltb a (length (p .bridges)) h) (lt→ltb b (length (p .bridges)) l)) i)
       (vid-found v k i) λ w. pathFound p (chosenPath p (w .index) a b))
 
-  pub entries-asked : (u : ℕ) → u < length (p .bridges) → entriesAnswer t u ≡ answered (record { values = length (entryListOf p u); words = entryListOf p u })
+  pub entries-asked : (u : ℕ) → u < length (p .bridges)
+      → entriesAnswer t u ≡ answered (record { values = length (entryListOf p u); words = entryListOf p u })
   unfolding entriesAnswer
   entries-asked u l =
-      (λ i. andThen (accepted i) λ q. cond (knownBridge q u) (answered (record { values = length (entryListOf q u); words = entryListOf q u })) (refusedAs 11))
-      ∙ (λ i. cond (is-true (knownBridge p u) (lt→ltb u (length (p .bridges)) l) i) (answered (record { values = length (entryListOf p u); words = entryListOf p u })) (refusedAs 11))
+      (λ i. andThen (accepted i) λ q. cond (knownBridge q u) (answered (record { values = length (entryListOf q u); words = entryListOf q u }))
+      (refusedAs 11))
+      ∙ (λ i. cond (is-true (knownBridge p u) (lt→ltb u (length (p .bridges)) l) i)
+      (answered (record { values = length (entryListOf p u); words = entryListOf p u })) (refusedAs 11))

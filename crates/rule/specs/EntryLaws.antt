@@ -11,7 +11,7 @@ use lib.Dec.{T, eqb, eqb→eq, T-not, not-T}
 use lib.ListN.{length}
 use Rattle.graph.specs.Lists.{rising, filter, any}
 use Rattle.graph.specs.Members.{In, Distinct}
-use Rattle.graph.specs.ListLaws.{both, first-of, last-of, is-true, true-test, eq-eqb, in-append, map-in, flatMap-in, filter-in, in-filter, any-in, in-any, in-rising, rising-in, distinct-filter, distinct-rising, filter-none, filter-append, filter-flatMap, filter-flatMap-only, flatMap-only, map-back}
+use Rattle.graph.specs.ListLaws.{both, first-of, last-of, equal-three, three-equal, is-true, true-test, eq-eqb, in-append, map-in, flatMap-in, filter-in, in-filter, any-in, in-any, in-rising, rising-in, distinct-filter, distinct-rising, filter-none, filter-append, filter-flatMap, filter-flatMap-only, flatMap-only, map-back}
 use Rattle.rule.specs.Records.{HalfLink, Vid, Member, address}
 use Rattle.rule.specs.Plan.{Plan, bridgeAt}
 use Rattle.rule.specs.Links.{Link, hopLink}
@@ -33,7 +33,8 @@ record EntryFits (e : Entry) : Type 0 where
   address : e .address < 2 ^ 48
 
 -- "An entry is 3 words": they give it back.
-entry-decoded : (e : Entry) → EntryFits e → entryOf (e .kind * 2 ^ 28 + e .vid * 2 ^ 16 + e .port) (e .address / 2 ^ 32) (e .address % 2 ^ 32) ≡ e
+entry-decoded : (e : Entry) → EntryFits e
+    → entryOf (e .kind * 2 ^ 28 + e .vid * 2 ^ 16 + e .port) (e .address / 2 ^ 32) (e .address % 2 ^ 32) ≡ e
 entry-decoded e F = λ i. record { kind = kind i; vid = vid i; port = port i; address = addr i }
   where
     w : ℕ
@@ -59,7 +60,8 @@ entries-decoded (e ∷ es) f = λ i. entry-decoded e (f e (inl refl)) i ∷ entr
 -- Group addresses
 
 -- The group address tells SPsourceID and I-SID.
-group-address-says : (s t i j : ℕ) → s ≤ 1048575 → t ≤ 1048575 → i ≤ 16777214 → j ≤ 16777214 → groupAddress s i ≡ groupAddress t j → (s ≡ t) × (i ≡ j)
+group-address-says : (s t i j : ℕ) → s ≤ 1048575 → t ≤ 1048575 → i ≤ 16777214 → j ≤ 16777214 → groupAddress s i ≡ groupAddress t j
+    → (s ≡ t) × (i ≡ j)
 group-address-says s t i j a b c d e = omega arith
 
 -- The ports of a path
@@ -99,14 +101,17 @@ port-listed behind port l g k =
     (in-any (λ q. eqb q port) port behind k (eq-eqb port port refl))
 
 -- "another bridge with R in the same I-SID and VID".
-pub receives-says : (m r : Member) → T (receives m r) → (r .receives ≡ true) × (r .isid ≡ m .isid) × (r .vid ≡ m .vid) × (r .bridge ≡ m .bridge → ⊥)
+pub receives-says : (m r : Member) → T (receives m r)
+    → (r .receives ≡ true) × (r .isid ≡ m .isid) × (r .vid ≡ m .vid) × (r .bridge ≡ m .bridge → ⊥)
 receives-says m r t =
     let x = first-of (r .receives && eqb (r .isid) (m .isid) && eqb (r .vid) (m .vid)) (not (eqb (r .bridge) (m .bridge))) t in
     let y = first-of (r .receives && eqb (r .isid) (m .isid)) (eqb (r .vid) (m .vid)) x in (
       is-true (r .receives) (first-of (r .receives) (eqb (r .isid) (m .isid)) y),
       eqb→eq (r .isid) (m .isid) (last-of (r .receives) (eqb (r .isid) (m .isid)) y),
       eqb→eq (r .vid) (m .vid) (last-of (r .receives && eqb (r .isid) (m .isid)) (eqb (r .vid) (m .vid)) x),
-      λ e. T-not (eqb (r .bridge) (m .bridge)) (last-of (r .receives && eqb (r .isid) (m .isid) && eqb (r .vid) (m .vid)) (not (eqb (r .bridge) (m .bridge))) t) (eq-eqb (r .bridge) (m .bridge) e),
+      λ e. T-not (eqb (r .bridge) (m .bridge))
+          (last-of (r .receives && eqb (r .isid) (m .isid) && eqb (r .vid) (m .vid)) (not (eqb (r .bridge) (m .bridge))) t)
+          (eq-eqb (r .bridge) (m .bridge) e),
     )
 
 pub says-receives : (m r : Member) → r .receives ≡ true → r .isid ≡ m .isid → r .vid ≡ m .vid → (r .bridge ≡ m .bridge → ⊥) → T (receives m r)
@@ -123,15 +128,10 @@ abbrev matches : ℕ → ℕ → ℕ → Entry → Bool
 matches kind vid addr e = eqb (e .kind) kind && eqb (e .vid) vid && eqb (e .address) addr
 
 matches-says : (kind vid addr : ℕ) (e : Entry) → T (matches kind vid addr e) → (e .kind ≡ kind) × (e .vid ≡ vid) × (e .address ≡ addr)
-matches-says kind vid addr e t = let r = first-of (eqb (e .kind) kind && eqb (e .vid) vid) (eqb (e .address) addr) t in (
-  eqb→eq (e .kind) kind (first-of (eqb (e .kind) kind) (eqb (e .vid) vid) r),
-  eqb→eq (e .vid) vid (last-of (eqb (e .kind) kind) (eqb (e .vid) vid) r),
-  eqb→eq (e .address) addr (last-of (eqb (e .kind) kind && eqb (e .vid) vid) (eqb (e .address) addr) t),
-)
+matches-says kind vid addr e t = three-equal (e .kind) kind (e .vid) vid (e .address) addr t
 
 says-matches : (kind vid addr : ℕ) (e : Entry) → e .kind ≡ kind → e .vid ≡ vid → e .address ≡ addr → T (matches kind vid addr e)
-says-matches kind vid addr e i j k = both (eqb (e .kind) kind && eqb (e .vid) vid) (eqb (e .address) addr)
-    (both (eqb (e .kind) kind) (eqb (e .vid) vid) (eq-eqb (e .kind) kind i) (eq-eqb (e .vid) vid j)) (eq-eqb (e .address) addr k)
+says-matches kind vid addr e i j k = equal-three (e .kind) kind (e .vid) vid (e .address) addr i j k
 
 module _ (p : Plan) (v : Vid) (b : ℕ) where
   -- The other bridges by number, and the ports of the entry for one of them: one, or none where no path leads there.
@@ -148,7 +148,8 @@ module _ (p : Plan) (v : Vid) (b : ℕ) where
   abbrev pub portsBehind : Member → List ℕ
   portsBehind m = listedPorts (receiverPorts p v b (p .members) m)
 
-  individual-says : (e : Entry) → In e (individualEntries p v b) → (d : ℕ) × (port : ℕ) × In d others × In port (portsTo d) × (e ≡ individualEntry p v d port)
+  individual-says : (e : Entry) → In e (individualEntries p v b)
+      → (d : ℕ) × (port : ℕ) × In d others × In port (portsTo d) × (e ≡ individualEntry p v d port)
   unfolding individualEntries
   individual-says e k = go (flatMap-in (λ d. map (individualEntry p v d) (portsTo d)) e others k)
     where
@@ -163,7 +164,8 @@ module _ (p : Plan) (v : Vid) (b : ℕ) where
     where
       go : ((m : Member) × In m (filter transmits (p .members)) × In e (map (groupEntry p v m) (portsBehind m)))
           → (m : Member) × (port : ℕ) × In m (p .members) × T (transmits m) × In port (portsBehind m) × (e ≡ groupEntry p v m port)
-      go (m, i, j) = let (port, k, f) = map-in (groupEntry p v m) e (portsBehind m) j in let r = filter-in transmits m (p .members) i in (m, port, r .0, r .1, k, f)
+      go (m, i, j) = let (port, k, f) = map-in (groupEntry p v m) e (portsBehind m) j in let r = filter-in transmits m (p .members) i in
+          (m, port, r .0, r .1, k, f)
 
 -- The words of a bridge give its entries back
 
@@ -174,7 +176,7 @@ module _ (p : Plan) (L : PlanLaws p) where
       go : (o : Option (List ℕ)) → In port (portsOf (firstPort (p .halfLinks)) o) → port ≤ 4095
       go none k = absurd k
       go (some path) k = let (u, w, t, l, e, f, g) = first-port-says (p .halfLinks) path port k in
-          rw g (L .half-link-fits (l .here) (hop-takes (p .halfLinks) u w l f .link .here-listed) .greatest-port)
+          rw g (L .half-links .fits (l .here) (hop-takes (p .halfLinks) u w l f .link .here-listed) .greatest-port)
 
   individual-fits : (v : Vid) (b : ℕ) → v .vid ≤ 4094 → (e : Entry) → In e (individualEntries p v b) → EntryFits e
   individual-fits v b l e k = let (d, port, i, j, f) = individual-says p v b e k in
@@ -183,24 +185,32 @@ module _ (p : Plan) (L : PlanLaws p) where
 
   group-fits : (v : Vid) (b : ℕ) → v .vid ≤ 4094 → (e : Entry) → In e (groupEntries p v b (p .members)) → EntryFits e
   group-fits v b l e k = let (m, port, i, t, j, f) = group-says p v b e k in
-      let M = L .member-fits m i in
-      let s : bridgeAt p (m .bridge) .spSourceId ≤ 1048575 = L .bridge-fits (bridgeAt p (m .bridge)) (listed-bridge p L (m .bridge) (M .bridge-known)) in
+      let M = L .members .fits m i in
+      let s : bridgeAt p (m .bridge) .spSourceId ≤ 1048575 = L .bridges .fits (bridgeAt p (m .bridge))
+      (listed-bridge p L (m .bridge) (M .bridge-known)) in
       subst (λ (z : Entry). EntryFits z) (sym f)
-      (record { kind = omega arith; vid = omega arith; port = omega (arith, listed-port (receiverPorts p v b (p .members) m) port j .1); address = omega (arith, M .isid) })
+      (record {
+        kind = omega arith;
+        vid = omega arith;
+        port = omega (arith, listed-port (receiverPorts p v b (p .members) m) port j .1);
+        address = omega (arith, M .isid);
+      })
 
   entry-fits : (b : ℕ) (e : Entry) → In e (entriesOf p b) → EntryFits e
   unfolding entriesOf
   entry-fits b e k = let (v, i, j) = flatMap-in (λ v. individualEntries p v b ++ groupEntries p v b (p .members)) e (p .vids) k in
-      go v (L .vid-fits v i) (in-append e (individualEntries p v b) (groupEntries p v b (p .members)) j)
+      go v (L .vids .fits v i) (in-append e (individualEntries p v b) (groupEntries p v b (p .members)) j)
     where
       go : (v : Vid) → v .vid ≤ 4094 → In e (individualEntries p v b) ⊎ In e (groupEntries p v b (p .members)) → EntryFits e
       go v l (inl k) = individual-fits v b l e k
       go v l (inr k) = group-fits v b l e k
 
   -- What is read from the words of a bridge.
-  entries-read : (kind vid addr b : ℕ) → entryPorts kind vid addr (entryListOf p b) ≡ map (λ e. e .port) (filter (matches kind vid addr) (entriesOf p b))
+  entries-read : (kind vid addr b : ℕ)
+      → entryPorts kind vid addr (entryListOf p b) ≡ map (λ e. e .port) (filter (matches kind vid addr) (entriesOf p b))
   unfolding entryPorts entryListOf
-  entries-read kind vid addr b = ap (λ (es : List Entry). map (λ e. e .port) (filter (matches kind vid addr) es)) (entries-decoded (entriesOf p b) (entry-fits b))
+  entries-read kind vid addr b = ap (λ (es : List Entry). map (λ e. e .port) (filter (matches kind vid addr) es))
+      (entries-decoded (entriesOf p b) (entry-fits b))
 
   -- With a VID of the plan the entries are those of that VID.
   entries-of-vid : (kind addr b : ℕ) (v : Vid) → In v (p .vids)
@@ -221,7 +231,8 @@ module _ (p : Plan) (L : PlanLaws p) where
 
       other : (w : Vid) → In w (p .vids) → (w ≡ v → ⊥) → filter (matches kind (v .vid) addr) (entriesFor w) ≡ []
       other w i n = filter-none (matches kind (v .vid) addr) (entriesFor w) (λ e j t.
-          n (one-vid p L w v i k (sym (vid-of w e (in-append e (individualEntries p w b) (groupEntries p w b (p .members)) j)) ∙ matches-says kind (v .vid) addr e t .1)))
+          n (one-vid p L w v i k (sym (vid-of w e (in-append e (individualEntries p w b) (groupEntries p w b (p .members)) j))
+          ∙ matches-says kind (v .vid) addr e t .1)))
 
   -- "one entry with that bridge's address and the port of the first hop's link": the entries of kind 8 with the VID and the address of
   -- another bridge have the first port of the chosen path to it, and there is none where no path leads there.
@@ -246,14 +257,18 @@ module _ (p : Plan) (L : PlanLaws p) where
       individual : filter test (individualEntries p v b) ≡ map (individualEntry p v d) (portsTo p v b d)
       individual = filter-flatMap-only test (λ c. map (individualEntry p v c) (portsTo p v b c)) d (others p v b)
           (distinct-filter (λ c. not (eqb c b)) (rising 0 (length (p .bridges))) (distinct-rising 0 (length (p .bridges))))
-          (in-filter (λ c. not (eqb c b)) d (rising 0 (length (p .bridges))) (in-rising 0 (length (p .bridges)) d (omega arith) (omega arith)) (not-T (eqb d b) (λ t. n (eqb→eq d b t))))
+          (in-filter (λ c. not (eqb c b)) d (rising 0 (length (p .bridges))) (in-rising 0 (length (p .bridges)) d (omega arith) (omega arith))
+          (not-T (eqb d b) (λ t. n (eqb→eq d b t))))
           (λ e i. let (port, j, f) = map-in (individualEntry p v d) e (portsTo p v b d) i in
-          says-matches 8 (v .vid) (address (bridgeAt p d)) e (ap (λ (z : Entry). z .kind) f) (ap (λ (z : Entry). z .vid) f) (ap (λ (z : Entry). z .address) f))
+          says-matches 8 (v .vid) (address (bridgeAt p d)) e (ap (λ (z : Entry). z .kind) f) (ap (λ (z : Entry). z .vid) f)
+          (ap (λ (z : Entry). z .address) f))
           (λ c i m e j t. let (port, h, f) = map-in (individualEntry p v c) e (portsTo p v b c) j in
-          m (one-address p L c d (below c i) l (sym (ap (λ (z : Entry). z .address) f) ∙ matches-says 8 (v .vid) (address (bridgeAt p d)) e t .2)))
+          m (one-address p L c d (below c i) l
+          (sym (ap (λ (z : Entry). z .address) f) ∙ matches-says 8 (v .vid) (address (bridgeAt p d)) e t .2)))
 
       joined : filter test (individualEntries p v b) ++ filter test (groupEntries p v b (p .members)) ≡ map (individualEntry p v d) (portsTo p v b d)
-      joined = ap (λ (es : List Entry). filter test (individualEntries p v b) ++ es) no-group ∙ append-nil (filter test (individualEntries p v b)) ∙ individual
+      joined = ap (λ (es : List Entry). filter test (individualEntries p v b) ++ es) no-group
+          ∙ append-nil (filter test (individualEntries p v b)) ∙ individual
 
   -- The entries of kind 9 with the VID and the group address of a transmitting member have the ports listed for it.
   pub group-ports : (v : Vid) (b : ℕ) (m : Member) → In v (p .vids) → In m (p .members) → m .transmits ≡ true → m .vid ≡ v .vid
@@ -261,7 +276,8 @@ module _ (p : Plan) (L : PlanLaws p) where
   unfolding groupEntries
   group-ports v b m k i t e =
       entries-read 9 (v .vid) addr b
-      ∙ ap (map (λ e. e .port)) (entries-of-vid 9 addr b v k ∙ ap (λ (es : List Entry). es ++ filter test (groupEntries p v b (p .members))) no-individual ∙ group)
+      ∙ ap (map (λ e. e .port)) (entries-of-vid 9 addr b v k
+      ∙ ap (λ (es : List Entry). es ++ filter test (groupEntries p v b (p .members))) no-individual ∙ group)
       ∙ map-back (groupEntry p v m) (λ e. e .port) (λ port. refl) (portsBehind p v b m)
     where
       addr : ℕ
@@ -275,14 +291,16 @@ module _ (p : Plan) (L : PlanLaws p) where
           omega (arith, ap (λ (z : Entry). z .kind) f, matches-says 9 (v .vid) addr e t .0))
 
       source : (c : Member) → In c (p .members) → bridgeAt p (c .bridge) .spSourceId ≤ 1048575
-      source c j = L .bridge-fits (bridgeAt p (c .bridge)) (listed-bridge p L (c .bridge) (L .member-fits c j .bridge-known))
+      source c j = L .bridges .fits (bridgeAt p (c .bridge)) (listed-bridge p L (c .bridge) (L .members .fits c j .bridge-known))
 
       -- Another transmitting member of the VID has another group address.
-      one-address-one-member : (c : Member) → In c (p .members) → c .vid ≡ v .vid → groupAddress (bridgeAt p (c .bridge) .spSourceId) (c .isid) ≡ addr → c ≡ m
+      one-address-one-member : (c : Member) → In c (p .members) → c .vid ≡ v .vid
+          → groupAddress (bridgeAt p (c .bridge) .spSourceId) (c .isid) ≡ addr → c ≡ m
       one-address-one-member c j f g =
           let says = group-address-says (bridgeAt p (c .bridge) .spSourceId) (bridgeAt p (m .bridge) .spSourceId) (c .isid) (m .isid)
-          (source c j) (source m i) (L .member-fits c j .isid) (L .member-fits m i .isid) g in
-          one-member p L c m j i (one-source p L (c .bridge) (m .bridge) (L .member-fits c j .bridge-known) (L .member-fits m i .bridge-known) (says .0)) (says .1) (f ∙ sym e)
+          (source c j) (source m i) (L .members .fits c j .isid) (L .members .fits m i .isid) g in
+          one-member p L c m j i (one-source p L (c .bridge) (m .bridge) (L .members .fits c j .bridge-known) (L .members .fits m i .bridge-known)
+          (says .0)) (says .1) (f ∙ sym e)
 
       transmitters : List Member
       transmitters = filter (transmits p v b) (p .members)
@@ -290,9 +308,11 @@ module _ (p : Plan) (L : PlanLaws p) where
       group : filter test (groupEntries p v b (p .members)) ≡ map (groupEntry p v m) (portsBehind p v b m)
       group = filter-flatMap-only test (λ c. map (groupEntry p v c) (portsBehind p v b c)) m transmitters
           (distinct-filter (transmits p v b) (p .members) (distinct-members p L))
-          (in-filter (transmits p v b) m (p .members) i (both (m .transmits) (eqb (m .vid) (v .vid)) (true-test (m .transmits) t) (eq-eqb (m .vid) (v .vid) e)))
+          (in-filter (transmits p v b) m (p .members) i
+          (both (m .transmits) (eqb (m .vid) (v .vid)) (true-test (m .transmits) t) (eq-eqb (m .vid) (v .vid) e)))
           (λ e i. let (port, j, f) = map-in (groupEntry p v m) e (portsBehind p v b m) i in
           says-matches 9 (v .vid) addr e (ap (λ (z : Entry). z .kind) f) (ap (λ (z : Entry). z .vid) f) (ap (λ (z : Entry). z .address) f))
-          (λ c j n e h t. let (port, k, f) = map-in (groupEntry p v c) e (portsBehind p v b c) h in let r = filter-in (transmits p v b) c (p .members) j in
+          (λ c j n e h t. let (port, k, f) = map-in (groupEntry p v c) e (portsBehind p v b c) h in
+          let r = filter-in (transmits p v b) c (p .members) j in
           n (one-address-one-member c (r .0) (eqb→eq (c .vid) (v .vid) (last-of (c .transmits) (eqb (c .vid) (v .vid)) (r .1)))
           (sym (ap (λ (z : Entry). z .address) f) ∙ matches-says 9 (v .vid) addr e t .2)))

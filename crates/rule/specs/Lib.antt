@@ -1,4 +1,5 @@
 -- Document 01 as definitions. Read in this order: the table, what it says, the calls, the frames, the figures, demand 3.
+-- Below Demand3 stand the laws that prove it, and its proof.
 pub mod Words
 pub mod Records
 pub mod Outcome
@@ -23,9 +24,12 @@ pub mod OneRecord
 pub mod LinkLaws
 pub mod IdentifierLaws
 pub mod EntryLaws
+pub mod Network
 pub mod FrameLaws
+pub mod ListedPorts
 pub mod GroupLaws
 pub mod CallLaws
 pub mod ListBound
+pub mod SettingLaws
 pub mod Demand3Proved
 pub mod Settings

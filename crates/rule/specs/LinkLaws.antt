@@ -8,13 +8,13 @@ use mathlib.Core.List.{List, [], _∷_, map}
 use mathlib.Core.Option.{Option, none, some, Option·map}
 use mathlib.Core.Logic.{_⊎_, inl, inr}
 use mathlib.Core.Bool.{Bool, _&&_, and-false, or-false}
-use lib.Dec.{T, eqb, eqb→eq, ltb→lt, lt→ltb}
+use lib.Dec.{T, eqb, ltb→lt, lt→ltb}
 use lib.ListN.{length}
 use Rattle.graph.specs.Lists.{filter}
 use Rattle.graph.specs.Order.{Lower, lower}
 use Rattle.graph.specs.Graph.{GraphLaws, Joined}
 use Rattle.graph.specs.Members.{In, Distinct}
-use Rattle.graph.specs.ListLaws.{compared, both, first-of, last-of, eq-eqb, in-map, map-in, in-flatMap, flatMap-in, filter-in, in-filter, any-in, in-any, distinct-flatMap, distinct-filter, distinct-map, pairwise-one, only-one, lowest-none}
+use Rattle.graph.specs.ListLaws.{compared, equal-two, two-equal, equal-three, three-equal, in-map, map-in, in-flatMap, flatMap-in, filter-in, in-filter, any-in, in-any, distinct-flatMap, distinct-filter, distinct-map, pairwise-one, only-one, lowest-none}
 use Rattle.graph.specs.OrderLaws.{lowest-ranked}
 use Rattle.rule.specs.Records.{HalfLink, unusableMetric}
 use Rattle.rule.specs.Plan.{Plan}
@@ -30,29 +30,32 @@ pub record Usable (hs : List HalfLink) (l : Link) : Type 0 where
   pub one-number : l .here .link ≡ l .there .link
   pub near-far : l .here .near ≡ l .there .far
   pub far-near : l .here .far ≡ l .there .near
-  pub usable : linkCost l < 16777215
+  pub usable : linkCost l < unusableMetric
 
 module _ (hs : List HalfLink) where
   abbrev seenFrom : HalfLink → List Link
   seenFrom h = map (λ m. record { here = h; there = m }) (filter (mates h) hs)
 
-  mate-says : (h m : HalfLink) → T (mates h m) → (h .link ≡ m .link) × (h .near ≡ m .far) × (h .far ≡ m .near)
-  mate-says h m t = let r = first-of (eqb (h .link) (m .link) && eqb (h .near) (m .far)) (eqb (h .far) (m .near)) t in (
-    eqb→eq (h .link) (m .link) (first-of (eqb (h .link) (m .link)) (eqb (h .near) (m .far)) r),
-    eqb→eq (h .near) (m .far) (last-of (eqb (h .link) (m .link)) (eqb (h .near) (m .far)) r),
-    eqb→eq (h .far) (m .near) (last-of (eqb (h .link) (m .link) && eqb (h .near) (m .far)) (eqb (h .far) (m .near)) t),
-  )
-
   pub usable-says : (l : Link) → In l (usableLinks hs) → Usable hs l
   unfolding usableLinks linksOf
-  usable-says l k = let r = filter-in (λ l. usableMetric (linkCost l)) l (linksOf hs) k in go (flatMap-in seenFrom l hs (r .0)) (ltb→lt (linkCost l) unusableMetric (r .1))
+  usable-says l k = let r = filter-in (λ l. usableMetric (linkCost l)) l (linksOf hs) k in
+      go (flatMap-in seenFrom l hs (r .0)) (ltb→lt (linkCost l) unusableMetric (r .1))
     where
-      mate : (h : HalfLink) → In h hs → linkCost l < 16777215 → ((m : HalfLink) × In m (filter (mates h) hs) × (l ≡ record { here = h; there = m })) → Usable hs l
-      mate h i u (m, j, e) = let r = filter-in (mates h) m hs j in let s = mate-says h m (r .1) in
+      mate : (h : HalfLink) → In h hs → linkCost l < unusableMetric
+          → ((m : HalfLink) × In m (filter (mates h) hs) × (l ≡ record { here = h; there = m })) → Usable hs l
+      mate h i u (m, j, e) = let r = filter-in (mates h) m hs j in
+          let s = three-equal (h .link) (m .link) (h .near) (m .far) (h .far) (m .near) (r .1) in
           subst (λ (z : Link). Usable hs z) (sym e)
-          (record { here-listed = i; there-listed = r .0; one-number = s .0; near-far = s .1; far-near = s .2; usable = subst (λ (z : Link). linkCost z < 16777215) e u })
+          (record {
+            here-listed = i;
+            there-listed = r .0;
+            one-number = s .0;
+            near-far = s .1;
+            far-near = s .2;
+            usable = subst (λ (z : Link). linkCost z < unusableMetric) e u;
+          })
 
-      go : ((h : HalfLink) × In h hs × In l (seenFrom h)) → linkCost l < 16777215 → Usable hs l
+      go : ((h : HalfLink) × In h hs × In l (seenFrom h)) → linkCost l < unusableMetric → Usable hs l
       go (h, i, j) u = mate h i u (map-in (λ m. record { here = h; there = m }) l (filter (mates h) hs) j)
 
   pub says-usable : (l : Link) → Usable hs l → In l (usableLinks hs)
@@ -61,9 +64,8 @@ module _ (hs : List HalfLink) where
       (in-flatMap seenFrom l (l .here) hs (U .here-listed)
       (in-map (λ m. record { here = l .here; there = m }) (l .there) (filter (mates (l .here)) hs)
       (in-filter (mates (l .here)) (l .there) hs (U .there-listed)
-      (both (eqb (l .here .link) (l .there .link) && eqb (l .here .near) (l .there .far)) (eqb (l .here .far) (l .there .near))
-      (both (eqb (l .here .link) (l .there .link)) (eqb (l .here .near) (l .there .far)) (eq-eqb (l .here .link) (l .there .link) (U .one-number)) (eq-eqb (l .here .near) (l .there .far) (U .near-far)))
-      (eq-eqb (l .here .far) (l .there .near) (U .far-near))))))
+      (equal-three (l .here .link) (l .there .link) (l .here .near) (l .there .far) (l .here .far) (l .there .near)
+      (U .one-number) (U .near-far) (U .far-near)))))
       (lt→ltb (linkCost l) unusableMetric (U .usable))
 
   pub usable-turned : (l : Link) → Usable hs l → Usable hs (turned l)
@@ -79,24 +81,20 @@ module _ (hs : List HalfLink) where
   distinct-usable : Distinct hs → Distinct (usableLinks hs)
   unfolding usableLinks linksOf
   distinct-usable d = distinct-filter (λ l. usableMetric (linkCost l)) (linksOf hs) (distinct-flatMap seenFrom hs d
-      (λ h k. distinct-map (λ m. record { here = h; there = m }) (filter (mates h) hs) (distinct-filter (mates h) hs d) (λ m n i j e. ap (λ (l : Link). l .there) e))
+      (λ h k. distinct-map (λ m. record { here = h; there = m }) (filter (mates h) hs) (distinct-filter (mates h) hs d)
+      (λ m n i j e. ap (λ (l : Link). l .there) e))
       (λ h k l i j m n. let r = map-in (λ z. record { here = h; there = z }) l (filter (mates h) hs) m in
       let s = map-in (λ z. record { here = k; there = z }) l (filter (mates k) hs) n in
       ap (λ (z : Link). z .here) (sym (r .2) ∙ s .2)))
 
-  connects-says : (u v : ℕ) (l : Link) → T (connects u v l) → (from l ≡ u) × (to l ≡ v)
-  connects-says u v l t = (eqb→eq (from l) u (first-of (eqb (from l) u) (eqb (to l) v) t), eqb→eq (to l) v (last-of (eqb (from l) u) (eqb (to l) v) t))
-
-  says-connects : (u v : ℕ) (l : Link) → from l ≡ u → to l ≡ v → T (connects u v l)
-  says-connects u v l e f = both (eqb (from l) u) (eqb (to l) v) (eq-eqb (from l) u e) (eq-eqb (to l) v f)
-
   between-says : (u v : ℕ) (l : Link) → In l (linksBetween hs u v) → Usable hs l × (from l ≡ u) × (to l ≡ v)
   unfolding linksBetween
-  between-says u v l k = let r = filter-in (connects u v) l (usableLinks hs) k in let c = connects-says u v l (r .1) in (usable-says l (r .0), c .0, c .1)
+  between-says u v l k = let r = filter-in (connects u v) l (usableLinks hs) k in let c = two-equal (from l) u (to l) v (r .1) in
+      (usable-says l (r .0), c .0, c .1)
 
   says-between : (u v : ℕ) (l : Link) → Usable hs l → from l ≡ u → to l ≡ v → In l (linksBetween hs u v)
   unfolding linksBetween
-  says-between u v l U e f = in-filter (connects u v) l (usableLinks hs) (says-usable l U) (says-connects u v l e f)
+  says-between u v l U e f = in-filter (connects u v) l (usableLinks hs) (says-usable l U) (equal-two (from l) u (to l) v e f)
 
 -- "the cheapest usable link, of equals the lower link number": links compare by cost, then number.
 abbrev linkRank : Link → List ℕ
@@ -116,7 +114,8 @@ pub record Takes (hs : List HalfLink) (u v : ℕ) (l : Link) : Type 0 where
 module _ (hs : List HalfLink) where
   pub hop-takes : (u v : ℕ) (l : Link) → hopLink hs u v ≡ some l → Takes hs u v l
   unfolding hopLink
-  hop-takes u v l e = let r = lowest-ranked linkRank before by-cost-then-number (linksBetween hs u v) l e in let s = between-says hs u v l (r .0) in
+  hop-takes u v l e = let r = lowest-ranked linkRank before by-cost-then-number (linksBetween hs u v) l e in
+      let s = between-says hs u v l (r .0) in
       record { link = s .0; near = s .1; far = s .2; lowest = λ k U i j. r .1 k (says-between hs u v k U i j) }
 
   pub no-hop : (u v : ℕ) → hopLink hs u v ≡ none → (l : Link) → Usable hs l → from l ≡ u → to l ≡ v → ⊥
@@ -126,8 +125,8 @@ module _ (hs : List HalfLink) where
 module _ (p : Plan) (L : PlanLaws p) where
   -- A half-link is determined by its link number and its near bridge: the other of that number has the near bridge for its far one.
   one-half : (h k : HalfLink) → In h (p .halfLinks) → In k (p .halfLinks) → h .link ≡ k .link → h .near ≡ k .near → h ≡ k
-  one-half h k i j e f = pairwise-one Mirrors (p .halfLinks) (L .mirrored) h k i j
-      (λ M. L .half-link-fits h i .apart (f ∙ M e .0)) (λ M. L .half-link-fits k j .apart (sym f ∙ M (sym e) .0))
+  one-half h k i j e f = pairwise-one Mirrors (p .halfLinks) (L .half-links .mirrored) h k i j
+      (λ M. L .half-links .fits h i .apart (f ∙ M e .0)) (λ M. L .half-links .fits k j .apart (sym f ∙ M (sym e) .0))
 
   -- A link is determined by its number and the bridge from which it is seen.
   pub one-link : (l k : Link) → Usable (p .halfLinks) l → Usable (p .halfLinks) k → number l ≡ number k → from l ≡ from k → l ≡ k
@@ -146,10 +145,10 @@ module _ (p : Plan) (L : PlanLaws p) where
   port-crosses l U = ap only (only-one (filter test (usableLinks (p .halfLinks))) l
       (distinct-filter test (usableLinks (p .halfLinks)) (distinct-usable (p .halfLinks) (distinct-half-links p L)))
       (in-filter test l (usableLinks (p .halfLinks)) (says-usable (p .halfLinks) l U)
-      (both (eqb (from l) (from l)) (eqb (l .here .port) (l .here .port)) (eq-eqb (from l) (from l) refl) (eq-eqb (l .here .port) (l .here .port) refl)))
-      (λ k i. let r = filter-in test k (usableLinks (p .halfLinks)) i in same k (usable-says (p .halfLinks) k (r .0))
-      (eqb→eq (from k) (from l) (first-of (eqb (from k) (from l)) (eqb (k .here .port) (l .here .port)) (r .1)))
-      (eqb→eq (k .here .port) (l .here .port) (last-of (eqb (from k) (from l)) (eqb (k .here .port) (l .here .port)) (r .1)))))
+      (equal-two (from l) (from l) (l .here .port) (l .here .port) refl refl))
+      (λ k i. let r = filter-in test k (usableLinks (p .halfLinks)) i in
+      let c = two-equal (from k) (from l) (k .here .port) (l .here .port) (r .1) in
+      same k (usable-says (p .halfLinks) k (r .0)) (c .0) (c .1)))
     where
       test : Link → Bool
       test k = eqb (from k) (from l) && eqb (k .here .port) (l .here .port)
@@ -163,7 +162,8 @@ module _ (p : Plan) (L : PlanLaws p) where
 
   -- Two links that a hop takes, one in each direction, are one link.
   both-ways : (u v : ℕ) (l k : Link) → Takes (p .halfLinks) u v l → Takes (p .halfLinks) v u k → k ≡ turned l
-  both-ways u v l k K M = one-link k (turned l) (M .link) U (equal (compared (linkCost k) (linkCost l)) (compared (number k) (number l)) ∙ K .link .one-number) (M .near ∙ v-near)
+  both-ways u v l k K M = one-link k (turned l) (M .link) U
+      (equal (compared (linkCost k) (linkCost l)) (compared (number k) (number l)) ∙ K .link .one-number) (M .near ∙ v-near)
     where
       U : Usable (p .halfLinks) (turned l)
       U = usable-turned (p .halfLinks) l (K .link)
@@ -180,7 +180,8 @@ module _ (p : Plan) (L : PlanLaws p) where
       not-higher : Lower (linkRank (turned k)) (linkRank l) → ⊥
       not-higher = K .lowest (turned k) W (sym (M .link .far-near) ∙ M .far) (sym (M .link .near-far) ∙ M .near)
 
-      equal : (linkCost k < linkCost l) ⊎ (linkCost k ≡ linkCost l) ⊎ (linkCost l < linkCost k) → (number k < number l) ⊎ (number k ≡ number l) ⊎ (number l < number k) → number k ≡ number l
+      equal : (linkCost k < linkCost l) ⊎ (linkCost k ≡ linkCost l) ⊎ (linkCost l < linkCost k)
+          → (number k < number l) ⊎ (number k ≡ number l) ⊎ (number l < number k) → number k ≡ number l
       equal (inl c) n = absurd (not-higher (inl (omega arith)))
       equal (inr (inr c)) n = absurd (not-lower (inl (omega arith)))
       equal (inr (inl c)) (inl n) = absurd (not-higher (inr (omega arith, inl (omega (arith, M .link .one-number)))))
@@ -192,7 +193,8 @@ module _ (p : Plan) (L : PlanLaws p) where
   hop-turned u v = go (hopLink (p .halfLinks) u v) (hopLink (p .halfLinks) v u) refl refl
     where
       back : (x y : ℕ) (l : Link) → Takes (p .halfLinks) x y l → hopLink (p .halfLinks) y x ≡ none → ⊥
-      back x y l K e = no-hop (p .halfLinks) y x e (turned l) (usable-turned (p .halfLinks) l (K .link)) (sym (K .link .far-near) ∙ K .far) (sym (K .link .near-far) ∙ K .near)
+      back x y l K e = no-hop (p .halfLinks) y x e (turned l) (usable-turned (p .halfLinks) l (K .link)) (sym (K .link .far-near) ∙ K .far)
+          (sym (K .link .near-far) ∙ K .near)
 
       go : (o c : Option Link) → hopLink (p .halfLinks) u v ≡ o → hopLink (p .halfLinks) v u ≡ c → c ≡ Option·map turned o
       go none none e f = refl
@@ -202,7 +204,8 @@ module _ (p : Plan) (L : PlanLaws p) where
 
   -- Every usable link costs at least 1, so a hop costs 0 exactly where two bridges are not joined.
   costs-something : (l : Link) → Usable (p .halfLinks) l → 0 < linkCost l
-  costs-something l U = omega (arith, L .half-link-fits (l .here) (U .here-listed) .metric)
+  costs-something l U =
+      omega (arith, L .half-links .fits (l .here) (U .here-listed) .metric, L .half-links .fits (l .there) (U .there-listed) .metric)
 
   pub hop-joined : (u v : ℕ) (l : Link) → hopLink (p .halfLinks) u v ≡ some l → Joined (graphOf p) u v
   hop-joined u v l e = subst (λ (o : Option Link). 0 < costOf o) (sym e) (costs-something l (hop-takes (p .halfLinks) u v l e .link))
@@ -216,31 +219,33 @@ module _ (p : Plan) (L : PlanLaws p) where
 
   -- The graph of an accepted plan meets what the laws of chosen paths ask.
   pub graph-laws : GraphLaws (graphOf p)
-  graph-laws = record { symmetric = λ u v. go u v (hopLink (p .halfLinks) u v) refl; inside = inside }
+  graph-laws = record {
+    symmetric = λ u v. cost-turned (hopLink (p .halfLinks) u v) ∙ ap costOf (sym (hop-turned u v));
+    inside = inside;
+  }
     where
       cost-turned : (o : Option Link) → costOf o ≡ costOf (Option·map turned o)
       cost-turned none = refl
       cost-turned (some l) = omega arith
 
-      go : (u v : ℕ) (o : Option Link) → hopLink (p .halfLinks) u v ≡ o → costOf (hopLink (p .halfLinks) u v) ≡ costOf (hopLink (p .halfLinks) v u)
-      go u v o e = cost-turned (hopLink (p .halfLinks) u v) ∙ ap costOf (sym (hop-turned u v))
-
       inside : (u v : ℕ) → 0 < costOf (hopLink (p .halfLinks) u v) → u < length (p .bridges)
       inside u v j = let (l, e) = joined-hop u v j in let K = hop-takes (p .halfLinks) u v l e in
-          subst (λ (z : ℕ). z < length (p .bridges)) (K .near) (L .half-link-fits (l .here) (K .link .here-listed) .near-known)
+          subst (λ (z : ℕ). z < length (p .bridges)) (K .near) (L .half-links .fits (l .here) (K .link .here-listed) .near-known)
 
   -- "Two bridges are joined when a usable link connects them".
   pub joined-says : (u v : ℕ) → T (joined (p .halfLinks) u v) → Joined (graphOf p) u v
   unfolding joined
   joined-says u v t = let r = any-in (connects u v) (usableLinks (p .halfLinks)) t in
-      let c = connects-says (p .halfLinks) u v (r .0) (r .2) in
+      let c = two-equal (from (r .0)) u (to (r .0)) v (r .2) in
       go (hopLink (p .halfLinks) u v) refl (r .0) (usable-says (p .halfLinks) (r .0) (r .1)) (c .0) (c .1)
     where
-      go : (o : Option Link) → hopLink (p .halfLinks) u v ≡ o → (l : Link) → Usable (p .halfLinks) l → from l ≡ u → to l ≡ v → Joined (graphOf p) u v
+      go : (o : Option Link) → hopLink (p .halfLinks) u v ≡ o → (l : Link) → Usable (p .halfLinks) l → from l ≡ u → to l ≡ v
+          → Joined (graphOf p) u v
       go none e l U i j = absurd (no-hop (p .halfLinks) u v e l U i j)
       go (some k) e l U i j = hop-joined u v k e
 
   pub says-joined : (u v : ℕ) → Joined (graphOf p) u v → T (joined (p .halfLinks) u v)
   unfolding joined
   says-joined u v j = let (l, e) = joined-hop u v j in let K = hop-takes (p .halfLinks) u v l e in
-      in-any (connects u v) l (usableLinks (p .halfLinks)) (says-usable (p .halfLinks) l (K .link)) (says-connects (p .halfLinks) u v l (K .near) (K .far))
+      in-any (connects u v) l (usableLinks (p .halfLinks)) (says-usable (p .halfLinks) l (K .link))
+      (equal-two (from l) u (to l) v (K .near) (K .far))

@@ -1,5 +1,8 @@
 -- "No bridge's list exceeds 14,931 words" (01, "Entries"): at most 16 times 63 individual entries and 63 times 63 group entries of three
--- words each. Assumes nothing.
+-- words each. A bridge has an individual entry for each other bridge and VID at most. For a transmitting member at another bridge each
+-- listed port leads to a bridge that is neither this one nor the sender, so there are 62 at most. The transmitting members at this bridge
+-- are of different services, so their receivers are different members at other bridges. With `r` members at other bridges that makes at
+-- most 62 r group entries, and r more where a transmitting member is at this bridge, which leaves 63 for r. Assumes nothing.
 use Prim.Native.Nat.{ℕ, _+_, _*_, _≤_, _<_}
 use native.Mathlib.Omega.{arith}
 use mathlib.Core.Path.{_≡_, refl, sym, ap, _∙_, subst}
@@ -19,7 +22,8 @@ use Rattle.rule.specs.Entries.{entryWords, listOf, firstPort, leavingPor
 use Rattle.rule.specs.PlanLaws.{PlanLaws}
 use Rattle.rule.specs.OneRecord.{distinct-vids, one-vid, distinct-members, one-member}
 use Rattle.rule.specs.EntryLaws.{portsTo, portsBehind, others, transmits, listed-port, distinct-ports, receives-says}
-use Rattle.rule.specs.GroupLaws.{few-ports}
+use Rattle.rule.specs.Network.{Network}
+use Rattle.rule.specs.ListedPorts.{few-ports}
 
 at-most-one : (port : List ℕ → Option ℕ) (o : Option (List ℕ)) → length (portsOf port o) ≤ 1
 at-most-one port none = omega arith
@@ -35,9 +39,13 @@ module _ (p : Plan) (L : PlanLaws p) (b : ℕ) (known : b < length (p .bridges))
   unfolding individualEntries
   few-individual v = omega (
     arith,
-    L .few-bridges,
+    L .bridges .few,
     length-flatMap-most (λ d. map (individualEntry p v d) (portsTo p v b d)) 1 (others p v b) (λ d k.
-        omega (arith, length-map (portsTo p v b d) (individualEntry p v d), at-most-one (firstPort (p .halfLinks)) (chosenPath p (v .index) b d))),
+        omega (
+          arith,
+          length-map (portsTo p v b d) (individualEntry p v d),
+          at-most-one (firstPort (p .halfLinks)) (chosenPath p (v .index) b d),
+        )),
     at-most (length (p .bridges)) (b ∷ others p v b)
         (not-self, distinct-filter (λ d. not (eqb d b)) (rising 0 (length (p .bridges))) (distinct-rising 0 (length (p .bridges)))) below,
   )
@@ -47,7 +55,10 @@ module _ (p : Plan) (L : PlanLaws p) (b : ℕ) (known : b < length (p .bridges))
 
       below : (d : ℕ) → In d (b ∷ others p v b) → d < length (p .bridges)
       below d (inl e) = rw e known
-      below d (inr k) = omega (arith, rising-in 0 (length (p .bridges)) d (filter-in (λ d. not (eqb d b)) d (rising 0 (length (p .bridges))) k .0) .1)
+      below d (inr k) = omega (
+        arith,
+        rising-in 0 (length (p .bridges)) d (filter-in (λ d. not (eqb d b)) d (rising 0 (length (p .bridges))) k .0) .1,
+      )
 
   -- The members at this bridge and the others.
   abbrev atThis : Member → Bool
@@ -66,9 +77,13 @@ module _ (p : Plan) (L : PlanLaws p) (b : ℕ) (known : b < length (p .bridges))
   unfolding most
   most-there m f = rw (is-false (eqb (m .bridge) b) (λ t. f (eqb→eq (m .bridge) b t)))
 
-  few-listed : (v : Vid) (m : Member) → In m (p .members) → length (portsBehind p v b m) ≤ most m
+  -- The plan with its own words.
+  abbrev net : (v : Vid) → In v (p .vids) → Network
+  net v k = record { plan = p; laws = L; vid = v; of-plan = k; lists = entryListOf p; written = λ u l. refl }
+
+  few-listed : (v : Vid) → In v (p .vids) → (m : Member) → In m (p .members) → length (portsBehind p v b m) ≤ most m
   unfolding receiverPorts
-  few-listed v m k = go (same-or-not (m .bridge) b)
+  few-listed v i m k = go (same-or-not (m .bridge) b)
     where
       go : (m .bridge ≡ b) ⊎ (m .bridge ≡ b → ⊥) → length (portsBehind p v b m) ≤ most m
       go (inl e) = omega (
@@ -76,17 +91,19 @@ module _ (p : Plan) (L : PlanLaws p) (b : ℕ) (known : b < length (p .bridges))
         most-here m e,
         distinct-within (portsBehind p v b m) (receiverPorts p v b (p .members) m) (distinct-ports (receiverPorts p v b (p .members) m))
             (λ port i. listed-port (receiverPorts p v b (p .members) m) port i .2),
-        length-flatMap-most (λ r. portsOf (leavingPort (p .halfLinks) b) (chosenPath p (v .index) (m .bridge) (r .bridge))) 1 (filter (receives m) (p .members))
+        length-flatMap-most (λ r. portsOf (leavingPort (p .halfLinks) b) (chosenPath p (v .index) (m .bridge) (r .bridge))) 1
+            (filter (receives m) (p .members))
             (λ r i. at-most-one (leavingPort (p .halfLinks) b) (chosenPath p (v .index) (m .bridge) (r .bridge))),
       )
-      go (inr f) = omega (arith, most-there m f, few-ports p L v m k b known (λ e. f (sym e)), L .few-bridges)
+      go (inr f) = omega (arith, most-there m f, few-ports (net v i) m k b known (λ e. f (sym e)), L .bridges .few)
 
   -- The transmitting members of all VIDs: each is a member of one VID.
   abbrev transmitters : List Member
   transmitters = flatMap (λ v. filter (transmits p v b) (p .members)) (p .vids)
 
   transmitter-vid : (v : Vid) (m : Member) → In m (filter (transmits p v b) (p .members)) → In m (p .members) × (m .vid ≡ v .vid)
-  transmitter-vid v m k = let r = filter-in (transmits p v b) m (p .members) k in (r .0, eqb→eq (m .vid) (v .vid) (last-of (m .transmits) (eqb (m .vid) (v .vid)) (r .1)))
+  transmitter-vid v m k = let r = filter-in (transmits p v b) m (p .members) k in
+      (r .0, eqb→eq (m .vid) (v .vid) (last-of (m .transmits) (eqb (m .vid) (v .vid)) (r .1)))
 
   distinct-transmitters : Distinct transmitters
   distinct-transmitters = distinct-flatMap (λ v. filter (transmits p v b) (p .members)) (p .vids)
@@ -110,7 +127,8 @@ module _ (p : Plan) (L : PlanLaws p) (b : ℕ) (known : b < length (p .bridges))
   few-here : total most (here transmitters) ≤ length (elsewhere (p .members))
   few-here = omega (
     arith,
-    total-most most (λ m. length (filter (receives m) (p .members))) (here transmitters) (λ m k. omega (arith, most-here m (here-says m transmitters k .1))),
+    total-most most (λ m. length (filter (receives m) (p .members))) (here transmitters)
+        (λ m k. omega (arith, most-here m (here-says m transmitters k .1))),
     length-flatMap (λ m. filter (receives m) (p .members)) (here transmitters),
     distinct-within (flatMap (λ m. filter (receives m) (p .members)) (here transmitters)) (elsewhere (p .members)) distinct inside,
   )
@@ -125,7 +143,8 @@ module _ (p : Plan) (L : PlanLaws p) (b : ℕ) (known : b < length (p .bridges))
           (λ m k r i j h l.
           let x = receives-says m r (filter-in (receives m) r (p .members) h .1) in
           let y = receives-says k r (filter-in (receives k) r (p .members) l .1) in
-          one-member p L m k (listed m i) (listed k j) (here-says m transmitters i .1 ∙ sym (here-says k transmitters j .1)) (sym (x .1) ∙ y .1) (sym (x .2) ∙ y .2))
+          one-member p L m k (listed m i) (listed k j) (here-says m transmitters i .1 ∙ sym (here-says k transmitters j .1)) (sym (x .1) ∙ y .1)
+          (sym (x .2) ∙ y .2))
 
       inside : (r : Member) → In r (flatMap (λ m. filter (receives m) (p .members)) (here transmitters)) → In r (elsewhere (p .members))
       inside r k =
@@ -143,7 +162,8 @@ module _ (p : Plan) (L : PlanLaws p) (b : ℕ) (known : b < length (p .bridges))
           T-not (atThis m) (filter-in (λ m. not (atThis m)) m transmitters k .1) (eq-eqb (m .bridge) b e)),
     )),
     distinct-within (elsewhere transmitters) (elsewhere (p .members)) (distinct-filter (λ m. not (atThis m)) transmitters distinct-transmitters)
-        (λ m k. let r = filter-in (λ m. not (atThis m)) m transmitters k in in-filter (λ m. not (atThis m)) m (p .members) (transmitter-listed m (r .0)) (r .1)),
+        (λ m k. let r = filter-in (λ m. not (atThis m)) m transmitters k in
+        in-filter (λ m. not (atThis m)) m (p .members) (transmitter-listed m (r .0)) (r .1)),
   )
 
   -- 63 times 63 group entries at most: with a transmitting member at this bridge at most 63 members are elsewhere.
@@ -151,28 +171,36 @@ module _ (p : Plan) (L : PlanLaws p) (b : ℕ) (known : b < length (p .bridges))
   few-group = go (here transmitters) refl
     where
       go : (ms : List Member) → here transmitters ≡ ms → total most transmitters ≤ 3969
-      go [] e = omega (arith, total-parts most atThis transmitters, ap (total most) e, few-elsewhere, filter-parts atThis (p .members), L .few-members)
+      go [] e = omega (
+        arith,
+        total-parts most atThis transmitters,
+        ap (total most) e,
+        few-elsewhere,
+        filter-parts atThis (p .members),
+        L .members .few,
+      )
       go (m ∷ ms) e =
           let k = here-says m transmitters (subst (λ (z : List Member). In m z) (sym e) (inl refl)) in
-          let (xs, ys, f) = in-split m (here (p .members)) (in-filter atThis m (p .members) (transmitter-listed m (k .0)) (eq-eqb (m .bridge) b (k .1))) in
+          let (xs, ys, f) = in-split m (here (p .members))
+          (in-filter atThis m (p .members) (transmitter-listed m (k .0)) (eq-eqb (m .bridge) b (k .1))) in
           omega (
             arith,
             total-parts most atThis transmitters,
             few-here,
             few-elsewhere,
             filter-parts atThis (p .members),
-            L .few-members,
+            L .members .few,
             ap (λ (z : List Member). length z) f,
             length-append xs (m ∷ ys),
           )
 
-  group-entries : (v : Vid) → length (groupEntries p v b (p .members)) ≤ total most (filter (transmits p v b) (p .members))
+  group-entries : (v : Vid) → In v (p .vids) → length (groupEntries p v b (p .members)) ≤ total most (filter (transmits p v b) (p .members))
   unfolding groupEntries
-  group-entries v = omega (
+  group-entries v i = omega (
     arith,
     length-flatMap (λ m. map (groupEntry p v m) (portsBehind p v b m)) (filter (transmits p v b) (p .members)),
     total-most (λ m. length (map (groupEntry p v m) (portsBehind p v b m))) most (filter (transmits p v b) (p .members))
-        (λ m k. omega (arith, length-map (portsBehind p v b m) (groupEntry p v m), few-listed v m (transmitter-vid v m k .0))),
+        (λ m k. omega (arith, length-map (portsBehind p v b m) (groupEntry p v m), few-listed v i m (transmitter-vid v m k .0))),
   )
 
   -- "No bridge's list exceeds 14,931 words."
@@ -182,11 +210,12 @@ module _ (p : Plan) (L : PlanLaws p) (b : ℕ) (known : b < length (p .bridges))
     arith,
     length-flatMap-each entryWords 3 (entriesOf p b) (λ e k. refl),
     length-flatMap (λ v. individualEntries p v b ++ groupEntries p v b (p .members)) (p .vids),
-    total-most (λ v. length (individualEntries p v b ++ groupEntries p v b (p .members))) (λ v. 63 + total most (filter (transmits p v b) (p .members))) (p .vids)
-        (λ v k. omega (arith, length-append (individualEntries p v b) (groupEntries p v b (p .members)), few-individual v, group-entries v)),
+    total-most (λ v. length (individualEntries p v b ++ groupEntries p v b (p .members)))
+        (λ v. 63 + total most (filter (transmits p v b) (p .members))) (p .vids)
+        (λ v k. omega (arith, length-append (individualEntries p v b) (groupEntries p v b (p .members)), few-individual v, group-entries v k)),
     total-add (λ v. 63) (λ v. total most (filter (transmits p v b) (p .members))) (p .vids),
     total-bounded (λ v. 63) 63 (p .vids) (λ v k. omega arith),
     total-flatMap most (λ v. filter (transmits p v b) (p .members)) (p .vids),
     few-group,
-    L .few-vids,
+    L .vids .few,
   )

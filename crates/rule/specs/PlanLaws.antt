@@ -2,6 +2,7 @@
 -- Assumes nothing.
 use Prim.Native.Nat.{ℕ, _≤_, _<_}
 use mathlib.Core.Path.{_≡_}
+use mathlib.Core.List.{List}
 use lib.ListN.{length}
 use Rattle.graph.specs.Members.{In, Pairwise}
 use Rattle.rule.specs.Records.{Bridge, HalfLink, Vid, Member, address}
@@ -36,21 +37,34 @@ pub record HalfLinkFits (bridges : ℕ) (h : HalfLink) : Type 0 where
   pub apart : h .near ≡ h .far → ⊥
 
 -- A member within its ranges, of a bridge and a VID of the plan.
-pub record MemberFits (p : Plan) (m : Member) : Type 0 where
+pub record MemberFits (bridges : ℕ) (vids : List Vid) (m : Member) : Type 0 where
   pub isid : m .isid ≤ 16777214
-  pub bridge-known : m .bridge < length (p .bridges)
-  pub vid-known : (v : Vid) × In v (p .vids) × (v .vid ≡ m .vid)
+  pub bridge-known : m .bridge < bridges
+  pub vid-known : (v : Vid) × In v vids × (v .vid ≡ m .vid)
+
+-- The laws of each of the four lists of records.
+pub record BridgeLaws (bs : List Bridge) : Type 0 where
+  pub few : length bs ≤ 64
+  pub apart : Pairwise BridgesApart bs
+  pub fits : (b : Bridge) → In b bs → b .spSourceId ≤ 1048575
+
+pub record HalfLinkLaws (bridges : ℕ) (hs : List HalfLink) : Type 0 where
+  pub apart : Pairwise PortsApart hs
+  pub mirrored : Pairwise Mirrors hs
+  pub fits : (h : HalfLink) → In h hs → HalfLinkFits bridges h
+
+pub record VidLaws (vs : List Vid) : Type 0 where
+  pub few : length vs ≤ 16
+  pub apart : Pairwise VidsApart vs
+  pub fits : (v : Vid) → In v vs → v .vid ≤ 4094
+
+pub record MemberLaws (bridges : ℕ) (vids : List Vid) (ms : List Member) : Type 0 where
+  pub few : length ms ≤ 64
+  pub apart : Pairwise MembersApart ms
+  pub fits : (m : Member) → In m ms → MemberFits bridges vids m
 
 pub record PlanLaws (p : Plan) : Type 0 where
-  pub few-bridges : length (p .bridges) ≤ 64
-  pub few-vids : length (p .vids) ≤ 16
-  pub few-members : length (p .members) ≤ 64
-  pub bridges-apart : Pairwise BridgesApart (p .bridges)
-  pub ports-apart : Pairwise PortsApart (p .halfLinks)
-  pub vids-apart : Pairwise VidsApart (p .vids)
-  pub members-apart : Pairwise MembersApart (p .members)
-  pub mirrored : Pairwise Mirrors (p .halfLinks)
-  pub bridge-fits : (b : Bridge) → In b (p .bridges) → b .spSourceId ≤ 1048575
-  pub half-link-fits : (h : HalfLink) → In h (p .halfLinks) → HalfLinkFits (length (p .bridges)) h
-  pub vid-fits : (v : Vid) → In v (p .vids) → v .vid ≤ 4094
-  pub member-fits : (m : Member) → In m (p .members) → MemberFits p m
+  pub bridges : BridgeLaws (p .bridges)
+  pub half-links : HalfLinkLaws (length (p .bridges)) (p .halfLinks)
+  pub vids : VidLaws (p .vids)
+  pub members : MemberLaws (length (p .bridges)) (p .vids) (p .members)
