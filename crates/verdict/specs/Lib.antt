@@ -5,3 +5,4 @@ pub mod Faults
 pub mod FaultLaws
 pub mod Steps
 pub mod StepLaws
+pub mod KindLaws

@@ -129,3 +129,42 @@ fn after_end(table: &[u8], s: Shape) -> Step
     }
     Step::End
 }
+
+// The record after those of `s`, whatever its kind.
+pub fn read_record(table: &[u8], s: Shape, ports: &mut [u32], links: &mut [u32]) -> Step
+    requires { ⌜ (4 * wordsRead s ≤ length (now table)) × (length (now table) ≤ 7492) ⌝ }
+    requires { ⌜ Indexes (now ports) (now links) (wordsOf (now table)) s ⌝ }
+    ensures { λ r. ⌜ Stepped (wordsOf (now (table .entry))) s (stepOf (wordsOf (now (table .entry))) (readingAt (wordsOf (now (table .entry))) s)) r ⌝ }
+    ensures { λ r. ⌜ Kept (wordsOf (now (table .entry))) (now (ports .exit)) (now (links .exit)) r ⌝ }
+{
+    let at = s.words_read();
+    let words = table.len() / 4;
+    if words <= at {
+        return Step::Refused {
+            number: 3,
+            kind: RecordKind::None,
+            word: words as u32,
+        };
+    }
+    let kind = word_at(table, at) / 268435456;
+    if kind == 1 {
+        return after_bridge(table, s);
+    }
+    if kind == 2 {
+        return after_half_link(table, s, ports, links);
+    }
+    if kind == 3 {
+        return after_vid(table, s);
+    }
+    if kind == 4 {
+        return after_member(table, s);
+    }
+    if kind == 15 {
+        return after_end(table, s);
+    }
+    Step::Refused {
+        number: 2,
+        kind: RecordKind::None,
+        word: at as u32,
+    }
+}
