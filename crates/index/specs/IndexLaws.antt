@@ -3,11 +3,11 @@ use Prim.Native.Nat.{ℕ, zero, suc, _+_, _-_, _%_, _≤_, _<_}
 use native.Mathlib.Omega.{arith}
 use native.Mathlib.Numerals.{add-one}
 use mathlib.Core.Path.{_≡_, refl, sym, ap, _∙_}
-use mathlib.Core.List.{List, replicate}
+use mathlib.Core.List.{List}
 use mathlib.Core.Logic.{_⊎_, inl, inr}
 use mathlib.Core.Bool.{Bool, true, false}
 use lib.Dec.{eqb}
-use lib.ListN.{length, getD, set, length-set}
+use lib.ListN.{length, getD, set, replicate, length-set, length-replicate, getD-replicate}
 use lib.Seq.{getD-set-same, getD-set-other}
 use borrow.Author.Tests.{eq-eqb, ne-eqb, eqb-true}
 use Rattle.graph.specs.ListLaws.{le-or-gt, same-or-not}
@@ -131,6 +131,10 @@ no-keys s e z =
       last = λ r l. z r l ∙ sym (last-none (hasRemainder s r));
       earlier = λ i l. absurd (omega arith);
     }
+
+pub no-keys-yet : Indexed (replicate 1536 0) 0
+no-keys-yet =
+    no-keys (replicate 1536 0) (length-replicate {A = ℕ} 1536 0) (λ r l. getD-replicate {A = ℕ} 1536 r 0 0 (omega arith))
 
 -- The list `s` with the key, the last place of its remainder and the new last place stored.
 abbrev pub stored : List ℕ → ℕ → ℕ → List ℕ

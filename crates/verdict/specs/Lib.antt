@@ -6,3 +6,4 @@ pub mod FaultLaws
 pub mod Steps
 pub mod StepLaws
 pub mod KindLaws
+pub mod Examination

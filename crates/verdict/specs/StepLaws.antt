@@ -292,12 +292,23 @@ half-link-there t s e =
 
 -- A refusal keeps nothing.
 pub refused-keeps :
-    {ws ports links : List ℕ} {number at : ℕ} {kind : RecordKind} {r : Step} → r ≡ Step.Refused number kind at → Kept ws ports links r
-refused-keeps e t n = let z : _≡_ {A = ℕ} 0 1 = cc in absurd (omega arith)
+    {ws ports links : List ℕ} {s : Shape} {number at : ℕ} {kind : RecordKind} {r : Step} →
+    r ≡ Step.Refused number kind at →
+    Kept ws ports links s r
+refused-keeps e =
+    record {
+      next = λ t n. let z : _≡_ {A = ℕ} 0 1 = cc in absurd (omega arith);
+      at-end = λ n. let z : _≡_ {A = ℕ} 0 1 = cc in absurd (omega arith);
+    }
 
 -- A record taken keeps what holds of its shape.
-pub taken-keeps : {ws ports links : List ℕ} {u : Shape} {r : Step} → Indexes ports links ws u → r ≡ Step.Next u → Kept ws ports links r
-taken-keeps {ws} {ports} {links} {u} x e t n = let z : u ≡ t = cc in subst (λ (y : Shape). Indexes ports links ws y) z x
+pub taken-keeps :
+    {ws ports links : List ℕ} {s u : Shape} {r : Step} → Indexes ports links ws u → r ≡ Step.Next u → Kept ws ports links s r
+taken-keeps {ws} {ports} {links} {s} {u} x e =
+    record {
+      next = λ t n. let z : u ≡ t = cc in subst (λ (y : Shape). Indexes ports links ws y) z x;
+      at-end = λ n. let z : _≡_ {A = ℕ} 0 1 = cc in absurd (omega arith);
+    }
 
 -- The half-links stand where they stood
 
@@ -321,16 +332,13 @@ pub member-stands : (ws : List ℕ) (s : Shape) → Stands s (withMember ws s)
 member-stands ws s = record { count = refl; place = inr refl }
 
 -- so the indexes are theirs still.
-pub still-keeps : {ws ports links : List ℕ} {s : Shape} {r : Step} → Indexes ports links ws s → Still s r → Kept ws ports links r
-still-keeps {ws} {ports} {links} {s} x h t n = go (h t n .place)
+pub still-keeps : {ws ports links : List ℕ} {s : Shape} {r : Step} → Indexes ports links ws s → Still s r → Kept ws ports links s r
+still-keeps {ws} {ports} {links} {s} x h = record { next = λ t n. go t (h t n .count) (h t n .place); at-end = λ n. x }
   where
-    e : t .«half_links» ≡ s .«half_links»
-    e = h t n .count
-
-    go : (s .«half_links» ≡ 0) ⊎ (t .bridges ≡ s .bridges) → Indexes ports links ws t
-    go (inl z) =
+    go : (t : Shape) → t .«half_links» ≡ s .«half_links» → (s .«half_links» ≡ 0) ⊎ (t .bridges ≡ s .bridges) → Indexes ports links ws t
+    go t e (inl z) =
         record {
           by-port = keyed-none portKey ports ws (halfLinksFrom t) (t .«half_links») (rw e (x .by-port .indexed)) (e ∙ z);
           by-number = keyed-none numberKey links ws (halfLinksFrom t) (t .«half_links») (rw e (x .by-number .indexed)) (e ∙ z);
         }
-    go (inr b) = record { by-port = rw (e, b) (x .by-port); by-number = rw (e, b) (x .by-number) }
+    go t e (inr b) = record { by-port = rw (e, b) (x .by-port); by-number = rw (e, b) (x .by-number) }

@@ -49,6 +49,7 @@ pub record Stands (s t : Shape) : Type 0 where
 abbrev pub Still : Shape → Step → Type 0
 Still s r = (t : Shape) → r ≡ Step.Next t → Stands s t
 
--- After a record taken the half-links read are in the two indexes.
-abbrev pub Kept : List ℕ → List ℕ → List ℕ → Step → Type 0
-Kept ws ports links r = (t : Shape) → r ≡ Step.Next t → Indexes ports links ws t
+-- After a record taken, and after the end record, the half-links read are in the two indexes.
+pub record Kept (ws ports links : List ℕ) (s : Shape) (r : Step) : Type 0 where
+  pub next : (t : Shape) → r ≡ Step.Next t → Indexes ports links ws t
+  pub at-end : r ≡ Step.End → Indexes ports links ws s

@@ -69,7 +69,7 @@ fn after_half_link(table: &[u8], s: Shape, ports: &mut [u32], links: &mut [u32])
     requires { ⌜ (4 * wordsRead s ≤ length (now table)) × (length (now table) ≤ 7492) ⌝ }
     requires { ⌜ Indexes (now ports) (now links) (wordsOf (now table)) s ⌝ }
     ensures { λ r. ⌜ Stepped (wordsOf (now (table .entry))) s (stepAs (wordsOf (now (table .entry))) s halfLinkLayout) r ⌝ }
-    ensures { λ r. ⌜ Kept (wordsOf (now (table .entry))) (now (ports .exit)) (now (links .exit)) r ⌝ }
+    ensures { λ r. ⌜ Kept (wordsOf (now (table .entry))) (now (ports .exit)) (now (links .exit)) s r ⌝ }
 {
     let fault = half_link_fault(table, s, &ports[..], &links[..]);
     let at = s.words_read();
@@ -135,7 +135,7 @@ pub fn read_record(table: &[u8], s: Shape, ports: &mut [u32], links: &mut [u32])
     requires { ⌜ (4 * wordsRead s ≤ length (now table)) × (length (now table) ≤ 7492) ⌝ }
     requires { ⌜ Indexes (now ports) (now links) (wordsOf (now table)) s ⌝ }
     ensures { λ r. ⌜ Stepped (wordsOf (now (table .entry))) s (stepOf (wordsOf (now (table .entry))) (readingAt (wordsOf (now (table .entry))) s)) r ⌝ }
-    ensures { λ r. ⌜ Kept (wordsOf (now (table .entry))) (now (ports .exit)) (now (links .exit)) r ⌝ }
+    ensures { λ r. ⌜ Kept (wordsOf (now (table .entry))) (now (ports .exit)) (now (links .exit)) s r ⌝ }
 {
     let at = s.words_read();
     let words = table.len() / 4;
