@@ -1,0 +1,35 @@
+-- `spb::exported::spb_check` gives the number of the verdict. Assumes nothing.
+use Rattle.index.specs.IndexLaws.{no-keys-yet}
+use Rattle.spb.specs.ExportedLaws.{accepted-number, refused-number}
+use borrow.Author.Needs.{needs}
+use Rattle.spb.proofs.exported.spb_check.Statement.{statement}
+use Rattle.spb.proofs.exported.spb_check.Tie as tie
+
+slice-aggregate-examine : tie.Need-slice-aggregate-examine
+slice-aggregate-examine c = search needs
+
+examine-requires : tie.Need-examine-requires
+examine-requires c κs = no-keys-yet
+
+enum-told : tie.Need-enum-told
+enum-told c = search needs
+
+enum-known-examined : tie.Need-enum-known-examined
+enum-known-examined c = search needs
+
+returns : tie.Need-returns
+returns c = accepted-number (c .before .before .before .before .before .before .args .table .now) (c .before .before .before .examine .result) (c .before .before .before .examine .ensures .0) _ (c .enum-told .given .1)
+
+returns-2 : tie.Need-returns-2
+returns-2 c = refused-number (c .before .before .before .before .before .before .before .args .table .now) (c .before .before .before .before .examine .result) (c .before .before .before .before .examine .ensures .0) _ _ _ (c .before .examined .given .1)
+
+pub spb-check-spec : {M : Type 1} → statement M
+spb-check-spec =
+    tie.close
+    (tie.spec
+    slice-aggregate-examine
+    examine-requires
+    enum-told
+    enum-known-examined
+    returns
+    returns-2)

@@ -1,0 +1,2 @@
+-- What the exported functions give, from the verdict.
+pub mod ExportedLaws
