@@ -13,9 +13,9 @@ use reference::records::Plan;
 use reference::rules::Rules;
 
 const USAGE: Usage = Usage {
-    text: "compare-exported --library FILE --program FILE [--seed N] [--first N] [--count N] [--require]",
+    text: "compare-exported --library FILE --program FILE [--seed N] [--first N] [--count N] [--check-only] [--require]",
     values: &["library", "program", "seed", "first", "count"],
-    flags: &["require"],
+    flags: &["check-only", "require"],
 };
 
 /// VID, from and to.
@@ -36,7 +36,10 @@ fn main() -> ExitCode {
         Err(why) => arguments.refuse(&format!("{program} does not start: {why}")),
     };
     run.compare("compare-exported", &mut |case| {
-        let questions = questions(&case.table, &mut Random::for_case(!run.seed, case.number));
+        let mut questions = questions(&case.table, &mut Random::for_case(!run.seed, case.number));
+        if arguments.has("check-only") {
+            questions.clear();
+        }
         let expected = expected(&case.table, &questions);
         let tried = answers.ask(&case.table, &questions);
         difference(&questions, &expected, tried)

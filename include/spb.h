@@ -1,0 +1,36 @@
+/* The functions that the library libspb.a exports to C. Numbers and byte slices go in, a number comes out; nothing is kept between
+ * two calls, no memory is allocated and none is written. The contracts, equations with the written rule, are proved:
+ * crates/spb/src/exported.rt.
+ *
+ * `table` points to `len` bytes that can be read. */
+#ifndef SPB_H
+#define SPB_H
+
+#include <stddef.h>
+#include <stdint.h>
+
+#ifdef __cplusplus
+extern "C" {
+#endif
+
+/* Examines a table. Gives 0 where the table is accepted, or the number of the refusal:
+ *
+ *    1  the length is 0, above 7,492 bytes, or no multiple of 4
+ *    2  a record's kind is unknown or lower than that of the record before
+ *    3  a record's words are not all there, or there is no end record
+ *    4  a zero bit is set
+ *    5  there is one record more of a kind than the limit
+ *    6  a value is outside its range, or the end count is wrong
+ *    7  a bridge or VID that is named has no record, or near and far bridge are equal
+ *    8  a record repeats an earlier one
+ *    9  a third half-link of a link number, or a second that is no mirror of the first
+ *   10  words follow the end record
+ *
+ * The first faulty record counts, and of its faults the lowest. */
+uint32_t spb_check(const uint8_t *table, size_t len);
+
+#ifdef __cplusplus
+}
+#endif
+
+#endif
