@@ -3,7 +3,7 @@
 use Prim.Native.Nat.{ℕ, zero, suc, _+_, _*_, _/_, _%_, _≤_, _<_}
 use mathlib.Core.Path.{_≡_}
 use mathlib.Core.List.{List}
-use mathlib.Core.Bool.{Bool}
+use mathlib.Core.Bool.{Bool, not, _&&_}
 use lib.Dec.{eqb}
 use lib.ListN.{length, getD}
 use Rattle.index.specs.Places.{lastPlace}
@@ -45,3 +45,8 @@ pub record Entered (s t : List ℕ) (n key : ℕ) : Type 0 where
 abbrev pub earlierPlace : List ℕ → ℕ → ℕ
 earlierPlace s zero = 0
 earlierPlace s (suc i) = lastPlace (holds s (keyAt s i)) i
+
+-- The last other place that holds the key which `place` holds.
+abbrev pub otherPlace : List ℕ → ℕ → ℕ → ℕ
+otherPlace s n zero = 0
+otherPlace s n (suc i) = lastPlace (λ k. holds s (keyAt s i) k && not (eqb k i)) n

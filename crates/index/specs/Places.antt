@@ -3,8 +3,11 @@
 use Prim.Native.Nat.{ℕ, zero, suc, _≤_, _<_}
 use native.Mathlib.Omega.{arith}
 use mathlib.Core.Path.{_≡_, refl, sym, ap, _∙_}
-use mathlib.Core.Logic.{_⊎_}
-use mathlib.Core.Bool.{Bool, true, false, cond}
+use mathlib.Core.Logic.{_⊎_, inl, inr}
+use mathlib.Core.Bool.{Bool, true, false, cond, not, _&&_, and-true, and-false}
+use lib.Dec.{eqb}
+use borrow.Author.Tests.{eq-eqb, ne-eqb}
+use Rattle.graph.specs.ListLaws.{le-or-gt}
 
 unfoldable pub lastPlace : (ℕ → Bool) → ℕ → ℕ
 lastPlace test zero = 0
@@ -42,6 +45,25 @@ module _ (test : ℕ → Bool) where
       go true h e ih = rw (ap (λ (k : ℕ). test k) (let z : i ≡ n = omega arith in z)) h
       go false h e ih = ih e
 
+  -- Where there is no last place, nothing passes.
+  pub none-passes : (n : ℕ) → lastPlace test n ≡ 0 → (i : ℕ) → i < n → test i ≡ true → ⊥
+  none-passes zero e i l h = absurd (omega arith)
+  none-passes (suc n) e i l h = go (test n) refl (le-or-gt n i) (none-passes n)
+    where
+      go :
+          (b : Bool) →
+          test n ≡ b →
+          (n ≤ i) ⊎ (i < n) →
+          (lastPlace test n ≡ 0 → (i : ℕ) → i < n → test i ≡ true → ⊥) →
+          ⊥
+      go true f m ih = omega (arith, last-here n f)
+      go false f (inl m) ih =
+          let z : i ≡ n = omega arith
+          in let d : true ≡ false = sym h ∙ ap test z ∙ f
+          in let y : _≡_ {A = ℕ} 0 1 = cc
+          in omega arith
+      go false f (inr m) ih = ih (sym (last-earlier n f) ∙ e) i m h
+
 -- Where every place that passes one test passes another, the last place of the first is found from the last place of the second.
 pub last-through :
     (test wider : ℕ → Bool) →
@@ -65,3 +87,46 @@ pub last-same : (test other : ℕ → Bool) (n : ℕ) → ((i : ℕ) → i < n �
 unfolding lastPlace
 last-same test other zero h = refl
 last-same test other (suc n) h = rw (h n (omega arith), last-same test other n (λ i l. h i (omega arith)))
+
+-- The last place but one that passes: where that one is the last, the last before it.
+module _ (test : ℕ → Bool) (i : ℕ) (h : test i ≡ true) where
+  abbrev but : ℕ → Bool
+  but k = test k && not (eqb k i)
+
+  below : lastPlace but i ≡ lastPlace test i
+  below = last-same but test i λ k l. rw (ne-eqb k i (λ e. absurd (omega arith))) (and-true (test k))
+
+  but-here : but i ≡ false
+  but-here = rw (eq-eqb i i refl) (and-false (test i))
+
+  but-there : (k : ℕ) → i < k → but k ≡ test k
+  but-there k l = rw (ne-eqb k i (λ e. absurd (omega arith))) (and-true (test k))
+
+  pub last-but-last : (n : ℕ) → i < n → lastPlace test n ≡ suc i → lastPlace but n ≡ lastPlace test i
+  last-but-last zero l e = absurd (omega arith)
+  last-but-last (suc n) l e = go (le-or-gt n i) (test n) refl (last-but-last n)
+    where
+      go :
+          (n ≤ i) ⊎ (i < n) →
+          (b : Bool) →
+          test n ≡ b →
+          (i < n → lastPlace test n ≡ suc i → lastPlace but n ≡ lastPlace test i) →
+          lastPlace but (suc n) ≡ lastPlace test i
+      go (inl m) b f ih = let z : n ≡ i = omega arith in rw z (last-earlier but i but-here ∙ below)
+      go (inr m) true f ih = absurd (omega (arith, last-here test n f))
+      go (inr m) false f ih = last-earlier but n (but-there n m ∙ f) ∙ ih m (sym (last-earlier test n f) ∙ e)
+
+  pub last-but-other : (n : ℕ) → i < n → (lastPlace test n ≡ suc i → ⊥) → lastPlace but n ≡ lastPlace test n
+  last-but-other zero l e = absurd (omega arith)
+  last-but-other (suc n) l e = go (le-or-gt n i) (test n) refl (last-but-other n)
+    where
+      go :
+          (n ≤ i) ⊎ (i < n) →
+          (b : Bool) →
+          test n ≡ b →
+          (i < n → (lastPlace test n ≡ suc i → ⊥) → lastPlace but n ≡ lastPlace test n) →
+          lastPlace but (suc n) ≡ lastPlace test (suc n)
+      go (inl m) b f ih = let z : n ≡ i = omega arith in absurd (e (rw z (last-here test i h)))
+      go (inr m) true f ih = last-here but n (but-there n m ∙ f) ∙ sym (last-here test n f)
+      go (inr m) false f ih =
+          last-earlier but n (but-there n m ∙ f) ∙ ih m (λ d. e (last-earlier test n f ∙ d)) ∙ sym (last-earlier test n f)

@@ -1,7 +1,7 @@
 // Finding a key: along the chain of its remainder, from later places to earlier ones.
 ghost use mathlib.Core.Path.{_≡_};
 ghost use Prim.Native.Nat.{_≤_, _<_};
-ghost use Rattle.index.specs.Index.{remainder, InChain, Indexed, holds, earlierPlace};
+ghost use Rattle.index.specs.Index.{remainder, InChain, Indexed, holds, earlierPlace, otherPlace};
 ghost use Rattle.index.specs.Places.{lastPlace};
 
 // Which chain a key belongs to.
@@ -43,4 +43,17 @@ pub fn place_before(index: &[u32], count: usize, place: u32) -> u32
 {
     let at = place as usize;
     last_in_chain(index, count, index[1023 + at], index[511 + at])
+}
+
+// The last other place that holds the key which `place` holds.
+pub fn other_place(index: &[u32], count: usize, place: u32) -> u32
+    requires { ⌜ Indexed (now index) count × (1 ≤ place) × (place ≤ count) ⌝ }
+    ensures { λ r. ⌜ r ≡ otherPlace (now (index .entry)) count place ⌝ }
+{
+    let at = place as usize;
+    let last = last_place(index, count, index[511 + at]);
+    if last != place {
+        return last;
+    }
+    place_before(index, count, place)
 }

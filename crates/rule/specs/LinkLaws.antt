@@ -124,7 +124,7 @@ module _ (hs : List HalfLink) where
 
 module _ (p : Plan) (L : PlanLaws p) where
   -- A half-link is determined by its link number and its near bridge: the other of that number has the near bridge for its far one.
-  one-half : (h k : HalfLink) → In h (p .halfLinks) → In k (p .halfLinks) → h .link ≡ k .link → h .near ≡ k .near → h ≡ k
+  pub one-half : (h k : HalfLink) → In h (p .halfLinks) → In k (p .halfLinks) → h .link ≡ k .link → h .near ≡ k .near → h ≡ k
   one-half h k i j e f = pairwise-one Mirrors (p .halfLinks) (L .half-links .mirrored) h k i j
       (λ M. L .half-links .fits h i .apart (f ∙ M e .0)) (λ M. L .half-links .fits k j .apart (sym f ∙ M (sym e) .0))
 

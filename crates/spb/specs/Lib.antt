@@ -1,2 +1,3 @@
--- What the exported functions give, from the verdict.
+-- What the calls and the exported functions give, from the verdict.
+pub mod CheckLaws
 pub mod ExportedLaws

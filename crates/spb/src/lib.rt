@@ -1,2 +1,3 @@
-// The library's face. So far: the check exported to C.
+// The library's face: the calls, and the functions exported to C.
+pub mod calls;
 pub mod exported;

@@ -2,11 +2,14 @@
 use Prim.Native.Nat.{ℕ, zero, suc, _+_, _*_, _≤_, _<_}
 use native.Mathlib.Omega.{arith}
 use native.Mathlib.Numerals.{add-one}
-use mathlib.Core.Path.{_≡_, refl, sym, ap, _∙_}
+use mathlib.Core.Path.{_≡_, refl, sym, ap, _∙_, subst}
 use mathlib.Core.List.{List, [], _∷_, _++_, map, map-append}
 use mathlib.Core.Bool.{Bool, true, false, _||_}
-use lib.ListN.{length, getD, drop}
-use Rattle.graph.specs.Lists.{rising, any, filter, consIf}
+use mathlib.Core.Logic.{_⊎_, inl, inr}
+use lib.ListN.{length, drop}
+use Rattle.graph.specs.Lists.{rising, any}
+use Rattle.graph.specs.Members.{In, Pairwise}
+use Rattle.graph.specs.ListLaws.{le-or-gt, in-map, map-in, in-rising, rising-in}
 use Rattle.graph.specs.Searching.{Searching, search-on, search-finds, search-ends, rising-more}
 use Rattle.table.specs.Positions.{recordAt, recordsAt}
 
@@ -15,6 +18,26 @@ module _ {A B : Type 0} (f : A → B) where
   unfolding any
   any-map test [] = refl
   any-map test (x ∷ xs) = ap (λ (b : Bool). test (f x) || b) (any-map test xs)
+
+-- A relation along the values of rising numbers.
+pairwise-rising :
+    {A : Type 0} (f : ℕ → A) (R : A → A → Type 0) (k n : ℕ) →
+    Pairwise R (map f (rising k n)) →
+    (i j : ℕ) →
+    k ≤ i →
+    i < j →
+    j < k + n →
+    R (f i) (f j)
+unfolding rising
+pairwise-rising f R k zero P i j h l m = absurd (omega arith)
+pairwise-rising f R k (suc n) P i j h l m = go (le-or-gt i k) (pairwise-rising f R (suc k) n (P .1) i j)
+  where
+    go : (i ≤ k) ⊎ (k < i) → (suc k ≤ i → i < j → j < suc k + n → R (f i) (f j)) → R (f i) (f j)
+    go (inl e) ih =
+        let z : k ≡ i = omega arith
+        in subst (λ (x : ℕ). R (f x) (f j)) z
+        (P .0 (f j) (in-map f j (rising (suc k) n) (in-rising (suc k) n j (omega arith) (omega arith))))
+    go (inr e) ih = ih e l (omega arith)
 
 module _ {A : Type 0} (decoded : List ℕ → A) (width from : ℕ) (ws : List ℕ) where
   pub no-records : recordsAt decoded width from ws 0 ≡ []
@@ -41,6 +64,27 @@ module _ {A : Type 0} (decoded : List ℕ → A) (width from : ℕ) (ws : List �
   pub search-records : (test : A → Bool) (n : ℕ) → any test (recordsAt decoded width from ws n) ≡ any (λ i. test (recordAt decoded width from ws i)) (rising 0 n)
   unfolding recordsAt
   search-records test n = any-map (recordAt decoded width from ws) test (rising 0 n)
+
+  pub record-in : (n i : ℕ) → i < n → In (recordAt decoded width from ws i) (recordsAt decoded width from ws n)
+  unfolding recordsAt
+  record-in n i l = in-map (recordAt decoded width from ws) i (rising 0 n) (in-rising 0 n i (omega arith) (omega arith))
+
+  pub in-records :
+      (n : ℕ) (x : A) → In x (recordsAt decoded width from ws n) → (i : ℕ) × (i < n) × (x ≡ recordAt decoded width from ws i)
+  unfolding recordsAt
+  in-records n x h =
+      let (i, k, e) = map-in (recordAt decoded width from ws) x (rising 0 n) h
+      in (i, omega (arith, rising-in 0 n i k .1), e)
+
+  pub pairwise-records :
+      (R : A → A → Type 0) (n : ℕ) →
+      Pairwise R (recordsAt decoded width from ws n) →
+      (i j : ℕ) →
+      i < j →
+      j < n →
+      R (recordAt decoded width from ws i) (recordAt decoded width from ws j)
+  unfolding recordsAt
+  pairwise-records R n P i j l m = pairwise-rising (recordAt decoded width from ws) R 0 n P i j (omega arith) l (omega arith)
 
   -- Of no records it does not matter where they would stand.
   pub none-anywhere :

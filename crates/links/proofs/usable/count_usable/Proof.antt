@@ -1,0 +1,51 @@
+-- `links::usable::count_usable` adds what each half-link counts for. Assumes nothing.
+use native.Mathlib.Omega.{arith}
+use Prim.Native.Nat.{_-_}
+use Rattle.rule.specs.Words.{wordsOf}
+use Rattle.table.specs.Positions.{planAt}
+use Rattle.links.specs.Mates.{halfLinkAt}
+use Rattle.links.specs.CountLaws.{Counting, counting-starts, counting-goes-on, counting-ends, counted-most}
+use borrow.Author.Needs.{needs}
+use Rattle.links.proofs.usable.count_usable.Statement.{statement}
+use Rattle.links.proofs.usable.count_usable.Tie as tie
+
+abbrev Inv-loop : tie.InvT-loop
+Inv-loop table s links count₀ i₀ count i = Counting (wordsOf table) s i count
+
+abbrev μ-loop : tie.MeasureT-loop
+μ-loop table s links count₀ i₀ count i = s .«half_links» - i
+
+loop-holds : tie.Need-loop-holds Inv-loop μ-loop
+loop-holds c = counting-starts (wordsOf (c .before .before .args .table .now)) (c .before .before .args .s)
+
+count-one-requires : tie.Need-count-one-requires Inv-loop μ-loop
+count-one-requires c κs = search needs
+
+add-count : tie.Need-add-count Inv-loop μ-loop
+add-count c = omega (arith, c .count-one .ensures, counted-most (planAt (wordsOf (c .before .before .before .before .before .before .args .table .now)) (c .before .before .before .before .before .before .args .s) .halfLinks) (halfLinkAt (wordsOf (c .before .before .before .before .before .before .args .table .now)) (c .before .before .before .before .before .before .args .s) (c .before .before .before .loop .i)), c .before .before .before .loop .inv .most, c .before .before .before .before .before .before .pre .bounded, c .before .before .before .before .before .before .pre .whole)
+
+add-i : tie.Need-add-i Inv-loop μ-loop
+add-i c = search needs
+
+loop-less : tie.Need-loop-less Inv-loop μ-loop
+loop-less c = search needs
+
+loop-again : tie.Need-loop-again Inv-loop μ-loop
+loop-again c = counting-goes-on (wordsOf (c .before .before .before .before .before .before .args .table .now)) (c .before .before .before .before .before .before .args .s) (c .before .before .before .loop .inv) (c .count-one .result) (c .before .if1 .taken) (c .count-one .ensures)
+
+returns : tie.Need-returns Inv-loop μ-loop
+returns c = counting-ends (wordsOf (c .before .before .before .before .before .args .table .now)) (c .before .before .before .before .before .args .s) (c .before .before .loop .inv) (c .before .before .before .before .before .pre .laws) (c .if1 .left)
+
+pub count-usable-spec : {M : Type 1} → statement M
+count-usable-spec =
+    tie.close
+    (tie.spec
+    Inv-loop
+    μ-loop
+    loop-holds
+    count-one-requires
+    add-count
+    add-i
+    loop-less
+    loop-again
+    returns)

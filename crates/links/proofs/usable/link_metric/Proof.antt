@@ -1,0 +1,49 @@
+-- `links::usable::link_metric` combines the metrics of the half-link and of its mate, which the index has. Assumes nothing.
+use native.Mathlib.Omega.{arith}
+use mathlib.Core.Path.{_∙_}
+use Rattle.table.specs.Readers.{halfLinkValues}
+use Rattle.links.specs.MateLaws.{mate-within, metric-alone, metric-linked}
+use borrow.Author.Needs.{needs}
+use Rattle.links.proofs.usable.link_metric.Statement.{statement}
+use Rattle.links.proofs.usable.link_metric.Tie as tie
+
+cast-other-place : tie.Need-cast-other-place
+cast-other-place c = search needs
+
+add-other-place : tie.Need-add-other-place
+add-other-place c = search needs
+
+other-place-requires : tie.Need-other-place-requires
+other-place-requires c κs = search needs
+
+returns : tie.Need-returns
+returns c = metric-alone (c .before .before .before .before .pre .0) (c .before .before .before .before .args .i) (c .before .before .before .before .pre .1) (halfLinkValues (c .before .before .before .before .args .h)) (c .before .before .before .before .pre .2) (c .before .other-place .result) (c .before .other-place .ensures) (c .if1 .taken)
+
+cast-half-link : tie.Need-cast-half-link
+cast-half-link c = search needs
+
+sub-half-link : tie.Need-sub-half-link
+sub-half-link c = search needs
+
+half-link-requires : tie.Need-half-link-requires
+half-link-requires c κs = (c .before .before .before .before .pre .0 .whole, c .before .before .before .before .pre .0 .bounded, omega (arith, mate-within (c .before .before .before .before .pre .0) (c .before .before .before .before .args .i) (c .before .before .before .before .pre .1) (halfLinkValues (c .before .before .before .before .args .h)) (c .before .before .before .before .pre .2) (c .before .other-place .result) (c .before .other-place .ensures)))
+
+combined-requires : tie.Need-combined-requires
+combined-requires c κs = search needs
+
+returns-2 : tie.Need-returns-2
+returns-2 c = c .combined .ensures ∙ metric-linked (c .before .before .before .before .before .before .pre .0) (c .before .before .before .before .before .before .args .i) (c .before .before .before .before .before .before .pre .1) (halfLinkValues (c .before .before .before .before .before .before .args .h)) (c .before .before .before .before .before .before .pre .2) (c .before .before .before .other-place .result) (c .before .before .before .other-place .ensures) (c .before .before .if1 .left) (halfLinkValues (c .before .half-link .result)) (c .before .half-link .ensures)
+
+pub link-metric-spec : {M : Type 1} → statement M
+link-metric-spec =
+    tie.close
+    (tie.spec
+    cast-other-place
+    add-other-place
+    other-place-requires
+    returns
+    cast-half-link
+    sub-half-link
+    half-link-requires
+    combined-requires
+    returns-2)

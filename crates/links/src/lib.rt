@@ -1,0 +1,2 @@
+// The links of a table that passed the check (01, "Links").
+pub mod usable;
