@@ -9,7 +9,7 @@ use mathlib.Core.Bool.{Bool, true, false, cond, _||_, _&&_}
 use lib.Dec.{T, eqb, ltb, leb, ltb→lt, lt→ltb, leb→le, le→leb}
 use lib.ListN.{length, getD, set, length-set}
 use lib.Seq.{getD-set-same, getD-set-other}
-use Rattle.graph.specs.ListLaws.{both, first-of, last-of}
+use Rattle.graph.specs.ListLaws.{both, first-of, last-of, same-or-not}
 use Rattle.tree.specs.Labels.{noCost, Label, labelAt, taken, settledLabels, stateOf}
 
 -- Labels with the same five numbers are the same.
@@ -82,6 +82,16 @@ module _ (labels : List ℕ) (root u : ℕ) where
       (unwritten (128 + x) (omega arith) (omega arith))
       (unwritten (192 + x) (omega arith) (omega arith))
       (unwritten (256 + x) (omega arith) (omega arith))
+
+  -- Its own cost, hops and next hop, and those of every other bridge, are as they were.
+  pub settling-keeps : (x : ℕ) → x < 64 → u < 64 → 320 ≤ length labels → (a : ℕ) × (b : ℕ) × (labelAt (settledLabels labels root u) x
+      ≡ record { waits = a; far = labelAt labels x .far; steps = labelAt labels x .steps; next = labelAt labels x .next; first = b })
+  settling-keeps x i l has = go (same-or-not x u)
+    where
+      go : (x ≡ u) ⊎ (x ≡ u → ⊥) → (a : ℕ) × (b : ℕ) × (labelAt (settledLabels labels root u) x
+          ≡ record { waits = a; far = labelAt labels x .far; steps = labelAt labels x .steps; next = labelAt labels x .next; first = b })
+      go (inl e) = rw e (noCost, firstHop, label-settled l has)
+      go (inr f) = (labelAt labels x .waits, labelAt labels x .first, label-unsettled x i l f)
 
 -- What it is to be settled, in numbers.
 module _ (n : ℕ) (labels rows : List ℕ) (u : ℕ) where

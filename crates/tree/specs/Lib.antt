@@ -6,3 +6,6 @@ pub mod Relaxing
 pub mod RelaxingLaws
 pub mod Settling
 pub mod SettlingLaws
+pub mod Trees
+pub mod Tracked
+pub mod StepLaws
