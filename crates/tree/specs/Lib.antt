@@ -8,4 +8,6 @@ pub mod Settling
 pub mod SettlingLaws
 pub mod Trees
 pub mod Tracked
+pub mod TreeLaws
 pub mod StepLaws
+pub mod StartLaws

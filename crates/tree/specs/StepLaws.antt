@@ -14,8 +14,6 @@ use Rattle.graph.specs.OrderLaws.{sorted-upward}
 use Rattle.graph.specs.ListLaws.{same-or-not, le-or-gt}
 use Rattle.graph.specs.Graph.{Graph, GraphLaws, Joined, Onward, costOnward, cost, hops, pathId}
 use Rattle.graph.specs.Notions.{Least}
-use Rattle.graph.specs.Ranks.{cost-step, cost-stay}
-use Rattle.graph.specs.Paths.{entered-inside}
 use Rattle.graph.specs.Chosen.{Chosen}
 use Rattle.graph.specs.ChosenPaths.{chosen-first, chosen-self, chosen-bounded, chosen-unique}
 use Rattle.graph.specs.Lookups.{State, Offers, offer, label, Says, Kept, Stays, Takes, Advances}
@@ -27,6 +25,7 @@ use Rattle.tree.specs.LabelLaws.{length-settled, label-settled, label-un
 use Rattle.tree.specs.Relaxing.{Relaxable, offerAt, Unchanged, Changed, Relaxed}
 use Rattle.tree.specs.Settling.{Settleable}
 use Rattle.tree.specs.Trees.{Represents, Keyed, firstBack}
+use Rattle.tree.specs.TreeLaws.{cost-most, neighbour-in, offered-cost, offered-joined, joined-listed, one-cost}
 use Rattle.tree.specs.Tracked.{Tracked}
 
 -- An offer that is lower than a label costs no more.
@@ -34,15 +33,6 @@ pub lower-far : (costs rows labels : List ℕ) (via i : ℕ) (b : Label) → Low
     → labelAt labels via .far + getD costs i 0 ≤ b .far
 lower-far costs rows labels via i b (inl h) = omega arith
 lower-far costs rows labels via i b (inr h) = omega arith
-
--- A path of hops that cost no more than `most` costs no more than so many times that.
-pub cost-most : (g : Graph) (most : ℕ) → ((u v : ℕ) → g .hop u v ≤ most) → (u : ℕ) (t : List ℕ) → costOnward g u t ≤ length t * most
-cost-most g most h u [] = omega (arith, cost-stay g u)
-cost-most g most h u (v ∷ t) = omega (arith, cost-step g u v t, h u v, cost-most g most h v t)
-
--- The first hop back of a path with one more bridge in front.
-pub first-back-on : (u v w : ℕ) (t : List ℕ) → firstBack (u ∷ v ∷ w ∷ t) ≡ firstBack (v ∷ w ∷ t)
-first-back-on u v w t = refl
 
 module _ (g : Graph) (key : ℕ → ℕ) (n root : ℕ) (starts neighbours costs keys : List ℕ) (R : Represents g n starts neighbours costs) (K : Keyed g key keys)
     (labels rows : List ℕ) (M : Tracked g key n root labels rows) (has-labels : 320 ≤ length labels) (has-rows : 4096 ≤ length rows)
@@ -147,9 +137,6 @@ module _ (g : Graph) (key : ℕ → ℕ) (n root : ℕ) (starts neighbours costs
   abbrev end : ℕ
   end = getD starts (u + 1) 0
 
-  neighbour-in : (i : ℕ) → from ≤ i → i < end → getD neighbours i 0 < n
-  neighbour-in i h k = omega (arith, entered-inside g (R .laws) u (getD neighbours i 0) (R .joined u i u-in h k), R .size-is)
-
   way-bound : (i : ℕ) → from ≤ i → i < end → labelAt labels₁ u .far + getD costs i 0 < noCost
   way-bound i h k = omega (arith, same-far u u-low, cost-bound, R .cost-is u i u-in h k, R .hop-most u (getD neighbours i 0))
 
@@ -163,10 +150,10 @@ module _ (g : Graph) (key : ℕ → ℕ) (n root : ℕ) (starts neighbours costs
     has-costs = R .has-costs u u-in;
     in-order = R .in-order u u-in;
     steps-in = omega (arith, same-steps u u-low, few-steps);
-    neighbour-in = λ i h k. omega (arith, neighbour-in i h k, R .most);
+    neighbour-in = λ i h k. omega (arith, neighbour-in R u u-in i h k, R .most);
     cost-in = way-bound;
-    one-cost = λ i j h k l m e. R .cost-is u i u-in h k ∙ ap (g .hop u) e ∙ sym (R .cost-is u j u-in l m);
-    next-in = λ i h k f. next-in (getD neighbours i 0) (neighbour-in i h k) f;
+    one-cost = one-cost R u u-in;
+    next-in = λ i h k f. next-in (getD neighbours i 0) (neighbour-in R u u-in i h k) f;
   }
     where
       next-in : (x : ℕ) → x < n → labelAt labels₁ x .far < noCost → labelAt labels₁ x .next < 64
@@ -179,13 +166,6 @@ module _ (g : Graph) (key : ℕ → ℕ) (n root : ℕ) (starts neighbours costs
 
   low : (x : ℕ) → x < n → x < 64
   low x l = omega (arith, R .most)
-
-  -- What the neighbour `x` at a place is offered.
-  offered-cost : (i x : ℕ) → from ≤ i → i < end → getD neighbours i 0 ≡ x → getD costs i 0 ≡ g .hop x u
-  offered-cost i x h k e = R .cost-is u i u-in h k ∙ ap (g .hop u) e ∙ R .laws .symmetric u x
-
-  offered-joined : (i x : ℕ) → from ≤ i → i < end → getD neighbours i 0 ≡ x → Joined g x u
-  offered-joined i x h k e = omega (arith, R .joined u i u-in h k, R .cost-is u i u-in h k, offered-cost i x h k e)
 
   -- After the neighbours were offered the way through `u`.
   module _ (labels₂ : List ℕ) (X : Relaxed starts neighbours costs rows₁ u labels₁ labels₂) where
@@ -205,16 +185,16 @@ module _ (g : Graph) (key : ℕ → ℕ) (n root : ℕ) (starts neighbours costs
       lower-far costs rows₁ labels₁ u (C .place) (labelAt labels₁ x) (C .lower-now),
       same-far u u-low,
       same-far x (low x l),
-      offered-cost (C .place) x (C .after) (C .before) (C .offered),
+      offered-cost R u u-in (C .place) x (C .after) (C .before) (C .offered),
       settled-nearer g (R .laws) key root st (M .kept) u x inside (omega (arith, R .size-is)) not-settled labelled-u k
-          (offered-joined (C .place) x (C .after) (C .before) (C .offered)),
+          (offered-joined R u u-in (C .place) x (C .after) (C .before) (C .offered)),
     )
     not-taken x l (inr e) C = omega (
       arith,
       lower-far costs rows₁ labels₁ u (C .place) (labelAt labels₁ x) (C .lower-now),
       ap (λ (k : ℕ). labelAt labels₁ k .far) e,
-      offered-cost (C .place) x (C .after) (C .before) (C .offered),
-      offered-joined (C .place) x (C .after) (C .before) (C .offered),
+      offered-cost R u u-in (C .place) x (C .after) (C .before) (C .offered),
+      offered-joined R u u-in (C .place) x (C .after) (C .before) (C .offered),
     )
 
     settled-same : (x : ℕ) → x < n → T (st .settled x) ⊎ (x ≡ u) → labelAt labels₂ x ≡ labelAt labels₁ x
@@ -303,7 +283,7 @@ module _ (g : Graph) (key : ℕ → ℕ) (n root : ℕ) (starts neighbours costs
     offer-is i x h k e = cc (costs-are, count, ap (λ (b : Label). rowOf rows₁ u (b .steps + 1)) label-u)
       where
         costs-are : g .hop x u + st′ .far u ≡ labelAt labels₁ u .far + getD costs i 0
-        costs-are = omega (arith, ap (λ (b : Label). b .far) label-u, offered-cost i x h k e)
+        costs-are = omega (arith, ap (λ (b : Label). b .far) label-u, offered-cost R u u-in i x h k e)
 
         count : suc (st′ .steps u) ≡ labelAt labels₁ u .steps + 1
         count = omega (arith, ap (λ (b : Label). b .steps) label-u)
@@ -349,7 +329,7 @@ module _ (g : Graph) (key : ℕ → ℕ) (n root : ℕ) (starts neighbours costs
       same-far = ap (λ (b : Label). b .far) same;
       same-steps = ap (λ (b : Label). b .steps) same;
       same-next = ap (λ (b : Label). b .next) same;
-      enough = λ O. enough (R .listed u x u-in (omega (arith, O .joined, R .laws .symmetric u x)));
+      enough = λ O. enough (joined-listed R u u-in x (O .joined));
     }
       where
         same : labelAt labels₂ x ≡ labelAt labels x
@@ -365,9 +345,9 @@ module _ (g : Graph) (key : ℕ → ℕ) (n root : ℕ) (starts neighbours costs
 
     takes : (x : ℕ) → x < n → (T (st′ .settled x) → ⊥) → Took x → Takes g root u st st′ x
     takes x l f C = record {
-      offers = record { done = done; joined = offered-joined (C .place) x (C .after) (C .before) (C .offered); passes = inr (R .all-between u) };
+      offers = record { done = done; joined = offered-joined R u u-in (C .place) x (C .after) (C .before) (C .offered); passes = inr (R .all-between u) };
       now-labelled = lt→ltb (st′ .far x) noCost (omega (arith, far-x, way-bound (C .place) (C .after) (C .before)));
-      new-far = omega (arith, far-x, same-far u u-low, offered-cost (C .place) x (C .after) (C .before) (C .offered));
+      new-far = omega (arith, far-x, same-far u u-low, offered-cost R u u-in (C .place) x (C .after) (C .before) (C .offered));
       new-steps = omega (arith, ap (λ (b : Label). b .steps) (C .took), same-steps u u-low);
       new-next = ap (λ (b : Label). b .next) (C .took);
       lower-now = λ t. lower-is (C .place) x (C .after) (C .before) (C .offered) l f t .0 (C .lower-now);
