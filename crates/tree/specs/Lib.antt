@@ -11,3 +11,4 @@ pub mod Tracked
 pub mod TreeLaws
 pub mod StepLaws
 pub mod StartLaws
+pub mod SearchLaws

@@ -40,7 +40,7 @@ module _ (g : Graph) (key : ℕ → ℕ) (n root : ℕ) (starts neighbours costs
   abbrev st : State
   st = stateOf n labels rows
 
-  not-settled : T (st .settled u) → ⊥
+  pub not-settled : T (st .settled u) → ⊥
   not-settled h = omega (arith, settled-says n labels rows u h .2)
 
   waits-far : labelAt labels u .waits ≡ labelAt labels u .far
@@ -127,7 +127,7 @@ module _ (g : Graph) (key : ℕ → ℕ) (n root : ℕ) (starts neighbours costs
   same-next : (x : ℕ) → x < 64 → labelAt labels₁ x .next ≡ labelAt labels x .next
   same-next x l = ap (λ (b : Label). b .next) (settling-keeps labels root u x l u-low has-labels .2)
 
-  length-rows : length rows₁ ≡ length rows
+  pub length-rows : length rows₁ ≡ length rows
   length-rows = length-after rows (st .next u) u (st .steps u) (getD keys u 0) insertable
 
   -- The places of the neighbours of `u`.
@@ -220,7 +220,7 @@ module _ (g : Graph) (key : ℕ → ℕ) (n root : ℕ) (starts neighbours costs
         go s (inl e) = inr e
         go s (inr f) = inl (old s f (X .each v (low v (s .0))))
 
-    still : (v : ℕ) → T (st .settled v) → T (st′ .settled v)
+    pub still : (v : ℕ) → T (st .settled v) → T (st′ .settled v)
     still v k = go (settled-says n labels rows v k)
       where
         go : (v < n) × (labelAt labels v .far < noCost) × (noCost ≤ labelAt labels v .waits) → T (st′ .settled v)
@@ -232,7 +232,7 @@ module _ (g : Graph) (key : ℕ → ℕ) (n root : ℕ) (starts neighbours costs
     label-u : labelAt labels₂ u ≡ labelAt labels₁ u
     label-u = settled-same u u-in (inr refl)
 
-    done : T (st′ .settled u)
+    pub done : T (st′ .settled u)
     done = says-settled n labels₂ rows₁ u u-in
         (omega (arith, ap (λ (b : Label). b .far) label-u, same-far u u-low, waits-far))
         (omega (arith, ap (λ (b : Label). b .waits) label-u, ap (λ (b : Label). b .waits) (label-settled labels root u u-low has-labels)))

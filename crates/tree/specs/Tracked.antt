@@ -13,7 +13,7 @@ use Rattle.graph.specs.Graph.{Graph}
 use Rattle.graph.specs.Chosen.{Chosen}
 use Rattle.graph.specs.Lookups.{Kept}
 use Rattle.tree.specs.Labels.{noCost, labelAt, stateOf}
-use Rattle.tree.specs.Trees.{Represents, Keyed, firstBack}
+use Rattle.tree.specs.Trees.{Represents, Keyed, Represented, firstBack}
 
 -- For one graph and key that the lists stand for.
 pub record Tracked (g : Graph) (key : ℕ → ℕ) (n root : ℕ) (labels rows : List ℕ) : Type 0 where
@@ -29,10 +29,7 @@ pub record Underway (n : ℕ) (starts neighbours costs keys : List ℕ) (root : 
   pub root-in : root < n
   pub has-labels : 320 ≤ length labels
   pub has-rows : 4096 ≤ length rows
-  pub graph : Graph
-  pub key : ℕ → ℕ
-  pub represents : Represents graph n starts neighbours costs
-  pub keyed : Keyed graph key keys
+  pub represented : Represented n starts neighbours costs keys
   pub tracked : (g : Graph) (key : ℕ → ℕ) → Represents g n starts neighbours costs → Keyed g key keys → Tracked g key n root labels rows
 
 -- How many of the first `n` bridges are not settled.

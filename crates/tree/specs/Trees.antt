@@ -33,6 +33,13 @@ pub record Keyed (g : Graph) (key : ℕ → ℕ) (keys : List ℕ) : Type 0 wher
   pub has-keys : g .size ≤ length keys
   pub key-is : (u : ℕ) → u < g .size → getD keys u 0 ≡ key u
 
+-- The lists stand for some graph and key.
+pub record Represented (n : ℕ) (starts neighbours costs keys : List ℕ) : Type 0 where
+  pub graph : Graph
+  pub key : ℕ → ℕ
+  pub represents : Represents graph n starts neighbours costs
+  pub keyed : Keyed graph key keys
+
 -- The second bridge of a path, and its last but one: the next hop towards the path's end, and the first hop of the way back.
 -- Of a path from a bridge to itself both are that bridge.
 abbrev pub nextOf : List ℕ → ℕ
@@ -54,3 +61,7 @@ SaysPath g (some p) b = (b .far ≡ cost g p) × (b .steps ≡ hops p) × (b .ne
 -- The labels are the tree rooted at `root`.
 pub record TreeOf (g : Graph) (key : ℕ → ℕ) (root : ℕ) (labels : List ℕ) : Type 0 where
   pub each : (u : ℕ) → u < g .size → SaysPath g (chosen g key u root) (labelAt labels u)
+
+-- They are so for every graph and key that the lists stand for.
+pub record IsTree (n : ℕ) (starts neighbours costs keys : List ℕ) (root : ℕ) (labels : List ℕ) : Type 0 where
+  pub of-graph : (g : Graph) (key : ℕ → ℕ) → Represents g n starts neighbours costs → Keyed g key keys → TreeOf g key root labels
