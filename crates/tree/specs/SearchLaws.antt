@@ -105,8 +105,8 @@ module _ (n : ℕ) (starts neighbours costs keys : List ℕ) (root : ℕ) where
         → Underway n starts neighbours costs keys root labels₂ rows₁ × (openBridges n labels₂ < openBridges n labels)
     search-goes-on {labels₁} {rows₁} {labels₂} e f X =
         let Y : Relaxed starts neighbours costs (settledRows labels rows u (getD keys u 0)) u (settledLabels labels root u) labels₂
-              = subst (λ (t : List ℕ). Relaxed starts neighbours costs t u (settledLabels labels root u) labels₂) f
-                  (subst (λ (t : List ℕ). Relaxed starts neighbours costs rows₁ u t labels₂) e X) in
+        = subst (λ (t : List ℕ). Relaxed starts neighbours costs t u (settledLabels labels root u) labels₂) f
+        (subst (λ (t : List ℕ). Relaxed starts neighbours costs rows₁ u t labels₂) e X) in
         (subst (λ (t : List ℕ). Underway n starts neighbours costs keys root labels₂ t) (sym f) (underway labels₂ Y), fewer labels₂ Y)
 
   -- The end.
