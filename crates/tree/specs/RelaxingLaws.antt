@@ -5,26 +5,16 @@ use native.Mathlib.Omega.{arith}
 use mathlib.Core.Path.{_≡_, refl, sym, ap, _∙_, subst}
 use mathlib.Core.List.{List, [], _∷_}
 use mathlib.Core.Logic.{_⊎_, inl, inr}
-use mathlib.Core.Bool.{Bool, true, false, cond, not, Bool·not-not, or-false, _||_, _&&_}
-use lib.Dec.{T, eqb, ltb}
+use mathlib.Core.Bool.{Bool, true, false, cond, not, Bool·not-not}
+use lib.Dec.{T}
 use lib.ListN.{length, getD}
-use borrow.Author.Tests.{le-ltb, eq-eqb, ne-eqb}
 use Rattle.graph.specs.Order.{Lower, lower}
-use Rattle.graph.specs.OrderLaws.{test-lower, lower-test}
+use Rattle.graph.specs.OrderLaws.{test-lower, lower-test, lower-by-rest}
 use Rattle.graph.specs.ListLaws.{same-or-not}
 use Rattle.ect.specs.Rows.{rowOf}
 use Rattle.tree.specs.Labels.{noCost, Label, labelAt, labelRank, offerRank, taken, relaxed}
 use Rattle.tree.specs.LabelLaws.{length-taken, label-taken, label-passed}
 use Rattle.tree.specs.Relaxing.{Comparable, Relaxable, offerAt, tookAt, Unchanged, Changed, Relaxed}
-
--- Two lists compared by their first numbers, or by what comes after equal ones.
-pub lower-by-first : (x y : ℕ) (xs ys : List ℕ) → (x ≡ y → ⊥) → ltb x y ≡ lower (x ∷ xs) (y ∷ ys)
-unfolding lower
-lower-by-first x y xs ys f = simp (ne-eqb x y f, or-false)
-
-pub lower-by-rest : (x y : ℕ) (xs ys : List ℕ) → x ≡ y → lower xs ys ≡ lower (x ∷ xs) (y ∷ ys)
-unfolding lower
-lower-by-rest x y xs ys e = simp (eq-eqb x y e, le-ltb x y (omega arith))
 
 -- An offer and a label of equal cost and hops are compared by the rows of their next hops.
 pub lower-by-rows : (rows : List ℕ) (via cost hops : ℕ) (b : Label) → cost ≡ b .far → hops ≡ b .steps

@@ -8,7 +8,7 @@ use mathlib.Core.Bool.{Bool, true, false, cond}
 use lib.Dec.{T}
 use lib.ListN.{length, getD}
 use Rattle.graph.specs.Lists.{rising}
-use Rattle.graph.specs.ListLaws.{in-rising}
+use Rattle.graph.specs.ListLaws.{in-rising, total-falls}
 use Rattle.graph.specs.Graph.{Graph}
 use Rattle.tree.specs.Labels.{noCost, labelAt, stateOf, LeastOf, AtPlace, settledLabels, settledRows}
 use Rattle.tree.specs.LabelLaws.{length-settled}
@@ -16,7 +16,7 @@ use Rattle.tree.specs.Relaxing.{Relaxable, Relaxed}
 use Rattle.tree.specs.Settling.{Settleable, Begun}
 use Rattle.tree.specs.Trees.{Represents, Keyed, Represented, IsTree}
 use Rattle.tree.specs.Tracked.{Tracked, Underway, openBridges}
-use Rattle.tree.specs.TreeLaws.{search-tree, total-falls}
+use Rattle.tree.specs.TreeLaws.{search-tree}
 use Rattle.tree.specs.StartLaws.{start-relaxable, start-tracked}
 use Rattle.tree.specs.StepLaws.{not-settled, step-settleable, step-relaxable, still, done, step-tracked, length-rows}
 
@@ -75,7 +75,7 @@ module _ (n : ℕ) (starts neighbours costs keys : List ℕ) (root : ℕ) where
       }
 
       fewer : openBridges n labels₂ < openBridges n labels
-      fewer = total-falls (λ x. cond (stateOf n labels labels .settled x) 0 1) (λ x. cond (stateOf n labels₂ labels₂ .settled x) 0 1) (rising 0 n)
+      fewer = total-falls (λ x. cond (stateOf n labels₂ labels₂ .settled x) 0 1) (λ x. cond (stateOf n labels labels .settled x) 0 1) (rising 0 n)
           (λ x. not-more (stateOf n labels labels .settled x) (stateOf n labels₂ labels₂ .settled x) (stays x))
           u (in-rising 0 n u (omega arith) (omega (arith, A .inside)))
           (less (stateOf n labels labels .settled u) (stateOf n labels₂ labels₂ .settled u) open-before settled-now)

@@ -14,6 +14,7 @@ use Rattle.graph.specs.OrderLaws.{sorted-upward}
 use Rattle.graph.specs.ListLaws.{same-or-not, le-or-gt}
 use Rattle.graph.specs.Graph.{Graph, GraphLaws, Joined, Onward, costOnward, cost, hops, pathId}
 use Rattle.graph.specs.Notions.{Least}
+use Rattle.graph.specs.Ranks.{cost-most}
 use Rattle.graph.specs.Chosen.{Chosen}
 use Rattle.graph.specs.ChosenPaths.{chosen-first, chosen-self, chosen-bounded, chosen-unique}
 use Rattle.graph.specs.Lookups.{State, Offers, offer, label, Says, Kept, Stays, Takes, Advances}
@@ -25,7 +26,7 @@ use Rattle.tree.specs.LabelLaws.{length-settled, label-settled, label-un
 use Rattle.tree.specs.Relaxing.{Relaxable, offerAt, Unchanged, Changed, Relaxed}
 use Rattle.tree.specs.Settling.{Settleable}
 use Rattle.tree.specs.Trees.{Represents, Keyed, firstBack}
-use Rattle.tree.specs.TreeLaws.{cost-most, neighbour-in, offered-cost, offered-joined, joined-listed, one-cost}
+use Rattle.tree.specs.TreeLaws.{neighbour-in, offered-cost, offered-joined, joined-listed, one-cost}
 use Rattle.tree.specs.Tracked.{Tracked}
 
 -- An offer that is lower than a label costs no more.

@@ -1,35 +1,26 @@
 -- Neighbour lists that stand for a graph: what a neighbour is offered. And the end of a search: its labels are the tree.
 -- Assumes nothing.
-use Prim.Native.Nat.{ℕ, suc, _+_, _*_, _≤_, _<_}
+use Prim.Native.Nat.{ℕ, _+_, _≤_, _<_}
 use native.Mathlib.Omega.{arith}
-use mathlib.Core.Path.{_≡_, refl, sym, ap, _∙_, subst}
+use mathlib.Core.Path.{_≡_, sym, ap, _∙_}
 use mathlib.Core.List.{List, [], _∷_}
-use mathlib.Core.Option.{Option, none, some}
+use mathlib.Core.Option.{none, some}
 use mathlib.Core.Logic.{_⊎_, inl, inr}
-use mathlib.Core.Bool.{Bool, true, false, cond}
 use lib.Dec.{T, ltb→lt, lt→ltb}
-use lib.ListN.{length, getD}
-use Rattle.graph.specs.Lists.{rising}
-use Rattle.graph.specs.Members.{In, total}
-use Rattle.graph.specs.ListLaws.{in-rising, le-or-gt, total-most}
-use Rattle.graph.specs.Graph.{Graph, Joined, costOnward, cost, hops}
+use lib.ListN.{getD}
+use Rattle.graph.specs.ListLaws.{le-or-gt}
+use Rattle.graph.specs.Graph.{Graph, Joined}
 use Rattle.graph.specs.Notions.{Least}
-use Rattle.graph.specs.Ranks.{cost-step, cost-stay}
 use Rattle.graph.specs.Paths.{entered-inside}
 use Rattle.graph.specs.Chosen.{Chosen, chosen}
 use Rattle.graph.specs.Enumeration.{chosen-is}
 use Rattle.graph.specs.ChosenPaths.{chosen-first}
 use Rattle.graph.specs.Lookups.{Says}
 use Rattle.graph.specs.LookupLaws.{kept-ends}
-use Rattle.tree.specs.Labels.{noCost, Label, labelAt, stateOf, LeastOf}
-use Rattle.tree.specs.LabelLaws.{settled-says, says-settled}
-use Rattle.tree.specs.Trees.{Represents, Keyed, nextOf, firstBack, SaysPath, TreeOf}
+use Rattle.tree.specs.Labels.{noCost, labelAt, stateOf, LeastOf}
+use Rattle.tree.specs.LabelLaws.{says-settled}
+use Rattle.tree.specs.Trees.{Represents, Keyed, nextOf, SaysPath, TreeOf}
 use Rattle.tree.specs.Tracked.{Tracked}
-
--- A path of hops that cost no more than `most` costs no more than so many times that.
-pub cost-most : (g : Graph) (most : ℕ) → ((u v : ℕ) → g .hop u v ≤ most) → (u : ℕ) (t : List ℕ) → costOnward g u t ≤ length t * most
-cost-most g most h u [] = omega (arith, cost-stay g u)
-cost-most g most h u (v ∷ t) = omega (arith, cost-step g u v t, h u v, cost-most g most h v t)
 
 module _ {g : Graph} {n : ℕ} {starts neighbours costs : List ℕ} (R : Represents g n starts neighbours costs) (u : ℕ) (u-in : u < n) where
   pub neighbour-in : (i : ℕ) → getD starts u 0 ≤ i → i < getD starts (u + 1) 0 → getD neighbours i 0 < n
@@ -77,8 +68,3 @@ module _ (g : Graph) (key : ℕ → ℕ) (n root : ℕ) (starts neighbours costs
           far : (noCost ≤ labelAt labels u .far) ⊎ (labelAt labels u .far < noCost) → labelAt labels u .far ≡ noCost
           far (inl l) = omega (arith, M .far-most u (omega (arith, R .size-is)))
           far (inr l) = absurd (none-left u i f (lt→ltb (labelAt labels u .far) noCost l))
-
--- Fewer: where no term of a sum rises and one falls, the sum falls.
-pub total-falls : {A : Type 0} (f f′ : A → ℕ) (xs : List A) → ((x : A) → f′ x ≤ f x) → (a : A) → In a xs → f′ a < f a → total f′ xs < total f xs
-total-falls f f′ (x ∷ xs) h a (inl e) l = omega (arith, ap f e, ap f′ e, total-most f′ f xs (λ y k. h y))
-total-falls f f′ (x ∷ xs) h a (inr k) l = omega (arith, h x, total-falls f f′ xs h a k l)
