@@ -12,3 +12,4 @@ pub mod TreeLaws
 pub mod StepLaws
 pub mod StartLaws
 pub mod SearchLaws
+pub mod Pair
