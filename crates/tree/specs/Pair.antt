@@ -8,7 +8,7 @@ use mathlib.Core.List.{List, [], _∷_}
 use mathlib.Core.Bool.{true}
 use lib.ListN.{getD}
 use Rattle.graph.specs.Graph.{Graph, Joined}
-use Rattle.tree.specs.Trees.{Represents, Keyed, Represented}
+use Rattle.tree.specs.Trees.{Represented}
 
 abbrev pairHop : ℕ → ℕ → ℕ
 pairHop zero zero = 0

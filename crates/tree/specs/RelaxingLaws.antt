@@ -3,7 +3,7 @@
 use Prim.Native.Nat.{ℕ, _+_, _≤_, _<_}
 use native.Mathlib.Omega.{arith}
 use mathlib.Core.Path.{_≡_, refl, sym, ap, _∙_, subst}
-use mathlib.Core.List.{List, [], _∷_}
+use mathlib.Core.List.{List, _∷_}
 use mathlib.Core.Logic.{_⊎_, inl, inr}
 use mathlib.Core.Bool.{Bool, true, false, cond, not, Bool·not-not}
 use lib.Dec.{T}
@@ -12,7 +12,7 @@ use Rattle.graph.specs.Order.{Lower, lower}
 use Rattle.graph.specs.OrderLaws.{test-lower, lower-test, lower-by-rest}
 use Rattle.graph.specs.ListLaws.{same-or-not}
 use Rattle.ect.specs.Rows.{rowOf}
-use Rattle.tree.specs.Labels.{noCost, Label, labelAt, labelRank, offerRank, taken, relaxed}
+use Rattle.tree.specs.Labels.{Label, labelAt, labelRank, offerRank, taken, relaxed}
 use Rattle.tree.specs.LabelLaws.{length-taken, label-taken, label-passed}
 use Rattle.tree.specs.Relaxing.{Comparable, Relaxable, offerAt, tookAt, Unchanged, Changed, Relaxed}
 

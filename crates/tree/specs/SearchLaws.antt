@@ -2,19 +2,18 @@
 -- Assumes nothing.
 use Prim.Native.Nat.{ℕ, _≤_, _<_}
 use native.Mathlib.Omega.{arith}
-use mathlib.Core.Path.{_≡_, sym, ap, _∙_, subst}
+use mathlib.Core.Path.{_≡_, sym, subst}
 use mathlib.Core.List.{List}
 use mathlib.Core.Bool.{Bool, true, false, cond}
 use lib.Dec.{T}
 use lib.ListN.{length, getD}
 use Rattle.graph.specs.Lists.{rising}
 use Rattle.graph.specs.ListLaws.{in-rising, total-falls}
-use Rattle.graph.specs.Graph.{Graph}
 use Rattle.tree.specs.Labels.{noCost, labelAt, stateOf, LeastOf, AtPlace, settledLabels, settledRows}
 use Rattle.tree.specs.LabelLaws.{length-settled}
 use Rattle.tree.specs.Relaxing.{Relaxable, Relaxed}
 use Rattle.tree.specs.Settling.{Settleable, Begun}
-use Rattle.tree.specs.Trees.{Represents, Keyed, Represented, IsTree}
+use Rattle.tree.specs.Trees.{Represented, IsTree}
 use Rattle.tree.specs.Tracked.{Tracked, Underway, openBridges}
 use Rattle.tree.specs.TreeLaws.{search-tree}
 use Rattle.tree.specs.StartLaws.{start-relaxable, start-tracked}

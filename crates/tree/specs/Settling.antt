@@ -3,9 +3,9 @@
 use Prim.Native.Nat.{ℕ, _≤_, _<_}
 use mathlib.Core.Path.{_≡_}
 use mathlib.Core.List.{List, [], _∷_}
-use lib.ListN.{length, getD}
+use lib.ListN.{length}
 use Rattle.ect.specs.Rows.{rowOf, Insertable}
-use Rattle.tree.specs.Labels.{noCost, Label, labelAt}
+use Rattle.tree.specs.Labels.{noCost, labelAt}
 
 -- The bridge `u` can be settled with its label.
 pub record Settleable (labels rows keys : List ℕ) (u : ℕ) : Type 0 where

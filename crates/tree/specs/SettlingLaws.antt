@@ -1,6 +1,6 @@
 -- How a search begins: the labels are cleared, then the root is settled.
 -- Assumes nothing.
-use Prim.Native.Nat.{ℕ, _+_, _*_, _≤_, _<_}
+use Prim.Native.Nat.{ℕ, _+_, _≤_, _<_}
 use native.Mathlib.Omega.{arith}
 use mathlib.Core.Path.{_≡_, refl, sym, ap, _∙_}
 use mathlib.Core.List.{List, [], _∷_}
@@ -12,7 +12,7 @@ use Rattle.graph.specs.Splices.{spliced-nothing, spliced-next}
 use Rattle.graph.specs.Lists.{spliced}
 use Rattle.ect.specs.Rows.{rowPlace, rowOf}
 use Rattle.ect.specs.RowLaws.{row-written}
-use Rattle.tree.specs.Labels.{noCost, labelAt}
+use Rattle.tree.specs.Labels.{noCost}
 use Rattle.tree.specs.LabelLaws.{same-label}
 use Rattle.tree.specs.Settling.{Cleared, Begun}
 

@@ -1,8 +1,8 @@
 -- The start of a search: the root alone is settled and its neighbours are relaxed. Then what a search keeps is true.
 -- Assumes nothing.
-use Prim.Native.Nat.{ℕ, suc, _+_, _≤_, _<_}
+use Prim.Native.Nat.{ℕ, _+_, _≤_, _<_}
 use native.Mathlib.Omega.{arith}
-use mathlib.Core.Path.{_≡_, refl, sym, ap, _∙_, subst}
+use mathlib.Core.Path.{_≡_, sym, ap, _∙_, subst}
 use mathlib.Core.List.{List, [], _∷_}
 use mathlib.Core.Logic.{_⊎_, inl, inr}
 use lib.Dec.{T, ltb→lt, lt→ltb}
@@ -18,7 +18,7 @@ use Rattle.tree.specs.Labels.{noCost, Label, labelAt, stateOf}
 use Rattle.tree.specs.LabelLaws.{settled-says, says-settled}
 use Rattle.tree.specs.Relaxing.{Relaxable, Unchanged, Changed, Relaxed}
 use Rattle.tree.specs.Settling.{Begun}
-use Rattle.tree.specs.Trees.{Represents, Keyed, firstBack}
+use Rattle.tree.specs.Trees.{Represents, firstBack}
 use Rattle.tree.specs.TreeLaws.{neighbour-in, offered-cost, offered-joined, joined-listed, one-cost}
 use Rattle.tree.specs.StepLaws.{lower-far}
 use Rattle.tree.specs.Tracked.{Tracked}

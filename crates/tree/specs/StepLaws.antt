@@ -1,25 +1,25 @@
 -- One step of a search: the nearest bridge is settled with its chosen path, its neighbours are relaxed, and what is kept stays true.
 -- Assumes nothing.
-use Prim.Native.Nat.{ℕ, zero, suc, _+_, _-_, _*_, _≤_, _<_}
+use Prim.Native.Nat.{ℕ, suc, _+_, _*_, _≤_, _<_}
 use native.Mathlib.Omega.{arith}
 use mathlib.Core.Path.{_≡_, refl, sym, ap, _∙_, subst}
 use mathlib.Core.List.{List, [], _∷_, map}
 use mathlib.Core.Logic.{_⊎_, inl, inr}
-use mathlib.Core.Bool.{Bool, true, false, cond}
+use mathlib.Core.Bool.{cond}
 use lib.Dec.{T, ltb, eqb, ltb→lt, lt→ltb}
 use lib.ListN.{length, getD}
 use borrow.Author.Tests.{eq-eqb, ne-eqb}
 use Rattle.graph.specs.Order.{Lower, insert, Upward}
 use Rattle.graph.specs.OrderLaws.{sorted-upward}
 use Rattle.graph.specs.ListLaws.{same-or-not, le-or-gt}
-use Rattle.graph.specs.Graph.{Graph, GraphLaws, Joined, Onward, costOnward, cost, hops, pathId}
+use Rattle.graph.specs.Graph.{Graph, cost, hops, pathId}
 use Rattle.graph.specs.Notions.{Least}
 use Rattle.graph.specs.Ranks.{cost-most}
 use Rattle.graph.specs.Chosen.{Chosen}
 use Rattle.graph.specs.ChosenPaths.{chosen-first, chosen-self, chosen-bounded, chosen-unique}
 use Rattle.graph.specs.Lookups.{State, Offers, offer, label, Says, Kept, Stays, Takes, Advances}
 use Rattle.graph.specs.LookupLaws.{Settled, kept-settles, settled-nearer, kept-advances}
-use Rattle.ect.specs.Rows.{rowOf, rowPlace, Insertable}
+use Rattle.ect.specs.Rows.{rowOf, Insertable}
 use Rattle.ect.specs.RowLaws.{insertion-read-back, insertion-keeps, length-after}
 use Rattle.tree.specs.Labels.{noCost, Label, labelAt, labelRank, settledLabels, settledRows, stateOf}
 use Rattle.tree.specs.LabelLaws.{length-settled, label-settled, label-unsettled, settling-keeps, settled-says, says-settled}

@@ -1,5 +1,5 @@
 -- `tree::relax::relax_all` offers the way to one neighbour after the other. Assumes nothing.
-use Prim.Native.Nat.{_-_, _+_}
+use Prim.Native.Nat.{_-_}
 use native.Mathlib.Omega.{arith}
 use Rattle.tree.specs.RelaxingLaws.{Offering, offering-starts, offering-comparable, offering-goes-on, offering-ends}
 use borrow.Author.Needs.{needs}

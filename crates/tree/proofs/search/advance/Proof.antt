@@ -1,6 +1,4 @@
 -- `tree::search::advance` settles the nearest bridge and relaxes its neighbours. Assumes nothing.
-use native.Mathlib.Omega.{arith}
-use mathlib.Core.Path.{_∙_}
 use Rattle.tree.specs.SearchLaws.{search-settleable, search-relaxable-on, search-goes-on}
 use borrow.Author.Needs.{needs}
 use Rattle.tree.proofs.search.advance.Statement.{statement}
