@@ -9,15 +9,16 @@ use lib.Dec.{T}
 use lib.ListN.{length, getD}
 use Rattle.graph.specs.Lists.{rising}
 use Rattle.graph.specs.ListLaws.{in-rising, total-falls}
+use Rattle.graph.specs.Graph.{Graph}
 use Rattle.tree.specs.Labels.{noCost, labelAt, stateOf, LeastOf, AtPlace, settledLabels, settledRows}
 use Rattle.tree.specs.LabelLaws.{length-settled}
 use Rattle.tree.specs.Relaxing.{Relaxable, Relaxed}
 use Rattle.tree.specs.Settling.{Settleable, Begun}
-use Rattle.tree.specs.Trees.{Represented, IsTree}
+use Rattle.tree.specs.Trees.{Represents, Keyed, Represented, IsTree}
 use Rattle.tree.specs.Tracked.{Tracked, Underway, openBridges}
 use Rattle.tree.specs.TreeLaws.{search-tree}
 use Rattle.tree.specs.StartLaws.{start-relaxable, start-tracked}
-use Rattle.tree.specs.StepLaws.{not-settled, step-settleable, step-relaxable, still, done, step-tracked, length-rows}
+use Rattle.tree.specs.StepLaws.{Step, not-settled, step-settleable, step-relaxable, still, done, step-tracked, length-rows}
 
 module _ (n : ℕ) (starts neighbours costs keys : List ℕ) (root : ℕ) where
   -- The start.
@@ -39,38 +40,37 @@ module _ (n : ℕ) (starts neighbours costs keys : List ℕ) (root : ℕ) where
   -- A step.
   module _ {labels rows : List ℕ} (U : Underway n starts neighbours costs keys root labels rows) {least u : ℕ} (L : LeastOf labels n least) (h : least < noCost)
       (A : AtPlace labels n least u) where
-    waits : labelAt labels u .waits < noCost
-    waits = omega (arith, A .has)
+    step : (g : Graph) (key : ℕ → ℕ) → Represents g n starts neighbours costs → Keyed g key keys → Step g key n root starts neighbours costs keys labels rows u
+    step g key R K = record {
+      represents = R;
+      keyed = K;
+      tracked = U .tracked g key R K;
+      has-labels = U .has-labels;
+      has-rows = U .has-rows;
+      u-in = A .inside;
+      waits = omega (arith, A .has);
+      near = λ x l. omega (arith, A .has, L .none-less x l);
+    }
 
-    near : (x : ℕ) → x < n → labelAt labels u .waits ≤ labelAt labels x .waits
-    near x l = omega (arith, A .has, L .none-less x l)
-
-    abbrev S : Represented n starts neighbours costs keys
-    S = U .represented
-
-    M : Tracked (S .graph) (S .key) n root labels rows
-    M = U .tracked (S .graph) (S .key) (S .represents) (S .keyed)
+    -- For the graph and key that there are.
+    one-step : Step (U .represented .graph) (U .represented .key) n root starts neighbours costs keys labels rows u
+    one-step = step (U .represented .graph) (U .represented .key) (U .represented .represents) (U .represented .keyed)
 
     pub search-settleable : Settleable labels rows keys u
-    search-settleable = step-settleable (S .graph) (S .key) n root starts neighbours costs keys (S .represents) (S .keyed) labels rows M (U .has-labels) (U .has-rows) u (A .inside) waits near
+    search-settleable = step-settleable one-step
 
     pub search-relaxable-on : {labels₁ rows₁ : List ℕ} → labels₁ ≡ settledLabels labels root u → rows₁ ≡ settledRows labels rows u (getD keys u 0)
         → Relaxable starts neighbours costs rows₁ labels₁ u
-    search-relaxable-on e f = rw (e, f)
-        (step-relaxable (S .graph) (S .key) n root starts neighbours costs keys (S .represents) (S .keyed) labels rows M (U .has-labels) (U .has-rows) u (A .inside) waits near)
+    search-relaxable-on e f = rw (e, f) (step-relaxable one-step)
 
     module _ (labels₂ : List ℕ) (X : Relaxed starts neighbours costs (settledRows labels rows u (getD keys u 0)) u (settledLabels labels root u) labels₂) where
       underway : Underway n starts neighbours costs keys root labels₂ (settledRows labels rows u (getD keys u 0))
       underway = record {
         root-in = U .root-in;
         has-labels = omega (arith, X .same-length, length-settled labels root u, U .has-labels);
-        has-rows = omega (
-          arith,
-          length-rows (S .graph) (S .key) n root starts neighbours costs keys (S .represents) (S .keyed) labels rows M (U .has-labels) (U .has-rows) u (A .inside) waits near,
-          U .has-rows,
-        );
-        represented = S;
-        tracked = λ g key R K. step-tracked g key n root starts neighbours costs keys R K labels rows (U .tracked g key R K) (U .has-labels) (U .has-rows) u (A .inside) waits near labels₂ X;
+        has-rows = omega (arith, length-rows one-step, U .has-rows);
+        represented = U .represented;
+        tracked = λ g key R K. step-tracked (step g key R K) labels₂ X;
       }
 
       fewer : openBridges n labels₂ < openBridges n labels
@@ -80,13 +80,13 @@ module _ (n : ℕ) (starts neighbours costs keys : List ℕ) (root : ℕ) where
           (less (stateOf n labels labels .settled u) (stateOf n labels₂ labels₂ .settled u) open-before settled-now)
         where
           stays : (x : ℕ) → T (stateOf n labels labels .settled x) → T (stateOf n labels₂ labels₂ .settled x)
-          stays x k = still (S .graph) (S .key) n root starts neighbours costs keys (S .represents) (S .keyed) labels rows M (U .has-labels) (U .has-rows) u (A .inside) waits near labels₂ X x k
+          stays x k = still one-step labels₂ X x k
 
           open-before : T (stateOf n labels labels .settled u) → ⊥
-          open-before k = not-settled (S .graph) (S .key) n root starts neighbours costs keys (S .represents) (S .keyed) labels rows M (U .has-labels) (U .has-rows) u (A .inside) waits near k
+          open-before k = not-settled one-step k
 
           settled-now : T (stateOf n labels₂ labels₂ .settled u)
-          settled-now = done (S .graph) (S .key) n root starts neighbours costs keys (S .represents) (S .keyed) labels rows M (U .has-labels) (U .has-rows) u (A .inside) waits near labels₂ X
+          settled-now = done one-step labels₂ X
 
           not-more : (b b′ : Bool) → (T b → T b′) → cond b′ 0 1 ≤ cond b 0 1
           not-more true true f = omega arith

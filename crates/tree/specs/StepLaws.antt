@@ -35,9 +35,31 @@ pub lower-far : (costs rows labels : List ℕ) (via i : ℕ) (b : Label) → Low
 lower-far costs rows labels via i b (inl h) = omega arith
 lower-far costs rows labels via i b (inr h) = omega arith
 
-module _ (g : Graph) (key : ℕ → ℕ) (n root : ℕ) (starts neighbours costs keys : List ℕ) (R : Represents g n starts neighbours costs) (K : Keyed g key keys)
-    (labels rows : List ℕ) (M : Tracked g key n root labels rows) (has-labels : 320 ≤ length labels) (has-rows : 4096 ≤ length rows)
-    (u : ℕ) (u-in : u < n) (w : labelAt labels u .waits < noCost) (near : (x : ℕ) → x < n → labelAt labels u .waits ≤ labelAt labels x .waits) where
+-- A search under way, and a bridge that waits at the least cost.
+pub record Step (g : Graph) (key : ℕ → ℕ) (n root : ℕ) (starts neighbours costs keys labels rows : List ℕ) (u : ℕ) : Type 0 where
+  pub represents : Represents g n starts neighbours costs
+  pub keyed : Keyed g key keys
+  pub tracked : Tracked g key n root labels rows
+  pub has-labels : 320 ≤ length labels
+  pub has-rows : 4096 ≤ length rows
+  pub u-in : u < n
+  pub waits : labelAt labels u .waits < noCost
+  pub near : (x : ℕ) → x < n → labelAt labels u .waits ≤ labelAt labels x .waits
+
+module _ {g : Graph} {key : ℕ → ℕ} {n root : ℕ} {starts neighbours costs keys labels rows : List ℕ} {u : ℕ}
+    (Z : Step g key n root starts neighbours costs keys labels rows u) where
+  R : Represents g n starts neighbours costs
+  R = Z .represents
+
+  K : Keyed g key keys
+  K = Z .keyed
+
+  M : Tracked g key n root labels rows
+  M = Z .tracked
+
+  u-in : u < n
+  u-in = Z .u-in
+
   abbrev st : State
   st = stateOf n labels rows
 
@@ -62,7 +84,7 @@ module _ (g : Graph) (key : ℕ → ℕ) (n root : ℕ) (starts neighbours costs
     where
       go : (labelAt labels x .waits ≡ noCost) ⊎ (labelAt labels x .waits ≡ labelAt labels x .far) → st .far u ≤ st .far x
       go (inl e) = absurd (f (says-settled n labels rows x (omega (arith, R .size-is)) (ltb→lt (labelAt labels x .far) noCost k) (omega arith)))
-      go (inr e) = omega (arith, waits-far, near x (omega (arith, R .size-is)))
+      go (inr e) = omega (arith, waits-far, Z .near x (omega (arith, R .size-is)))
 
   -- The label of `u` is that of its chosen path.
   settles : (q : List ℕ) × Settled g key root st (st .next u) q × Chosen g key u root (u ∷ q) × (st .far u ≡ cost g (u ∷ q)) × (st .steps u ≡ hops (u ∷ q))
@@ -104,7 +126,7 @@ module _ (g : Graph) (key : ℕ → ℕ) (n root : ℕ) (starts neighbours costs
   step-settleable = record {
     u-in = omega (arith, R .most);
     next-in = omega (arith, settles .1 .0, R .size-is, R .most);
-    has-labels = has-labels;
+    has-labels = (Z .has-labels);
     has-key = omega (arith, K .has-keys, R .size-is);
     insertable = insertable;
   }
@@ -120,13 +142,13 @@ module _ (g : Graph) (key : ℕ → ℕ) (n root : ℕ) (starts neighbours costs
   u-low = omega (arith, R .most)
 
   same-far : (x : ℕ) → x < 64 → labelAt labels₁ x .far ≡ labelAt labels x .far
-  same-far x l = ap (λ (b : Label). b .far) (settling-keeps labels root u x l u-low has-labels .2)
+  same-far x l = ap (λ (b : Label). b .far) (settling-keeps labels root u x l u-low (Z .has-labels) .2)
 
   same-steps : (x : ℕ) → x < 64 → labelAt labels₁ x .steps ≡ labelAt labels x .steps
-  same-steps x l = ap (λ (b : Label). b .steps) (settling-keeps labels root u x l u-low has-labels .2)
+  same-steps x l = ap (λ (b : Label). b .steps) (settling-keeps labels root u x l u-low (Z .has-labels) .2)
 
   same-next : (x : ℕ) → x < 64 → labelAt labels₁ x .next ≡ labelAt labels x .next
-  same-next x l = ap (λ (b : Label). b .next) (settling-keeps labels root u x l u-low has-labels .2)
+  same-next x l = ap (λ (b : Label). b .next) (settling-keeps labels root u x l u-low (Z .has-labels) .2)
 
   pub length-rows : length rows₁ ≡ length rows
   length-rows = length-after rows (st .next u) u (st .steps u) (getD keys u 0) insertable
@@ -236,7 +258,7 @@ module _ (g : Graph) (key : ℕ → ℕ) (n root : ℕ) (starts neighbours costs
     pub done : T (st′ .settled u)
     done = says-settled n labels₂ rows₁ u u-in
         (omega (arith, ap (λ (b : Label). b .far) label-u, same-far u u-low, waits-far))
-        (omega (arith, ap (λ (b : Label). b .waits) label-u, ap (λ (b : Label). b .waits) (label-settled labels root u u-low has-labels)))
+        (omega (arith, ap (λ (b : Label). b .waits) label-u, ap (λ (b : Label). b .waits) (label-settled labels root u u-low (Z .has-labels))))
 
     settled-in : (v : ℕ) → T (st′ .settled v) → v < n
     settled-in v k = settled-says n labels₂ rows₁ v k .0
@@ -395,7 +417,7 @@ module _ (g : Graph) (key : ℕ → ℕ) (n root : ℕ) (starts neighbours costs
         settled-now : v ≡ u → labelAt labels₂ v .first ≡ firstBack p
         settled-now e =
             ap (λ (z : ℕ). labelAt labels₂ z .first) e
-            ∙ ap (λ (b : Label). b .first) (label-u ∙ label-settled labels root u u-low has-labels)
+            ∙ ap (λ (b : Label). b .first) (label-u ∙ label-settled labels root u u-low (Z .has-labels))
             ∙ through (settles .0) (settles .1) (same-or-not (st .next u) root)
             ∙ ap firstBack (chosen-unique g key u root (u ∷ settles .0) p (settles .2) (subst (λ (z : ℕ). Chosen g key z root p) e P))
 
@@ -418,7 +440,7 @@ module _ (g : Graph) (key : ℕ → ℕ) (n root : ℕ) (starts neighbours costs
       where
         waits-or-not : (x : ℕ) → x < n → Same x ⊎ Took x → (x ≡ u) ⊎ (x ≡ u → ⊥)
             → (labelAt labels₂ x .waits ≡ noCost) ⊎ (labelAt labels₂ x .waits ≡ labelAt labels₂ x .far)
-        waits-or-not x l s (inl e) = inl (ap (λ (z : ℕ). labelAt labels₂ z .waits) e ∙ ap (λ (b : Label). b .waits) (label-u ∙ label-settled labels root u u-low has-labels))
+        waits-or-not x l s (inl e) = inl (ap (λ (z : ℕ). labelAt labels₂ z .waits) e ∙ ap (λ (b : Label). b .waits) (label-u ∙ label-settled labels root u u-low (Z .has-labels)))
         waits-or-not x l (inr C) (inr f) = inr (ap (λ (b : Label). b .waits) (C .took) ∙ sym (ap (λ (b : Label). b .far) (C .took)))
         waits-or-not x l (inl U) (inr f) =
             subst (λ (b : Label). (b .waits ≡ noCost) ⊎ (b .waits ≡ b .far)) (sym (U .same ∙ label-unsettled labels root u x (low x l) u-low f)) (M .waits-or-not x l)
