@@ -48,7 +48,7 @@ cast-is-lower-row : tie.Need-cast-is-lower-row
 cast-is-lower-row c = search needs
 
 is-lower-row-requires : tie.Need-is-lower-row-requires
-is-lower-row-requires c κs = (omega (arith, c .before .before .before .before .before .before .before .before .before .before .pre .hops-in), omega (arith, c .before .before .before .before .before .before .before .before .before .before .pre .via-in, c .before .before .before .before .before .before .before .before .before .before .pre .has-rows), omega (arith, c .before .before .before .before .before .before .before .before .before .before .pre .has-rows, c .before .before .before .before .before .before .before .before .before .before .pre .next-in (c .before .before .before .before .before .if1 .left)))
+is-lower-row-requires c κs = (omega (arith, c .before .before .before .before .before .before .before .before .before .before .pre .hops-in), omega (arith, c .before .before .before .before .before .before .before .before .before .before .pre .via-in, c .before .before .before .before .before .before .before .before .before .before .pre .has-rows, c .before .before .before .before .before .before .before .before .before .before .pre .next-in (c .before .before .before .before .before .if1 .left)), omega (arith, c .before .before .before .before .before .before .before .before .before .before .pre .via-in, c .before .before .before .before .before .before .before .before .before .before .pre .has-rows, c .before .before .before .before .before .before .before .before .before .before .pre .next-in (c .before .before .before .before .before .if1 .left)))
 
 returns-3 : tie.Need-returns-3
 returns-3 c = c .is-lower-row .ensures ∙ lower-by-rows (c .before .before .before .before .before .before .before .before .before .before .before .args .rows .now) (c .before .before .before .before .before .before .before .before .before .before .before .args .via) (c .before .before .before .before .before .before .before .before .before .before .before .args .cost .0) (c .before .before .before .before .before .before .before .before .before .before .before .args .hops .0) (labelAt (c .before .before .before .before .before .before .before .before .before .before .before .args .labels .now) (c .before .before .before .before .before .before .before .before .before .before .before .args .v)) (c .before .before .before .before .before .before .if1 .left) (c .before .before .before .if2 .left)
