@@ -40,7 +40,7 @@ pub record LeastOf (labels : List ℕ) (n least : ℕ) : Type 0 where
   pub one-has : (least ≡ noCost) ⊎ ((u : ℕ) × (u < n) × (labelAt labels u .waits ≡ least))
 
 -- The bridge `u` waits at this cost.
-pub record AtPlace (labels : List ℕ) (n least u : ℕ) : Type 0 where
+pub record WaitsAt (labels : List ℕ) (n least u : ℕ) : Type 0 where
   pub inside : u < n
   pub has : labelAt labels u .waits ≡ least
 

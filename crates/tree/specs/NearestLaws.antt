@@ -7,7 +7,7 @@ use mathlib.Core.List.{List}
 use mathlib.Core.Logic.{_⊎_, inl, inr}
 use lib.ListN.{getD}
 use Rattle.graph.specs.ListLaws.{le-or-gt, same-or-not}
-use Rattle.tree.specs.Labels.{noCost, labelAt, LeastOf, AtPlace}
+use Rattle.tree.specs.Labels.{noCost, labelAt, LeastOf, WaitsAt}
 
 -- The first `u` of `n` bridges are compared.
 pub record Leasting (labels : List ℕ) (n u least : ℕ) : Type 0 where
@@ -65,5 +65,5 @@ module _ {labels : List ℕ} {n least u : ℕ} (F : Finding labels n least u) wh
       go (inl e) = absurd (f (ap (λ (k : ℕ). getD labels k 0) e ∙ F .has))
       go (inr d) = omega (arith, F .ahead)
 
-  pub finding-ends : getD labels u 0 ≡ least → AtPlace labels n least u
+  pub finding-ends : getD labels u 0 ≡ least → WaitsAt labels n least u
   finding-ends e = record { inside = omega (arith, F .ahead, F .inside); has = e }

@@ -10,7 +10,7 @@ use lib.ListN.{length, getD}
 use Rattle.graph.specs.Lists.{rising}
 use Rattle.graph.specs.ListLaws.{in-rising, total-falls}
 use Rattle.graph.specs.Graph.{Graph}
-use Rattle.tree.specs.Labels.{noCost, labelAt, stateOf, LeastOf, AtPlace, settledLabels, settledRows}
+use Rattle.tree.specs.Labels.{noCost, labelAt, stateOf, LeastOf, WaitsAt, settledLabels, settledRows}
 use Rattle.tree.specs.LabelLaws.{length-settled}
 use Rattle.tree.specs.Relaxing.{Relaxable, Relaxed}
 use Rattle.tree.specs.Settling.{Settleable, Begun}
@@ -39,7 +39,7 @@ module _ (n : ℕ) (starts neighbours costs keys : List ℕ) (root : ℕ) where
 
   -- A step.
   module _ {labels rows : List ℕ} (U : Underway n starts neighbours costs keys root labels rows) {least u : ℕ} (L : LeastOf labels n least) (h : least < noCost)
-      (A : AtPlace labels n least u) where
+      (A : WaitsAt labels n least u) where
     step : (g : Graph) (key : ℕ → ℕ) → Represents g n starts neighbours costs → Keyed g key keys → Step g key n root starts neighbours costs keys labels rows u
     step g key R K = record {
       represents = R;
@@ -103,10 +103,11 @@ module _ (n : ℕ) (starts neighbours costs keys : List ℕ) (root : ℕ) where
         → Relaxed starts neighbours costs rows₁ u labels₁ labels₂
         → Underway n starts neighbours costs keys root labels₂ rows₁ × (openBridges n labels₂ < openBridges n labels)
     search-goes-on {labels₁} {rows₁} {labels₂} e f X =
-        let Y : Relaxed starts neighbours costs (settledRows labels rows u (getD keys u 0)) u (settledLabels labels root u) labels₂
-        = subst (λ (t : List ℕ). Relaxed starts neighbours costs t u (settledLabels labels root u) labels₂) f
-        (subst (λ (t : List ℕ). Relaxed starts neighbours costs rows₁ u t labels₂) e X) in
-        (subst (λ (t : List ℕ). Underway n starts neighbours costs keys root labels₂ t) (sym f) (underway labels₂ Y), fewer labels₂ Y)
+        (subst (λ (t : List ℕ). Underway n starts neighbours costs keys root labels₂ t) (sym f) (underway labels₂ relaxed), fewer labels₂ relaxed)
+      where
+        relaxed : Relaxed starts neighbours costs (settledRows labels rows u (getD keys u 0)) u (settledLabels labels root u) labels₂
+        relaxed = subst (λ (t : List ℕ). Relaxed starts neighbours costs t u (settledLabels labels root u) labels₂) f
+            (subst (λ (t : List ℕ). Relaxed starts neighbours costs rows₁ u t labels₂) e X)
 
   -- The end.
   pub search-ends : {labels rows : List ℕ} {least : ℕ} → Underway n starts neighbours costs keys root labels rows → LeastOf labels n least → noCost ≤ least

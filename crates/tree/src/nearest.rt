@@ -2,7 +2,7 @@
 ghost use mathlib.Core.Path.{_≡_};
 ghost use Prim.Native.Nat.{_≤_, _<_, min};
 ghost use lib.ListN.{length};
-ghost use Rattle.tree.specs.Labels.{LeastOf, AtPlace};
+ghost use Rattle.tree.specs.Labels.{LeastOf, WaitsAt};
 
 fn lesser(a: u32, b: u32) -> u32
     ensures { λ r. ⌜ r ≡ min a b ⌝ }
@@ -27,7 +27,7 @@ pub fn least_waiting(labels: &[u32], n: usize) -> u32
 // The first bridge that waits at this cost.
 pub fn first_waiting(labels: &[u32], n: usize, least: u32) -> usize
     requires { ⌜ (n ≤ length (now labels)) × LeastOf (now labels) n least × (least < 4294967295) ⌝ }
-    ensures { λ r. ⌜ AtPlace (now (labels .entry)) n least r ⌝ }
+    ensures { λ r. ⌜ WaitsAt (now (labels .entry)) n least r ⌝ }
 {
     let mut u = 0;
     while labels[u] != least {
