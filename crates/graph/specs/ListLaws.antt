@@ -661,6 +661,11 @@ module _ {A : Type 0} where
   total-most f g [] h = omega arith
   total-most f g (x ∷ xs) h = omega (arith, h x (inl refl), total-most f g xs (λ y k. h y (inr k)))
 
+  -- Where no term of a sum rises and one falls, the sum falls.
+  pub total-falls : (f g : A → ℕ) (xs : List A) → ((x : A) → f x ≤ g x) → (a : A) → In a xs → f a < g a → total f xs < total g xs
+  total-falls f g (x ∷ xs) h a (inl e) l = omega (arith, ap f e, ap g e, total-most f g xs (λ y k. h y))
+  total-falls f g (x ∷ xs) h a (inr k) l = omega (arith, h x, total-falls f g xs h a k l)
+
   pub total-bounded : (f : A → ℕ) (n : ℕ) (xs : List A) → ((x : A) → In x xs → f x ≤ n) → total f xs ≤ length xs * n
   total-bounded f n [] h = omega arith
   total-bounded f n (x ∷ xs) h = omega (arith, h x (inl refl), total-bounded f n xs (λ y k. h y (inr k)))

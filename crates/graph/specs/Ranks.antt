@@ -1,6 +1,6 @@
 -- Laws of cost and rank over any lists of bridges, joined or not (01, "The chosen path").
 -- Assumes nothing.
-use Prim.Native.Nat.{ℕ, _+_, _-_, _<_}
+use Prim.Native.Nat.{ℕ, _+_, _-_, _*_, _≤_, _<_}
 use native.Mathlib.Omega.{arith}
 use mathlib.Core.Path.{_≡_, refl, sym, ap, _∙_}
 use mathlib.Core.List.{List, [], _∷_, _++_, map, reverse, append-assoc, reverse-cons, map-append}
@@ -22,6 +22,12 @@ module _ (g : Graph) where
   pub cost-stay : (u : ℕ) → costOnward g u [] ≡ 0
   unfolding costOnward
   cost-stay u = refl
+
+  -- A path whose hops cost no more than `most` each costs no more than so many times that.
+  pub cost-most : (most : ℕ) → ((u v : ℕ) → g .hop u v ≤ most) → (u : ℕ) (t : List ℕ) → costOnward g u t ≤ length t * most
+  unfolding costOnward
+  cost-most most h u [] = omega arith
+  cost-most most h u (v ∷ t) = omega (arith, h u v, cost-most most h v t)
 
   -- "Its cost is the sum of its hops' costs" (01, "The chosen path"): that of two parts one after the other is the sum of theirs.
   pub cost-behind : (u : ℕ) (t s : List ℕ) → costOnward g u (t ++ s) ≡ costOnward g u t + costOnward g (lastOf u t) s

@@ -1,0 +1,34 @@
+-- `tree::search::advance` settles the nearest bridge and relaxes its neighbours. Assumes nothing.
+use Rattle.tree.specs.SearchLaws.{search-settleable, search-relaxable-on, search-goes-on}
+use borrow.Author.Needs.{needs}
+use Rattle.tree.proofs.search.advance.Statement.{statement}
+use Rattle.tree.proofs.search.advance.Tie as tie
+
+first-waiting-requires : tie.Need-first-waiting-requires
+first-waiting-requires c κs = search needs
+
+settle-requires : tie.Need-settle-requires
+settle-requires c κs = search-settleable _ _ _ _ _ _ (c .before .before .before .before .before .before .before .before .before .before .pre .0) (c .before .before .before .before .before .before .before .before .before .before .pre .1) (c .before .before .before .before .before .before .before .before .before .before .pre .2) (c .before .before .first-waiting .ensures)
+
+relax-all-requires : tie.Need-relax-all-requires
+relax-all-requires c κs = search-relaxable-on _ _ _ _ _ _ (c .before .before .before .before .before .before .before .before .before .before .before .before .before .before .before .before .before .pre .0) (c .before .before .before .before .before .before .before .before .before .before .before .before .before .before .before .before .before .pre .1) (c .before .before .before .before .before .before .before .before .before .before .before .before .before .before .before .before .before .pre .2) (c .before .before .before .before .before .before .before .before .before .first-waiting .ensures) (c .before .before .before .before .before .before .settle .ensures .0) (c .before .before .before .before .before .before .settle .ensures .1)
+
+same-length : tie.Need-same-length
+same-length c = search needs
+
+same-length-2 : tie.Need-same-length-2
+same-length-2 c = search needs
+
+returns : tie.Need-returns
+returns c = search-goes-on _ _ _ _ _ _ (c .before .before .before .before .before .before .before .before .before .before .before .before .before .before .before .before .before .before .before .before .pre .0) (c .before .before .before .before .before .before .before .before .before .before .before .before .before .before .before .before .before .before .before .before .pre .1) (c .before .before .before .before .before .before .before .before .before .before .before .before .before .before .before .before .before .before .before .before .pre .2) (c .before .before .before .before .before .before .before .before .before .before .before .before .first-waiting .ensures) (c .before .before .before .before .before .before .before .before .before .settle .ensures .0) (c .before .before .before .before .before .before .before .before .before .settle .ensures .1) (c .before .before .relax-all .ensures)
+
+pub advance-spec : {M : Type 1} → statement M
+advance-spec =
+    tie.close
+    (tie.spec
+    first-waiting-requires
+    settle-requires
+    relax-all-requires
+    same-length
+    same-length-2
+    returns)

@@ -1,0 +1,65 @@
+-- `tree::settle::clear` clears the labels one after the other. Assumes nothing.
+use Prim.Native.Nat.{_-_}
+use native.Mathlib.Omega.{arith}
+use lib.ListN.{length-set}
+use Rattle.tree.specs.SettlingLaws.{Clearing, clearing-starts, clearing-goes-on, clearing-ends}
+use borrow.Author.Needs.{needs}
+use Rattle.tree.proofs.settle.clear.Statement.{statement}
+use Rattle.tree.proofs.settle.clear.Tie as tie
+
+abbrev Inv-loop : tie.InvT-loop
+Inv-loop labels₀ n u₀ labels u = Clearing n labels₀ labels u
+
+abbrev μ-loop : tie.MeasureT-loop
+μ-loop labels₀ n u₀ labels u = n - u
+
+loop-holds : tie.Need-loop-holds Inv-loop μ-loop
+loop-holds c = clearing-starts _ _
+
+mul-labels : tie.Need-mul-labels Inv-loop μ-loop
+mul-labels c = search needs
+
+slice-write-labels : tie.Need-slice-write-labels Inv-loop μ-loop
+slice-write-labels c = search needs
+
+add-labels : tie.Need-add-labels Inv-loop μ-loop
+add-labels c = search needs
+
+mul-labels-2 : tie.Need-mul-labels-2 Inv-loop μ-loop
+mul-labels-2 c = search needs
+
+slice-write-labels-2 : tie.Need-slice-write-labels-2 Inv-loop μ-loop
+slice-write-labels-2 c = simp length-set (omega (arith, c .before .loop .inv .so-far .same-length))
+
+add-u : tie.Need-add-u Inv-loop μ-loop
+add-u c = search needs
+
+loop-less : tie.Need-loop-less Inv-loop μ-loop
+loop-less c = search needs
+
+loop-again : tie.Need-loop-again Inv-loop μ-loop
+loop-again c = clearing-goes-on (c .before .loop .inv) (c .before .before .pre .0) (c .before .before .pre .1) (c .loop-test .taken)
+
+same-length : tie.Need-same-length Inv-loop μ-loop
+same-length c = c .before .loop .inv .so-far .same-length
+
+returns : tie.Need-returns Inv-loop μ-loop
+returns c = clearing-ends (c .before .loop .inv) (c .loop-test .left)
+
+pub clear-spec : {M : Type 1} → statement M
+clear-spec =
+    tie.close
+    (tie.spec
+    Inv-loop
+    μ-loop
+    loop-holds
+    mul-labels
+    slice-write-labels
+    add-labels
+    mul-labels-2
+    slice-write-labels-2
+    add-u
+    loop-less
+    loop-again
+    same-length
+    returns)

@@ -1,0 +1,80 @@
+-- The labels of a search, in one list of five parts with 64 places each, one place for each bridge (01, "The table": up to 64): the
+-- cost at which the bridge waits to be settled, its cost, its hops, its next hop towards the root, its first hop from the root.
+-- Assumes nothing.
+use Prim.Native.Nat.{ℕ, _+_, _≤_, _<_}
+use mathlib.Core.Path.{_≡_}
+use mathlib.Core.List.{List, _∷_}
+use mathlib.Core.Logic.{_⊎_}
+use mathlib.Core.Bool.{cond, _&&_}
+use lib.Dec.{eqb, ltb, leb}
+use lib.ListN.{getD, set}
+use Rattle.graph.specs.Lists.{spliced}
+use Rattle.graph.specs.Order.{lower, insert}
+use Rattle.graph.specs.Lookups.{State}
+use Rattle.ect.specs.Rows.{rowPlace, rowOf}
+
+-- The greatest number of 32 bits stands for no cost: a bridge that has no label, or one that no longer waits.
+abbrev pub noCost : ℕ
+noCost = 4294967295
+
+pub record Label : Type 0 where
+  pub waits : ℕ
+  pub far : ℕ
+  pub steps : ℕ
+  pub next : ℕ
+  pub first : ℕ
+
+abbrev pub labelAt : List ℕ → ℕ → Label
+labelAt labels u = record {
+  waits = getD labels u 0;
+  far = getD labels (64 + u) 0;
+  steps = getD labels (128 + u) 0;
+  next = getD labels (192 + u) 0;
+  first = getD labels (256 + u) 0;
+}
+
+-- No one of the first `n` bridges waits at a lower cost than `least`, and one waits at it where it is a cost.
+pub record LeastOf (labels : List ℕ) (n least : ℕ) : Type 0 where
+  pub most : least ≤ noCost
+  pub none-less : (u : ℕ) → u < n → least ≤ labelAt labels u .waits
+  pub one-has : (least ≡ noCost) ⊎ ((u : ℕ) × (u < n) × (labelAt labels u .waits ≡ least))
+
+-- The bridge `u` waits at this cost.
+pub record WaitsAt (labels : List ℕ) (n least u : ℕ) : Type 0 where
+  pub inside : u < n
+  pub has : labelAt labels u .waits ≡ least
+
+-- What a label is compared by, and what the way through the bridge `via` is compared by, with its cost and hops.
+abbrev pub labelRank : List ℕ → Label → List ℕ
+labelRank rows b = b .far ∷ b .steps ∷ rowOf rows (b .next) (b .steps)
+
+abbrev pub offerRank : List ℕ → ℕ → ℕ → ℕ → List ℕ
+offerRank rows via cost hops = cost ∷ hops ∷ rowOf rows via hops
+
+-- The way through the bridge `via` is the label of the bridge `v` now.
+abbrev pub taken : List ℕ → ℕ → ℕ → ℕ → ℕ → List ℕ
+taken labels via v cost hops = set (set (set (set labels v cost) (64 + v) cost) (128 + v) hops) (192 + v) via
+
+-- The bridge `v` was offered the way through the bridge `via`.
+abbrev pub relaxed : List ℕ → List ℕ → ℕ → ℕ → ℕ → ℕ → List ℕ
+relaxed labels rows via v cost hops =
+    cond (lower (offerRank rows via cost hops) (labelRank rows (labelAt labels v))) (taken labels via v cost hops) labels
+
+-- The bridge `u` was settled.
+abbrev pub settledLabels : List ℕ → ℕ → ℕ → List ℕ
+settledLabels labels root u =
+    set (set labels (256 + u) (cond (eqb (labelAt labels u .next) root) u (labelAt labels (labelAt labels u .next) .first))) u noCost
+
+abbrev pub settledRows : List ℕ → List ℕ → ℕ → ℕ → List ℕ
+settledRows labels rows u key = spliced rows (rowPlace u) (insert key (rowOf rows (labelAt labels u .next) (labelAt labels u .steps)))
+
+-- What the first `n` labels and the rows stand for. A settled bridge has a cost and does not wait.
+abbrev pub stateOf : ℕ → List ℕ → List ℕ → State
+stateOf n labels rows = record {
+  settled = λ u. ltb u n && (ltb (labelAt labels u .far) noCost && leb noCost (labelAt labels u .waits));
+  labelled = λ u. ltb (labelAt labels u .far) noCost;
+  far = λ u. labelAt labels u .far;
+  steps = λ u. labelAt labels u .steps;
+  next = λ u. labelAt labels u .next;
+  row = λ u. rowOf rows u (labelAt labels u .steps + 1);
+}

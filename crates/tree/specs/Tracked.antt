@@ -1,0 +1,37 @@
+-- What a search keeps true of its labels and rows.
+-- Assumes nothing.
+use Prim.Native.Nat.{ℕ, _≤_, _<_}
+use mathlib.Core.Path.{_≡_}
+use mathlib.Core.List.{List}
+use mathlib.Core.Logic.{_⊎_}
+use mathlib.Core.Bool.{cond}
+use lib.Dec.{T}
+use lib.ListN.{length}
+use Rattle.graph.specs.Lists.{rising}
+use Rattle.graph.specs.Members.{total}
+use Rattle.graph.specs.Graph.{Graph}
+use Rattle.graph.specs.Chosen.{Chosen}
+use Rattle.graph.specs.Lookups.{Kept}
+use Rattle.tree.specs.Labels.{noCost, labelAt, stateOf}
+use Rattle.tree.specs.Trees.{Represents, Keyed, Represented, firstBack}
+
+-- For one graph and key that the lists stand for.
+pub record Tracked (g : Graph) (key : ℕ → ℕ) (n root : ℕ) (labels rows : List ℕ) : Type 0 where
+  pub kept : Kept g key root (stateOf n labels rows)
+  pub waits-or-not : (x : ℕ) → x < n → (labelAt labels x .waits ≡ noCost) ⊎ (labelAt labels x .waits ≡ labelAt labels x .far)
+  pub far-most : (x : ℕ) → x < n → labelAt labels x .far ≤ noCost
+  pub next-in : (x : ℕ) → x < n → labelAt labels x .far < noCost → labelAt labels x .next < n
+  pub root-next : labelAt labels root .next ≡ root
+  pub first-is : (v : ℕ) → v < n → T (stateOf n labels rows .settled v) → (p : List ℕ) → Chosen g key v root p → labelAt labels v .first ≡ firstBack p
+
+-- A search under way: the lists stand for some graph and key, and what is kept is kept for every such graph and key.
+pub record Underway (n : ℕ) (starts neighbours costs keys : List ℕ) (root : ℕ) (labels rows : List ℕ) : Type 0 where
+  pub root-in : root < n
+  pub has-labels : 320 ≤ length labels
+  pub has-rows : 4096 ≤ length rows
+  pub represented : Represented n starts neighbours costs keys
+  pub tracked : (g : Graph) (key : ℕ → ℕ) → Represents g n starts neighbours costs → Keyed g key keys → Tracked g key n root labels rows
+
+-- How many of the first `n` bridges are not settled.
+abbrev pub openBridges : ℕ → List ℕ → ℕ
+openBridges n labels = total (λ u. cond (stateOf n labels labels .settled u) 0 1) (rising 0 n)

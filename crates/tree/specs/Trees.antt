@@ -1,0 +1,67 @@
+-- Neighbour lists that stand for a graph, and the tree of chosen paths to a root: what the label of each bridge says of its path
+-- (01, "The chosen path").
+-- Assumes nothing.
+use Prim.Native.Nat.{ℕ, _+_, _≤_, _<_}
+use mathlib.Core.Path.{_≡_}
+use mathlib.Core.List.{List, [], _∷_}
+use mathlib.Core.Option.{Option, none, some}
+use lib.Dec.{T}
+use lib.ListN.{length, getD}
+use Rattle.graph.specs.Graph.{Graph, GraphLaws, KeyLaws, Joined, cost, hops}
+use Rattle.graph.specs.Chosen.{chosen}
+use Rattle.tree.specs.Labels.{noCost, Label, labelAt}
+
+-- The lists stand for the graph: the places from `starts` of a bridge to `starts` of the next hold exactly the bridges joined to it,
+-- with the cost of the hop. All bridges may lie between, and no hop costs more than 16,777,214, the greatest usable metric.
+pub record Represents (g : Graph) (n : ℕ) (starts neighbours costs : List ℕ) : Type 0 where
+  pub size-is : g .size ≡ n
+  pub most : n ≤ 64
+  pub laws : GraphLaws g
+  pub all-between : (u : ℕ) → T (g .between u)
+  pub hop-most : (u v : ℕ) → g .hop u v ≤ 16777214
+  pub has-starts : n < length starts
+  pub in-order : (u : ℕ) → u < n → getD starts u 0 ≤ getD starts (u + 1) 0
+  pub has-neighbours : (u : ℕ) → u < n → getD starts (u + 1) 0 ≤ length neighbours
+  pub has-costs : (u : ℕ) → u < n → getD starts (u + 1) 0 ≤ length costs
+  pub joined : (u i : ℕ) → u < n → getD starts u 0 ≤ i → i < getD starts (u + 1) 0 → Joined g u (getD neighbours i 0)
+  pub cost-is : (u i : ℕ) → u < n → getD starts u 0 ≤ i → i < getD starts (u + 1) 0 → getD costs i 0 ≡ g .hop u (getD neighbours i 0)
+  pub listed : (u v : ℕ) → u < n → Joined g u v → (i : ℕ) × (getD starts u 0 ≤ i) × (i < getD starts (u + 1) 0) × (getD neighbours i 0 ≡ v)
+
+-- The list holds the key of each bridge.
+pub record Keyed (g : Graph) (key : ℕ → ℕ) (keys : List ℕ) : Type 0 where
+  pub laws : KeyLaws g key
+  pub has-keys : g .size ≤ length keys
+  pub key-is : (u : ℕ) → u < g .size → getD keys u 0 ≡ key u
+
+-- The lists stand for some graph and key.
+pub record Represented (n : ℕ) (starts neighbours costs keys : List ℕ) : Type 0 where
+  pub graph : Graph
+  pub key : ℕ → ℕ
+  pub represents : Represents graph n starts neighbours costs
+  pub keyed : Keyed graph key keys
+
+-- The second bridge of a path, and its last but one: the next hop towards the path's end, and the first hop of the way back.
+-- Of a path from a bridge to itself both are that bridge.
+abbrev pub nextOf : List ℕ → ℕ
+nextOf [] = 0
+nextOf (u ∷ []) = u
+nextOf (u ∷ v ∷ t) = v
+
+abbrev pub firstBack : List ℕ → ℕ
+firstBack [] = 0
+firstBack (u ∷ []) = u
+firstBack (u ∷ v ∷ []) = u
+firstBack (u ∷ v ∷ w ∷ t) = firstBack (v ∷ w ∷ t)
+
+-- What the label says of the chosen path of its bridge to the root. Where no path exists it has no cost.
+abbrev pub SaysPath : Graph → Option (List ℕ) → Label → Type 0
+SaysPath g none b = b .far ≡ noCost
+SaysPath g (some p) b = (b .far ≡ cost g p) × (b .steps ≡ hops p) × (b .next ≡ nextOf p) × (b .first ≡ firstBack p)
+
+-- The labels are the tree rooted at `root`.
+pub record TreeOf (g : Graph) (key : ℕ → ℕ) (root : ℕ) (labels : List ℕ) : Type 0 where
+  pub each : (u : ℕ) → u < g .size → SaysPath g (chosen g key u root) (labelAt labels u)
+
+-- They are so for every graph and key that the lists stand for.
+pub record IsTree (n : ℕ) (starts neighbours costs keys : List ℕ) (root : ℕ) (labels : List ℕ) : Type 0 where
+  pub of-graph : (g : Graph) (key : ℕ → ℕ) → Represents g n starts neighbours costs → Keyed g key keys → TreeOf g key root labels

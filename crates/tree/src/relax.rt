@@ -1,0 +1,74 @@
+// Relaxing: each neighbour of a settled bridge is offered the way through it, and takes it where it ranks below its label
+// (01, "The chosen path": "the least cost, then the fewest hops, then the lowest masked PATHID").
+use ect::row::is_lower_row;
+use rule::measure::Cost;
+use rule::measure::Hops;
+ghost use mathlib.Core.Path.{_≡_};
+ghost use Rattle.graph.specs.Order.{lower};
+ghost use Rattle.tree.specs.Labels.{labelAt, labelRank, offerRank, relaxed};
+ghost use Rattle.tree.specs.Relaxing.{Comparable, Relaxable, Relaxed};
+
+// Whether the way through the bridge `via` ranks below the label of the bridge `v`. The key of `v` itself is left out of both
+// PATHIDs: inserting it keeps their order.
+fn is_lower_offer(
+    labels: &[u32],
+    rows: &[u64],
+    via: usize,
+    v: usize,
+    cost: Cost,
+    hops: Hops,
+) -> bool
+    requires { ⌜ Comparable (now labels) (now rows) via v (cost .0) (hops .0) ⌝ }
+    ensures { λ r. ⌜ r ≡ lower (offerRank (now (rows .entry)) via (cost .0) (hops .0)) (labelRank (now (rows .entry)) (labelAt (now (labels .entry)) v)) ⌝ }
+{
+    let old_cost = labels[64 + v];
+    if cost.0 != old_cost {
+        return cost.0 < old_cost;
+    }
+    let old_hops = labels[128 + v];
+    if hops.0 != old_hops {
+        return hops.0 < old_hops;
+    }
+    let next = labels[192 + v] as usize;
+    is_lower_row(rows, via, next, hops.0 as usize)
+}
+
+// Offers the bridge `v` the way through the bridge `via`.
+fn relax(labels: &mut [u32], rows: &[u64], via: usize, v: usize, cost: Cost, hops: Hops)
+    requires { ⌜ Comparable (now labels) (now rows) via v (cost .0) (hops .0) ⌝ }
+    ensures { λ _. ⌜ now (labels .exit) ≡ relaxed (now (labels .entry)) (now (rows .entry)) via v (cost .0) (hops .0) ⌝ }
+{
+    let new_cost = cost.0;
+    let new_hops = hops.0;
+    if !is_lower_offer(&labels[..], rows, via, v, cost, hops) {
+        return;
+    }
+    labels[v] = new_cost;
+    labels[64 + v] = new_cost;
+    labels[128 + v] = new_hops;
+    labels[192 + v] = via as u32;
+}
+
+// Offers each neighbour of the settled bridge `via` the way through it.
+pub fn relax_all(
+    starts: &[u32],
+    neighbours: &[u32],
+    costs: &[u32],
+    rows: &[u64],
+    labels: &mut [u32],
+    via: usize,
+)
+    requires { ⌜ Relaxable (now starts) (now neighbours) (now costs) (now rows) (now labels) via ⌝ }
+    ensures { λ _. ⌜ Relaxed (now (starts .entry)) (now (neighbours .entry)) (now (costs .entry)) (now (rows .entry)) via (now (labels .entry)) (now (labels .exit)) ⌝ }
+{
+    let far = labels[64 + via];
+    let steps = labels[128 + via];
+    let end = starts[via + 1] as usize;
+    let mut i = starts[via] as usize;
+    while i < end {
+        let cost = Cost(far).plus(Cost(costs[i]));
+        let hops = Hops(steps).plus(Hops(1));
+        relax(labels, rows, via, neighbours[i] as usize, cost, hops);
+        i += 1;
+    }
+}

@@ -1,0 +1,66 @@
+// The search for the tree of chosen paths to a root (01, "The chosen path"): again and again the nearest bridge that waits is settled
+// and its neighbours are relaxed, until none waits.
+use crate::nearest::first_waiting;
+use crate::nearest::least_waiting;
+use crate::relax::relax_all;
+use crate::settle::begin;
+use crate::settle::settle;
+ghost use Prim.Native.Nat.{_≤_, _<_};
+ghost use lib.ListN.{length};
+ghost use Rattle.tree.specs.Labels.{LeastOf};
+ghost use Rattle.tree.specs.Trees.{Represented, IsTree};
+ghost use Rattle.tree.specs.Tracked.{Underway, openBridges};
+
+// Settles the first bridge that waits at the least cost, and offers its neighbours the way through it.
+fn advance(
+    starts: &[u32],
+    neighbours: &[u32],
+    costs: &[u32],
+    keys: &[u64],
+    labels: &mut [u32],
+    rows: &mut [u64],
+    n: usize,
+    root: usize,
+    least: u32,
+)
+    requires { ⌜ Underway n (now starts) (now neighbours) (now costs) (now keys) root (now labels) (now rows) × LeastOf (now labels) n least × (least < 4294967295) ⌝ }
+    ensures { λ _. ⌜ Underway n (now (starts .entry)) (now (neighbours .entry)) (now (costs .entry)) (now (keys .entry)) root (now (labels .exit)) (now (rows .exit)) × (openBridges n (now (labels .exit)) < openBridges n (now (labels .entry))) ⌝ }
+{
+    let u = first_waiting(&labels[..], n, least);
+    settle(labels, rows, keys, root, u);
+    relax_all(starts, neighbours, costs, &rows[..], labels, u);
+}
+
+// For each of the `n` bridges the cost, the hops, the next hop towards the root and the first hop from the root of its chosen path to
+// the root; the greatest number as the cost where no path exists.
+pub fn tree(
+    starts: &[u32],
+    neighbours: &[u32],
+    costs: &[u32],
+    keys: &[u64],
+    labels: &mut [u32],
+    rows: &mut [u64],
+    n: usize,
+    root: usize,
+)
+    requires { ⌜ Represented n (now starts) (now neighbours) (now costs) (now keys) × (root < n) × (320 ≤ length (now labels)) × (4096 ≤ length (now rows)) ⌝ }
+    ensures { λ _. ⌜ IsTree n (now (starts .entry)) (now (neighbours .entry)) (now (costs .entry)) (now (keys .entry)) root (now (labels .exit)) ⌝ }
+{
+    begin(labels, rows, keys, n, root);
+    relax_all(starts, neighbours, costs, &rows[..], labels, root);
+    let mut least = least_waiting(&labels[..], n);
+    while least < 4294967295 {
+        advance(
+            starts,
+            neighbours,
+            costs,
+            keys,
+            labels,
+            rows,
+            n,
+            root,
+            least,
+        );
+        least = least_waiting(&labels[..], n);
+    }
+}

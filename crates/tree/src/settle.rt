@@ -1,0 +1,53 @@
+// Settling: a bridge gets its row and its first hop from the root, and waits no more.
+use ect::row::insert_row;
+ghost use mathlib.Core.Path.{_≡_};
+ghost use mathlib.Core.Bool.{cond};
+ghost use lib.Dec.{eqb};
+ghost use Prim.Native.Nat.{_≤_, _<_};
+ghost use lib.ListN.{length, getD};
+ghost use Rattle.tree.specs.Labels.{settledLabels, settledRows};
+ghost use Rattle.tree.specs.Settling.{Settleable, Cleared, Begun};
+
+// The first hop from the root on the way to the bridge `u`: `u` itself, or that on the way to its next hop.
+fn first_hop(u: u32, next: usize, root: usize, first: u32) -> u32
+    ensures { λ r. ⌜ r ≡ cond (eqb next root) u first ⌝ }
+{
+    if next == root { u } else { first }
+}
+
+// Settles the bridge `u` with its label.
+pub fn settle(labels: &mut [u32], rows: &mut [u64], keys: &[u64], root: usize, u: usize)
+    requires { ⌜ Settleable (now labels) (now rows) (now keys) u ⌝ }
+    ensures { λ _. ⌜ (now (labels .exit) ≡ settledLabels (now (labels .entry)) root u) × (now (rows .exit) ≡ settledRows (now (labels .entry)) (now (rows .entry)) u (getD (now (keys .entry)) u 0)) ⌝ }
+{
+    let next = labels[192 + u] as usize;
+    insert_row(rows, next, u, labels[128 + u] as usize, keys[u]);
+    labels[256 + u] = first_hop(u as u32, next, root, labels[256 + next]);
+    labels[u] = 4294967295;
+}
+
+// No bridge has a label.
+fn clear(labels: &mut [u32], n: usize)
+    requires { ⌜ (n ≤ 64) × (320 ≤ length (now labels)) ⌝ }
+    ensures { λ _. ⌜ Cleared n (now (labels .entry)) (now (labels .exit)) ⌝ }
+{
+    let mut u = 0;
+    while u < n {
+        labels[u] = 4294967295;
+        labels[64 + u] = 4294967295;
+        u += 1;
+    }
+}
+
+// The root alone is settled: "a path from a bridge to itself is that bridge, cost 0, hops 0".
+pub fn begin(labels: &mut [u32], rows: &mut [u64], keys: &[u64], n: usize, root: usize)
+    requires { ⌜ (n ≤ 64) × (root < n) × (320 ≤ length (now labels)) × (4096 ≤ length (now rows)) × (n ≤ length (now keys)) ⌝ }
+    ensures { λ _. ⌜ Begun n root (getD (now (keys .entry)) root 0) (now (labels .entry)) (now (rows .entry)) (now (labels .exit)) (now (rows .exit)) ⌝ }
+{
+    clear(labels, n);
+    labels[64 + root] = 0;
+    labels[128 + root] = 0;
+    labels[192 + root] = root as u32;
+    labels[256 + root] = root as u32;
+    rows[root * 64] = keys[root];
+}
