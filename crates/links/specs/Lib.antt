@@ -2,3 +2,5 @@
 pub mod Mates
 pub mod MateLaws
 pub mod CountLaws
+pub mod Pairs
+pub mod PairLaws

@@ -1,2 +1,3 @@
 // The links of a table that passed the check (01, "Links").
+pub mod pairs;
 pub mod usable;
