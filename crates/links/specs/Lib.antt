@@ -4,3 +4,5 @@ pub mod MateLaws
 pub mod CountLaws
 pub mod Pairs
 pub mod PairLaws
+pub mod Listing
+pub mod Neighbours
