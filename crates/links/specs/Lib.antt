@@ -6,3 +6,4 @@ pub mod Pairs
 pub mod PairLaws
 pub mod Listing
 pub mod Neighbours
+pub mod NeighbourLaws

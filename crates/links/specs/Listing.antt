@@ -11,7 +11,7 @@ use lib.Seq.{getD-set-same, getD-set-other}
 use native.Mathlib.Numerals.{add-one}
 use Rattle.graph.specs.Lists.{rising, filter, consIf}
 use Rattle.graph.specs.Members.{In}
-use Rattle.graph.specs.ListLaws.{le-or-gt, true-test, is-true, filter-in, filter-append, distinct-within, distinct-filter, distinct-rising, same-or-not}
+use Rattle.graph.specs.ListLaws.{le-or-gt, true-test, is-true, filter-in, filter-append, distinct-within, distinct-filter, distinct-rising, rising-in, same-or-not}
 use Rattle.graph.specs.Searching.{rising-more}
 
 -- How many numbers below `k` pass: the place of `k` in the list, where it passes.
@@ -84,11 +84,13 @@ module _ (test : ℕ → Bool) where
           reach (inr d) = absurd (omega (arith, how-many-rises (suc m) a d, more m true e))
 
   -- They are no more than a list has that holds them all.
-  pub how-many-most : (xs : List ℕ) → ((k : ℕ) → test k ≡ true → In k xs) → (k : ℕ) → howMany test k ≤ length xs
+  pub how-many-most : (xs : List ℕ) (k : ℕ) → ((j : ℕ) → j < k → test j ≡ true → In j xs) → howMany test k ≤ length xs
   unfolding howMany
-  how-many-most xs h k =
+  how-many-most xs k h =
       distinct-within (filter test (rising 0 k)) xs (distinct-filter test (rising 0 k) (distinct-rising 0 k))
-      λ j i. h j (is-true (test j) (filter-in test j (rising 0 k) i .1))
+      λ j i.
+      let r = filter-in test j (rising 0 k) i
+      in h j (omega (arith, rising-in 0 k j (r .0) .1)) (is-true (test j) (r .1))
 
   -- The list holds a value for each number below `k` that passes.
   pub record Holds (value : ℕ → ℕ) (l : List ℕ) (k : ℕ) : Type 0 where

@@ -182,7 +182,7 @@ module _ {t links : List ℕ} {s : Shape} (C : Checked t links s) where
   abbrev plan : Plan
   plan = planAt (wordsOf t) s
 
-  bridges-counted : length (plan .bridges) ≡ s .bridges
+  pub bridges-counted : length (plan .bridges) ≡ s .bridges
   bridges-counted = how-many bridgeOf 3 0 (wordsOf t) (s .bridges)
 
   pub few-bridges : s .bridges ≤ 64
