@@ -11,7 +11,7 @@ use lib.Seq.{getD-set-same, getD-set-other}
 use native.Mathlib.Numerals.{add-one}
 use Rattle.graph.specs.Lists.{rising, filter, consIf}
 use Rattle.graph.specs.Members.{In}
-use Rattle.graph.specs.ListLaws.{le-or-gt, true-test, is-true, filter-in, filter-append, distinct-within, distinct-filter, distinct-rising, rising-in, same-or-not}
+use Rattle.graph.specs.ListLaws.{le-or-gt, is-true, filter-in, filter-append, distinct-within, distinct-filter, distinct-rising, rising-in}
 use Rattle.graph.specs.Searching.{rising-more}
 
 -- How many numbers below `k` pass: the place of `k` in the list, where it passes.

@@ -1,13 +1,12 @@
 -- The neighbour lists of a table that passed the check are those of its plan: each bridge joined to another, with the cost and the near
 -- port of the link that the hop takes. Assumes nothing.
-use Prim.Native.Nat.{ℕ, _+_, _*_, _/_, _%_, _≤_, _<_}
+use Prim.Native.Nat.{ℕ, _+_, _*_, _%_, _≤_, _<_}
 use native.Mathlib.Omega.{arith}
-use mathlib.Core.Path.{_≡_, refl, sym, ap, _∙_, subst}
+use mathlib.Core.Path.{_≡_, sym, ap, _∙_, subst}
 use mathlib.Core.List.{List, map}
 use mathlib.Core.Option.{some}
 use mathlib.Core.Logic.{_⊎_, inl, inr}
 use mathlib.Core.Bool.{true, false, not}
-use lib.Dec.{eqb}
 use lib.ListN.{length, getD, length-map}
 use borrow.Author.Tests.{eq-eqb, ne-eqb}
 use Rattle.graph.specs.Members.{In}
@@ -50,8 +49,13 @@ module _ {t links : List ℕ} {s : Shape} (C : Checked t links s) {pairs : List 
   room = record {
     most = few-bridges C;
     size = omega (arith, few-bridges C, B .size);
-    few = omega (arith, how-many-most (isHop pairs) (map placeOf (p .halfLinks)) (64 * n) (λ k l e. held k e (B .one-has k l)),
-        length-map (p .halfLinks) placeOf, how-many halfLinkOf 3 (halfLinksFrom s) (wordsOf t) (s .«half_links»), C .by-number .indexed .few);
+    few = omega (
+      arith,
+      how-many-most (isHop pairs) (map placeOf (p .halfLinks)) (64 * n) (λ k l e. held k e (B .one-has k l)),
+      length-map (p .halfLinks) placeOf,
+      how-many halfLinkOf 3 (halfLinksFrom s) (wordsOf t) (s .«half_links»),
+      C .by-number .indexed .few,
+    );
     narrow = λ k l d. fits k d (B .one-has k l);
   }
     where
@@ -122,7 +126,7 @@ module _ {t links : List ℕ} {s : Shape} (C : Checked t links s) {pairs : List 
         there u v a l e f i =
             let b : v < 64 = omega (arith, C .laws .half-links .fits (l .here) i .far-known, few-of-plan)
             in let d : isHop pairs (pairPlace u v) ≡ true = ap not (ne-eqb (getD pairs (pairPlace u v) 0) noHop
-                (λ q. none-not-some (sym (hop-none p (C .laws) few-of-plan (narrow C) of-plan u v b q) ∙ e)))
+            (λ q. none-not-some (sym (hop-none p (C .laws) few-of-plan (narrow C) of-plan u v b q) ∙ e)))
             in (
               howMany (isHop pairs) (pairPlace u v),
               omega (arith, start u a, how-many-rises (isHop pairs) (64 * u) (pairPlace u v) (omega arith)),

@@ -1,10 +1,24 @@
 // Neighbour lists (01, "Links"): for each bridge the bridges joined to it, with the cost and the near port of each hop's link.
+use crate::pairs::lowest_hops;
+use table::shape::Shape;
 ghost use Prim.Native.Nat.{_+_, _*_, _≤_, _<_};
 ghost use lib.ListN.{length};
+ghost use Rattle.rule.specs.Words.{wordsOf};
+ghost use Rattle.table.specs.Positions.{planAt};
+ghost use Rattle.links.specs.Mates.{Checked};
 ghost use Rattle.links.specs.Neighbours.{Listed, Room, Row, Lists};
+ghost use Rattle.links.specs.NeighbourLaws.{NeighboursOf};
 
 // Lists the hops of the bridge `u` from the place `from` on, and gives the place after them.
-fn list_hops(pairs: &[u64], n: usize, u: usize, from: usize, neighbours: &mut [u32], costs: &mut [u32], ports: &mut [u32]) -> usize
+fn list_hops(
+    pairs: &[u64],
+    n: usize,
+    u: usize,
+    from: usize,
+    neighbours: &mut [u32],
+    costs: &mut [u32],
+    ports: &mut [u32],
+) -> usize
     requires { ⌜ Room (now pairs) n × (u < n) × Listed (now pairs) (now neighbours) (now costs) (now ports) (64 * u) from ⌝ }
     requires { ⌜ (512 ≤ length (now neighbours)) × (512 ≤ length (now costs)) × (512 ≤ length (now ports)) ⌝ }
     ensures { λ r. ⌜ Row (now (pairs .entry)) (now (neighbours .entry)) (now (costs .entry)) (now (ports .entry)) (now (neighbours .exit)) (now (costs .exit)) (now (ports .exit)) (64 * u + 64) (64 * u + 64) r ⌝ }
@@ -28,7 +42,14 @@ fn list_hops(pairs: &[u64], n: usize, u: usize, from: usize, neighbours: &mut [u
 }
 
 // Lists the hops of the first `n` bridges, those of the bridge `u` from the place `starts[u]` up to the place `starts[u + 1]`.
-pub fn list_neighbours(pairs: &[u64], n: usize, starts: &mut [u32], neighbours: &mut [u32], costs: &mut [u32], ports: &mut [u32])
+pub fn list_neighbours(
+    pairs: &[u64],
+    n: usize,
+    starts: &mut [u32],
+    neighbours: &mut [u32],
+    costs: &mut [u32],
+    ports: &mut [u32],
+)
     requires { ⌜ Room (now pairs) n × (n < length (now starts)) ⌝ }
     requires { ⌜ (512 ≤ length (now neighbours)) × (512 ≤ length (now costs)) × (512 ≤ length (now ports)) ⌝ }
     ensures { λ _. ⌜ Lists (now (pairs .entry)) n (now (starts .exit)) (now (neighbours .exit)) (now (costs .exit)) (now (ports .exit)) ⌝ }
@@ -41,4 +62,23 @@ pub fn list_neighbours(pairs: &[u64], n: usize, starts: &mut [u32], neighbours: 
         u += 1;
         starts[u] = at as u32;
     }
+}
+
+// The neighbour lists of a table that passed the check.
+pub fn neighbours_of(
+    table: &[u8],
+    s: Shape,
+    links: &[u32],
+    pairs: &mut [u64],
+    starts: &mut [u32],
+    neighbours: &mut [u32],
+    costs: &mut [u32],
+    ports: &mut [u32],
+)
+    requires { ⌜ Checked (now table) (now links) s × (4096 ≤ length (now pairs)) × (s .bridges < length (now starts)) ⌝ }
+    requires { ⌜ (512 ≤ length (now neighbours)) × (512 ≤ length (now costs)) × (512 ≤ length (now ports)) ⌝ }
+    ensures { λ _. ⌜ NeighboursOf (planAt (wordsOf (now (table .entry))) s) (s .bridges) (now (starts .exit)) (now (neighbours .exit)) (now (costs .exit)) (now (ports .exit)) ⌝ }
+{
+    lowest_hops(table, s, links, pairs);
+    list_neighbours(&pairs[..], s.bridges, starts, neighbours, costs, ports);
 }
