@@ -2,3 +2,8 @@
 pub mod Mates
 pub mod MateLaws
 pub mod CountLaws
+pub mod Pairs
+pub mod PairLaws
+pub mod Listing
+pub mod Neighbours
+pub mod NeighbourLaws

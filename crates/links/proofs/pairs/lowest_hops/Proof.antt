@@ -1,0 +1,51 @@
+-- `links::pairs::lowest_hops` clears the places and offers every half-link. Assumes nothing.
+use Prim.Native.Nat.{_-_}
+use Rattle.links.specs.PairLaws.{Offering, few-bridges, offering-starts, offering-goes-on, offering-ends}
+use borrow.Author.Needs.{needs}
+use Rattle.links.proofs.pairs.lowest_hops.Statement.{statement}
+use Rattle.links.proofs.pairs.lowest_hops.Tie as tie
+
+abbrev Inv-loop : tie.InvT-loop
+Inv-loop table s links pairs₀ i₀ pairs i = Offering table s pairs₀ pairs i
+
+abbrev μ-loop : tie.MeasureT-loop
+μ-loop table s links pairs₀ i₀ pairs i = s .«half_links» - i
+
+clear-requires : tie.Need-clear-requires Inv-loop μ-loop
+clear-requires c κs = (few-bridges (c .before .before .before .before .pre .0), c .before .before .before .before .pre .1)
+
+loop-holds : tie.Need-loop-holds Inv-loop μ-loop
+loop-holds c = offering-starts (c .before .before .before .before .before .before .before .pre .0) (c .before .before .clear .ensures)
+
+offer-requires : tie.Need-offer-requires Inv-loop μ-loop
+offer-requires c κs = search needs
+
+add-i : tie.Need-add-i Inv-loop μ-loop
+add-i c = search needs
+
+loop-less : tie.Need-loop-less Inv-loop μ-loop
+loop-less c = search needs
+
+loop-again : tie.Need-loop-again Inv-loop μ-loop
+loop-again c = offering-goes-on (c .before .before .before .before .before .before .before .before .before .before .before .before .before .before .pre .0) (c .before .before .before .before .before .before .loop .inv) (c .before .before .before .before .if1 .taken) _ (c .before .before .offer .ensures)
+
+same-length : tie.Need-same-length Inv-loop μ-loop
+same-length c = search needs
+
+returns : tie.Need-returns Inv-loop μ-loop
+returns c = offering-ends (c .before .before .before .before .before .before .before .before .before .before .pre .0) (c .before .before .loop .inv) (c .if1 .left)
+
+pub lowest-hops-spec : {M : Type 1} → statement M
+lowest-hops-spec =
+    tie.close
+    (tie.spec
+    Inv-loop
+    μ-loop
+    clear-requires
+    loop-holds
+    offer-requires
+    add-i
+    loop-less
+    loop-again
+    same-length
+    returns)

@@ -1,0 +1,81 @@
+-- `links::pairs::offer` passes over an unusable link, and else keeps the lesser number. Assumes nothing.
+use native.Mathlib.Omega.{arith}
+use mathlib.Core.Path.{sym, _∙_}
+use borrow.Author.Tests.{not-true, not-false}
+use Rattle.rule.specs.Words.{wordsOf}
+use Rattle.table.specs.Readers.{halfLinkValues}
+use Rattle.table.specs.Positions.{planAt}
+use Rattle.links.specs.Mates.{halfLinkAt}
+use Rattle.links.specs.PairLaws.{offered-unusable, offered-usable, place-there, hop-fits}
+use borrow.Author.Needs.{needs}
+use Rattle.links.proofs.pairs.offer.Statement.{statement}
+use Rattle.links.proofs.pairs.offer.Tie as tie
+
+half-link-requires : tie.Need-half-link-requires
+half-link-requires c κs = search needs
+
+cast-at : tie.Need-cast-at
+cast-at c = search needs
+
+mul-at : tie.Need-mul-at
+mul-at c = search needs
+
+cast-at-2 : tie.Need-cast-at-2
+cast-at-2 c = search needs
+
+add-at : tie.Need-add-at
+add-at c = search needs
+
+link-metric-requires : tie.Need-link-metric-requires
+link-metric-requires c κs = search needs
+
+is-usable-requires : tie.Need-is-usable-requires
+is-usable-requires c κs = search needs
+
+returns : tie.Need-returns
+returns c = offered-unusable (planAt (wordsOf (c .before .before .before .before .before .before .before .before .before .args .table .now)) (c .before .before .before .before .before .before .before .before .before .args .s) .halfLinks) (c .before .before .before .before .before .before .before .before .before .args .pairs .now) (halfLinkAt (wordsOf (c .before .before .before .before .before .before .before .before .before .args .table .now)) (c .before .before .before .before .before .before .before .before .before .args .s) (c .before .before .before .before .before .before .before .before .before .args .i)) (halfLinkValues (c .before .before .before .before .before .half-link .result)) (c .before .before .before .before .before .half-link .ensures) (c .before .before .link-metric .result .0) (c .before .before .link-metric .ensures) (sym (not-true _ (c .if1 .taken)) ∙ c .before .is-usable .ensures)
+
+mul-lesser : tie.Need-mul-lesser
+mul-lesser c = search needs
+
+slice-read-lesser : tie.Need-slice-read-lesser
+slice-read-lesser c = omega (arith, c .before .before .before .before .before .before .before .before .before .before .pre .2, place-there (c .before .before .before .before .before .before .before .before .before .before .pre .0) (c .before .before .before .before .before .before .before .before .before .before .args .i) (c .before .before .before .before .before .before .before .before .before .before .pre .1) (halfLinkValues (c .before .before .before .before .before .before .half-link .result)) (c .before .before .before .before .before .before .half-link .ensures))
+
+hop-number-requires : tie.Need-hop-number-requires
+hop-number-requires c κs = hop-fits (c .before .before .before .before .before .before .before .before .before .before .pre .0) (c .before .before .before .before .before .before .before .before .before .before .args .i) (c .before .before .before .before .before .before .before .before .before .before .pre .1) (halfLinkValues (c .before .before .before .before .before .before .half-link .result)) (c .before .before .before .before .before .before .half-link .ensures) (c .before .before .before .link-metric .result .0) (sym (not-false _ (c .before .if1 .left)) ∙ c .before .before .is-usable .ensures)
+
+lesser-requires : tie.Need-lesser-requires
+lesser-requires c κs = search needs
+
+mul-pairs : tie.Need-mul-pairs
+mul-pairs c = search needs
+
+slice-write-pairs : tie.Need-slice-write-pairs
+slice-write-pairs c = omega (arith, c .before .before .before .before .before .before .before .before .before .before .before .before .pre .2, place-there (c .before .before .before .before .before .before .before .before .before .before .before .before .pre .0) (c .before .before .before .before .before .before .before .before .before .before .before .before .args .i) (c .before .before .before .before .before .before .before .before .before .before .before .before .pre .1) (halfLinkValues (c .before .before .before .before .before .before .before .before .half-link .result)) (c .before .before .before .before .before .before .before .before .half-link .ensures))
+
+same-length : tie.Need-same-length
+same-length c = search needs
+
+returns-2 : tie.Need-returns-2
+returns-2 c = offered-usable (planAt (wordsOf (c .before .before .before .before .before .before .before .before .before .before .before .before .args .table .now)) (c .before .before .before .before .before .before .before .before .before .before .before .before .args .s) .halfLinks) (c .before .before .before .before .before .before .before .before .before .before .before .before .args .pairs .now) (halfLinkAt (wordsOf (c .before .before .before .before .before .before .before .before .before .before .before .before .args .table .now)) (c .before .before .before .before .before .before .before .before .before .before .before .before .args .s) (c .before .before .before .before .before .before .before .before .before .before .before .before .args .i)) (halfLinkValues (c .before .before .before .before .before .before .before .before .half-link .result)) (c .before .before .before .before .before .before .before .before .half-link .ensures) (c .before .before .before .before .before .link-metric .result .0) (c .before .before .before .before .before .link-metric .ensures) (sym (not-false _ (c .before .before .before .if1 .left)) ∙ c .before .before .before .before .is-usable .ensures) (c .before .hop-number .result) (c .lesser .result) (c .before .hop-number .ensures) (c .lesser .ensures)
+
+pub offer-spec : {M : Type 1} → statement M
+offer-spec =
+    tie.close
+    (tie.spec
+    half-link-requires
+    cast-at
+    mul-at
+    cast-at-2
+    add-at
+    link-metric-requires
+    is-usable-requires
+    returns
+    mul-lesser
+    slice-read-lesser
+    hop-number-requires
+    lesser-requires
+    mul-pairs
+    slice-write-pairs
+    same-length
+    returns-2)
