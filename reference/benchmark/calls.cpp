@@ -1,5 +1,5 @@
 // Measures Boost Graph's plain-cost tree on the networks of tables, and beside
-// it, when WITH_LIBRARY is defined, the exported check and path cost. All are
+// it the exported check, when WITH_CHECK is defined, and path cost, when WITH_PATH is. All are
 // measured in turn within each round; the median of the rounds is printed.
 #include <chrono>
 #include <cstdio>
@@ -7,12 +7,12 @@
 
 #include "table.hpp"
 
-#ifdef WITH_LIBRARY
-extern "C" {
-std::uint32_t spb_check(const std::uint8_t *table, std::size_t len);
-std::uint64_t spb_path_cost(const std::uint8_t *table, std::size_t len, std::uint32_t vid, std::uint32_t from,
-                            std::uint32_t to);
-}
+#ifdef WITH_CHECK
+extern "C" std::uint32_t spb_check(const std::uint8_t *table, std::size_t len);
+#endif
+#ifdef WITH_PATH
+extern "C" std::uint64_t spb_path_cost(const std::uint8_t *table, std::size_t len, std::uint32_t vid, std::uint32_t from,
+                                       std::uint32_t to);
 #endif
 
 namespace {
@@ -47,10 +47,12 @@ void measure(const std::string &name, const Table &table) {
         tree.grow(graph, root);
         sum += tree.costs[table.bridges - 1 - root];
     });
-#ifdef WITH_LIBRARY
+#ifdef WITH_CHECK
     const std::uint8_t *bytes = table.bytes.data();
     const std::size_t length = table.bytes.size();
     calls.push_back([=](std::size_t) { sum += spb_check(bytes, length); });
+#endif
+#ifdef WITH_PATH
     const std::uint32_t vid = table.vids.at(0);
     const std::uint32_t last = std::uint32_t(table.bridges - 1);
     calls.push_back([=](std::size_t from) {
@@ -65,10 +67,13 @@ void measure(const std::string &name, const Table &table) {
     }
     const double boost = median(times[0]);
     std::printf("%-24s %8zu %10zu %10.2f", name.c_str(), table.bridges, table.hops.size() / 2, boost);
-#ifdef WITH_LIBRARY
+#ifdef WITH_CHECK
     const double check = median(times[1]);
+    std::printf(" %10.2f %7.2f", check, check / boost);
+#endif
+#ifdef WITH_PATH
     const double path = median(times[2]);
-    for (const double time : {check, path, path - check}) {
+    for (const double time : {path, path - check}) {
         std::printf(" %10.2f %7.2f", time, time / boost);
     }
 #endif
@@ -79,8 +84,11 @@ void measure(const std::string &name, const Table &table) {
 
 int main(int count, char **files) {
     std::printf("%-24s %8s %10s %10s", "shape", "bridges", "joined", "Boost us");
-#ifdef WITH_LIBRARY
-    std::printf(" %10s %7s %10s %7s %10s %7s", "check us", "ratio", "path us", "ratio", "less chk", "ratio");
+#ifdef WITH_CHECK
+    std::printf(" %10s %7s", "check us", "ratio");
+#endif
+#ifdef WITH_PATH
+    std::printf(" %10s %7s %10s %7s", "path us", "ratio", "less chk", "ratio");
 #endif
     std::printf("\n");
     for (int place = 1; place < count; place++) {
