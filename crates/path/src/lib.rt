@@ -1,0 +1,1 @@
+// Paths and trees of a plan, by the labels of a tree (01, "Calls").
