@@ -8,8 +8,9 @@ use mathlib.Core.Option.{Option, none, some}
 use mathlib.Core.Logic.{_⊎_, inl, inr}
 use mathlib.Core.Bool.{Bool, true, false, cond}
 use lib.Dec.{eqb}
-use lib.ListN.{length}
-use borrow.Author.Tests.{eq-eqb, ne-eqb}
+use lib.ListN.{length, drop}
+use borrow.Author.Tests.{eq-eqb, ne-eqb, le-leb, lt-leb}
+use Rattle.graph.specs.Lists.{spliced}
 use Rattle.graph.specs.Graph.{Graph, GraphLaws, KeyLaws, cost, hops, costOnward}
 use Rattle.graph.specs.Chosen.{Chosen, chosen}
 use Rattle.graph.specs.Members.{In}
@@ -18,7 +19,7 @@ use Rattle.graph.specs.Paths.{stays-inside, path-first}
 use Rattle.graph.specs.ChosenPaths.{chosen-first, chosen-fits}
 use Rattle.graph.specs.Enumeration.{chosen-is, is-chosen}
 use Rattle.graph.specs.Forwarding.{chosen-after}
-use Rattle.rule.specs.Outcome.{Outcome, answered, refused, refusedAs, Written}
+use Rattle.rule.specs.Outcome.{Outcome, answered, refused, refusedAs, Written, lentTo, overwritten}
 use Rattle.rule.specs.Answers.{CostAndHops}
 use Rattle.rule.specs.Plan.{Plan}
 use Rattle.rule.specs.PlanLaws.{PlanLaws}
@@ -32,7 +33,7 @@ use Rattle.tree.specs.Labels.{noCost, labelAt}
 use Rattle.tree.specs.Trees.{SaysPath, TreeOf, nextOf}
 use Rattle.network.specs.PlanLists.{PlanTree}
 use Rattle.network.specs.PlanListLaws.{hop-usable}
-use Rattle.path.specs.Followed.{followed, Inside}
+use Rattle.path.specs.Followed.{followed, Inside, followed-length}
 
 -- The path from the bridge `u` to the root: its label's cost and hops, and the bridges that next hops lead to. "12. No path exists."
 abbrev pub labelledPath : List ℕ → ℕ → Outcome (Written CostAndHops)
@@ -125,3 +126,33 @@ module _ (p : Plan) (L : PlanLaws p) (index root : ℕ) (labels : List ℕ) (T :
           in let m : labelAt labels u .steps < 64 = omega (arith, path-cheaper q P .1)
           in let w : followed labels u (labelAt labels u .steps + 1) ≡ q = ap (λ (k : ℕ). followed labels u (k + 1)) s ∙ along q e
           in (m, λ x i. omega (arith, L .bridges .few, stays-inside (graphOf p) (graph-laws p L) u root q h (P .path) x (subst (λ (z : List ℕ). In x z) w i)))
+
+-- The answer with the lent list's later contents, by what the label says. "13. The lent list is shorter than the answer."
+module _ (labels : List ℕ) (u : ℕ) (old : List ℕ) where
+  pub no-path-labelled : labelAt labels u .far ≡ noCost
+      → _≡_ {A = Outcome CostAndHops × List ℕ} (refusedAs 12, old) (lentTo old (labelledPath labels u))
+  no-path-labelled e = rw (eq-eqb (labelAt labels u .far) noCost e) refl
+
+  module _ (d : labelAt labels u .far ≡ noCost → ⊥) where
+    bridges-labelled : length (followed labels u (labelAt labels u .steps + 1)) ≡ labelAt labels u .steps + 1
+    bridges-labelled = followed-length labels u (labelAt labels u .steps + 1)
+
+    pub list-too-short : length old < labelAt labels u .steps + 1
+        → _≡_ {A = Outcome CostAndHops × List ℕ} (refusedAs 13, old) (lentTo old (labelledPath labels u))
+    list-too-short h =
+        rw (ne-eqb (labelAt labels u .far) noCost d, bridges-labelled, lt-leb (labelAt labels u .steps + 1) (length old) h) refl
+
+    pub path-written : (new : List ℕ) → labelAt labels u .steps + 1 ≤ length old
+        → new ≡ spliced old 0 (followed labels u (labelAt labels u .steps + 1))
+        → _≡_ {A = Outcome CostAndHops × List ℕ}
+        (answered (record { cost = labelAt labels u .far; hops = labelAt labels u .steps }), new)
+        (lentTo old (labelledPath labels u))
+    path-written new h e =
+        rw (ne-eqb (labelAt labels u .far) noCost d, le-leb (length (followed labels u (labelAt labels u .steps + 1))) (length old) (omega (arith, bridges-labelled)))
+        (λ i. (answered (record { cost = labelAt labels u .far; hops = labelAt labels u .steps }), (e ∙ front) i))
+      where
+        front : spliced old 0 (followed labels u (labelAt labels u .steps + 1)) ≡ overwritten (followed labels u (labelAt labels u .steps + 1)) old
+        front =
+            ap (λ (k : ℕ). followed labels u (labelAt labels u .steps + 1) ++ drop k old)
+            {x = 0 + length (followed labels u (labelAt labels u .steps + 1))} {y = length (followed labels u (labelAt labels u .steps + 1))}
+            (omega arith)

@@ -1,1 +1,3 @@
-// Paths and trees of a plan, by the labels of a tree (01, "Calls").
+// Paths and trees of a table that passed the check (01, "Calls").
+pub mod named;
+pub mod path;
