@@ -7,23 +7,26 @@ use mathlib.Core.Bool.{Bool, true, false, cond, _&&_}
 use lib.ListN.{length}
 use Rattle.rule.specs.Outcome.{Outcome, answered, refusedAs, Written, lentTo}
 use Rattle.rule.specs.Answers.{CostAndHops}
-use Rattle.rule.specs.Plan.{Plan, knownBridge}
+use Rattle.rule.specs.Plan.{Plan, knownBridge, vidRecord}
 use Rattle.rule.specs.PlanLaws.{PlanLaws}
 use Rattle.rule.specs.Paths.{chosenPath}
-use Rattle.rule.specs.Calls.{pathFound}
+use Rattle.rule.specs.Calls.{pathFound, Place, treeOf, lentToThree}
 use Rattle.path.specs.Labelled.{labelledPath, Followable, labelled-path, tree-followable}
-use Rattle.path.specs.Named.{planPath, NamedTree, not-named, is-named, known-from}
+use Rattle.network.specs.PlanLists.{indexOf}
+use Rattle.path.specs.Named.{planPath, planPlaces, NamedTree, not-named, is-named, known-from}
+use Rattle.path.specs.Places.{labelledPlaces, labelled-places}
 
 module _ (p : Plan) (L : PlanLaws p) (vid a b : ℕ) {index : ℕ} {labels : List ℕ} (N : NamedTree p vid a b index labels) where
   from-known : (index ≡ 0 → ⊥) → a < length (p .bridges)
   from-known d = known-from p vid a b (λ e. d (N .index-is ∙ e))
 
-  pub nothing-named : (old : List ℕ) → index ≡ 0
-      → _≡_ {A = Outcome CostAndHops × List ℕ} (refusedAs 11, old) (lentTo old (planPath p vid a b))
+  pub nothing-named : (o : Outcome CostAndHops) → o ≡ refusedAs 11 → (old : List ℕ) → index ≡ 0
+      → _≡_ {A = Outcome CostAndHops × List ℕ} (o, old) (lentTo old (planPath p vid a b))
   unfolding planPath
-  nothing-named old e =
-      ap (λ (o : Outcome (Written CostAndHops)). lentTo old o)
-      (not-named p L vid (λ i. pathFound p (chosenPath p i a b)) (knownBridge p a && knownBridge p b) index (N .index-is) e)
+  nothing-named o f old e =
+      rw f
+      (ap (λ (o : Outcome (Written CostAndHops)). lentTo old o)
+      (not-named p L vid (λ i. pathFound p (chosenPath p i a b)) (knownBridge p a && knownBridge p b) index (N .index-is) e))
 
   pub named-followable : (index ≡ 0 → ⊥) → Followable labels a
   named-followable d = tree-followable p L index b labels (N .tree-is d) a (from-known d)
@@ -33,3 +36,26 @@ module _ (p : Plan) (L : PlanLaws p) (vid a b : ℕ) {index : ℕ} {labels : Lis
   named-path d =
       labelled-path p L index b labels (N .tree-is d) a (from-known d)
       ∙ is-named p L vid (λ i. pathFound p (chosenPath p i a b)) (knownBridge p a && knownBridge p b) index (N .index-is) d
+
+module _ (p : Plan) (L : PlanLaws p) (vid a : ℕ) {index : ℕ} {labels : List ℕ} (N : NamedTree p vid a a index labels) where
+  once : index ≡ cond (knownBridge p a) (indexOf (vidRecord p vid)) 0
+  once = N .index-is ∙ ap (λ (k : Bool). cond k (indexOf (vidRecord p vid)) 0) (same (knownBridge p a))
+    where
+      same : (k : Bool) → k && k ≡ k
+      same false = refl
+      same true = refl
+
+  pub no-places-named : (o : Outcome ℕ) → o ≡ refusedAs 11 → (costs hopCounts lasts : List ℕ) → index ≡ 0
+      → _≡_ {A = Outcome ℕ × List ℕ × List ℕ × List ℕ} (o, costs, hopCounts, lasts) (lentToThree costs hopCounts lasts (planPlaces p vid a))
+  unfolding planPlaces
+  no-places-named o f costs hopCounts lasts e =
+      rw f
+      (ap (λ (x : Outcome (List Place)). lentToThree costs hopCounts lasts x)
+      (not-named p L vid (λ i. answered (treeOf p i a)) (knownBridge p a) index once e))
+
+  pub named-places : (n : ℕ) → n ≡ length (p .bridges) → (index ≡ 0 → ⊥) → answered (labelledPlaces labels n) ≡ planPlaces p vid a
+  unfolding planPlaces
+  named-places n e d =
+      ap (λ (k : ℕ). answered (labelledPlaces labels k)) e
+      ∙ ap answered (labelled-places p L index a labels (N .tree-is d))
+      ∙ is-named p L vid (λ i. answered (treeOf p i a)) (knownBridge p a) index once d

@@ -11,7 +11,7 @@ ghost use Prim.Native.Nat.{ℕ, _≤_};
 ghost use lib.ListN.{length};
 ghost use Rattle.graph.specs.Lists.{spliced};
 ghost use Rattle.rule.specs.Words.{wordsOf};
-ghost use Rattle.rule.specs.Outcome.{Outcome, lentTo};
+ghost use Rattle.rule.specs.Outcome.{Outcome, refusedAs, lentTo};
 ghost use Rattle.rule.specs.Answers.{CostAndHops, pathValues};
 ghost use Rattle.table.specs.Positions.{planAt};
 ghost use Rattle.links.specs.Mates.{Checked};
@@ -33,6 +33,17 @@ pub fn write_path(labels: &[u32], from: u32, count: usize, list: &mut [u32])
     }
 }
 
+// A refusal of the path call's own: no kind and the word 0.
+fn refused(number: u32) -> PathAnswer
+    ensures { λ r. ⌜ pathValues r ≡ refusedAs number ⌝ }
+{
+    PathAnswer::Refused {
+        number: number,
+        kind: RecordKind::None,
+        word: 0,
+    }
+}
+
 // The path that the labels have for the bridge `from`.
 pub fn labelled_path(labels: &[u32], from: u32, list: &mut [u32]) -> PathAnswer
     requires { ⌜ (320 ≤ length (now labels)) × Followable (now labels) from ⌝ }
@@ -41,20 +52,12 @@ pub fn labelled_path(labels: &[u32], from: u32, list: &mut [u32]) -> PathAnswer
     let place = from as usize;
     let cost = labels[64 + place];
     if cost == 4294967295 {
-        return PathAnswer::Refused {
-            number: 12,
-            kind: RecordKind::None,
-            word: 0,
-        };
+        return refused(12);
     }
     let hops = labels[128 + place];
     let count = hops as usize + 1;
     if list.len() < count {
-        return PathAnswer::Refused {
-            number: 13,
-            kind: RecordKind::None,
-            word: 0,
-        };
+        return refused(13);
     }
     write_path(labels, from, count, list);
     PathAnswer::Given {
@@ -79,11 +82,7 @@ pub fn path_in_table(
     let mut labels = [0u32; 320];
     let index = named_tree(table, s, links, vid, from, to, &mut labels);
     if index == 0 {
-        return PathAnswer::Refused {
-            number: 11,
-            kind: RecordKind::None,
-            word: 0,
-        };
+        return refused(11);
     }
     labelled_path(&labels, from, list)
 }
