@@ -10,10 +10,10 @@ use Rattle.rule.specs.Answers.{CostAndHops}
 use Rattle.rule.specs.Plan.{Plan, knownBridge, vidRecord}
 use Rattle.rule.specs.PlanLaws.{PlanLaws}
 use Rattle.rule.specs.Paths.{chosenPath}
-use Rattle.rule.specs.Calls.{pathFound, Place, treeOf, lentToThree}
+use Rattle.rule.specs.Calls.{planPath, planPlaces, pathFound, Place, treeOf, lentToThree}
 use Rattle.path.specs.Labelled.{labelledPath, Followable, labelled-path, tree-followable}
 use Rattle.network.specs.PlanLists.{indexOf}
-use Rattle.path.specs.Named.{planPath, planPlaces, NamedTree, not-named, is-named, known-from}
+use Rattle.path.specs.Named.{NamedTree, not-named, is-named, known-from}
 use Rattle.path.specs.Places.{labelledPlaces, labelled-places}
 
 module _ (p : Plan) (L : PlanLaws p) (vid a b : ℕ) {index : ℕ} {labels : List ℕ} (N : NamedTree p vid a b index labels) where
@@ -22,7 +22,6 @@ module _ (p : Plan) (L : PlanLaws p) (vid a b : ℕ) {index : ℕ} {labels : Lis
 
   pub nothing-named : (o : Outcome CostAndHops) → o ≡ refusedAs 11 → (old : List ℕ) → index ≡ 0
       → _≡_ {A = Outcome CostAndHops × List ℕ} (o, old) (lentTo old (planPath p vid a b))
-  unfolding planPath
   nothing-named o f old e =
       rw f
       (ap (λ (o : Outcome (Written CostAndHops)). lentTo old o)
@@ -32,7 +31,6 @@ module _ (p : Plan) (L : PlanLaws p) (vid a b : ℕ) {index : ℕ} {labels : Lis
   named-followable d = tree-followable p L index b labels (N .tree-is d) a (from-known d)
 
   pub named-path : (index ≡ 0 → ⊥) → labelledPath labels a ≡ planPath p vid a b
-  unfolding planPath
   named-path d =
       labelled-path p L index b labels (N .tree-is d) a (from-known d)
       ∙ is-named p L vid (λ i. pathFound p (chosenPath p i a b)) (knownBridge p a && knownBridge p b) index (N .index-is) d
@@ -47,14 +45,12 @@ module _ (p : Plan) (L : PlanLaws p) (vid a : ℕ) {index : ℕ} {labels : List 
 
   pub no-places-named : (o : Outcome ℕ) → o ≡ refusedAs 11 → (costs hopCounts lasts : List ℕ) → index ≡ 0
       → _≡_ {A = Outcome ℕ × List ℕ × List ℕ × List ℕ} (o, costs, hopCounts, lasts) (lentToThree costs hopCounts lasts (planPlaces p vid a))
-  unfolding planPlaces
   no-places-named o f costs hopCounts lasts e =
       rw f
       (ap (λ (x : Outcome (List Place)). lentToThree costs hopCounts lasts x)
       (not-named p L vid (λ i. answered (treeOf p i a)) (knownBridge p a) index once e))
 
   pub named-places : (n : ℕ) → n ≡ length (p .bridges) → (index ≡ 0 → ⊥) → answered (labelledPlaces labels n) ≡ planPlaces p vid a
-  unfolding planPlaces
   named-places n e d =
       ap (λ (k : ℕ). answered (labelledPlaces labels k)) e
       ∙ ap answered (labelled-places p L index a labels (N .tree-is d))

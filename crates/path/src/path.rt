@@ -13,11 +13,11 @@ ghost use Rattle.graph.specs.Lists.{spliced};
 ghost use Rattle.rule.specs.Words.{wordsOf};
 ghost use Rattle.rule.specs.Outcome.{Outcome, refusedAs, lentTo};
 ghost use Rattle.rule.specs.Answers.{CostAndHops, pathValues};
+ghost use Rattle.rule.specs.Calls.{planPath};
 ghost use Rattle.table.specs.Positions.{planAt};
 ghost use Rattle.links.specs.Mates.{Checked};
 ghost use Rattle.path.specs.Followed.{followed, Inside};
 ghost use Rattle.path.specs.Labelled.{labelledPath, Followable};
-ghost use Rattle.path.specs.Named.{planPath};
 
 // Writes the bridge `from` and those that next hops lead to from it, `count` in all, to the front of a lent list.
 pub fn write_path(labels: &[u32], from: u32, count: usize, list: &mut [u32])

@@ -11,11 +11,10 @@ ghost use Rattle.graph.specs.Lists.{rising, spliced};
 ghost use Rattle.rule.specs.Words.{wordsOf};
 ghost use Rattle.rule.specs.Outcome.{Outcome, answered, refusedAs};
 ghost use Rattle.rule.specs.Answers.{treeValues};
-ghost use Rattle.rule.specs.Calls.{lentToThree};
+ghost use Rattle.rule.specs.Calls.{lentToThree, planPlaces};
 ghost use Rattle.table.specs.Positions.{planAt};
 ghost use Rattle.links.specs.Mates.{Checked};
 ghost use Rattle.path.specs.Places.{placeNumber, labelledPlaces};
-ghost use Rattle.path.specs.Named.{planPlaces};
 
 // One number of the place of the bridge `u`: what its label has in the part of the labels that begins at `part`, or `absent` where the
 // bridge has no path.
