@@ -111,6 +111,14 @@ module _ (p : Plan) (L : PlanLaws p) (index root : ℕ) (labels : List ℕ) (T :
             words = (ap (λ (k : ℕ). followed labels u (k + 1)) s ∙ f) i;
           })
 
+  pub cost-fits : labelAt labels u .far ≤ noCost
+  cost-fits = go (chosen (graphOf p) (keyOf p index) u root) refl (T .each u h)
+    where
+      go : (o : Option (List ℕ)) → chosen (graphOf p) (keyOf p index) u root ≡ o → SaysPath (graphOf p) o (labelAt labels u)
+          → labelAt labels u .far ≤ noCost
+      go none e f = omega (arith, f)
+      go (some q) e (c, s, n, f) = omega (arith, path-cheaper q (chosen-says q e) .0)
+
   pub tree-followable : Followable labels u
   tree-followable = record {
     place = omega (arith, L .bridges .few);

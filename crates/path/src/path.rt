@@ -14,6 +14,7 @@ ghost use Rattle.rule.specs.Words.{wordsOf};
 ghost use Rattle.rule.specs.Outcome.{Outcome, refusedAs, lentTo};
 ghost use Rattle.rule.specs.Answers.{CostAndHops, pathValues};
 ghost use Rattle.rule.specs.Calls.{planPath};
+ghost use Rattle.rule.specs.Exported.{costNumber};
 ghost use Rattle.table.specs.Positions.{planAt};
 ghost use Rattle.links.specs.Mates.{Checked};
 ghost use Rattle.path.specs.Followed.{followed, Inside};
@@ -85,4 +86,28 @@ pub fn path_in_table(
         return refused(11);
     }
     labelled_path(&labels, from, list)
+}
+
+// "Exported path cost gives the cost as a 64-bit number, or 4,294,967,296 plus the refusal number", of a table that passed the check.
+pub fn path_cost_in_table(
+    table: &[u8],
+    s: Shape,
+    links: &[u32],
+    vid: u32,
+    from: u32,
+    to: u32,
+) -> u64
+    requires { ⌜ Checked (now table) (now links) s ⌝ }
+    ensures { λ r. ⌜ r ≡ costNumber (planPath (planAt (wordsOf (now (table .entry))) s) vid from to) ⌝ }
+{
+    let mut labels = [0u32; 320];
+    let index = named_tree(table, s, links, vid, from, to, &mut labels);
+    if index == 0 {
+        return 4294967307;
+    }
+    let cost = labels[64 + from as usize];
+    if cost == 4294967295 {
+        return 4294967308;
+    }
+    cost as u64
 }
