@@ -1,4 +1,4 @@
-// The calls of document 01 ("Calls"). Each takes a table and examines it itself.
+// Check (01, "Calls").
 use links::usable::count_usable;
 use rule::answer::CheckAnswer;
 use rule::answer::Counts;

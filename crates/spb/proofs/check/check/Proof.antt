@@ -1,9 +1,10 @@
--- `spb::calls::check` gives the counts of an accepted table, or the refusal of the verdict. Assumes nothing.
+-- `spb::check::check` gives the counts of an accepted table, or the refusal of the verdict. Assumes nothing.
 use Rattle.index.specs.IndexLaws.{no-keys-yet}
-use Rattle.spb.specs.CheckLaws.{accepted-answer, refused-answer, accepted-checked}
+use Rattle.spb.specs.Examined.{accepted-checked}
+use Rattle.spb.specs.CallLaws.{check-accepted, check-refused}
 use borrow.Author.Needs.{needs}
-use Rattle.spb.proofs.calls.check.Statement.{statement}
-use Rattle.spb.proofs.calls.check.Tie as tie
+use Rattle.spb.proofs.check.check.Statement.{statement}
+use Rattle.spb.proofs.check.check.Tie as tie
 
 slice-aggregate-examine : tie.Need-slice-aggregate-examine
 slice-aggregate-examine c = search needs
@@ -24,10 +25,10 @@ enum-known-examined-2 : tie.Need-enum-known-examined-2
 enum-known-examined-2 c = search needs
 
 returns : tie.Need-returns
-returns c = accepted-answer (c .before .before .before .before .before .before .before .before .before .args .table .now) (c .before .before .before .before .before .before .examine .result) (c .before .before .before .before .before .before .examine .ensures .0) _ (c .counts .result) (c .before .before .before .examined .given .1) (c .counts .ensures)
+returns c = check-accepted (c .before .before .before .before .before .before .before .before .before .args .table .now) (c .before .before .before .before .before .before .examine .result) (c .before .before .before .before .before .before .examine .ensures .0) _ (c .before .before .before .examined .given .1) (c .counts .result) (c .counts .ensures)
 
 returns-2 : tie.Need-returns-2
-returns-2 c = refused-answer (c .before .before .before .before .before .before .before .args .table .now) (c .before .before .before .before .examine .result) (c .before .before .before .before .examine .ensures .0) _ _ _ (c .before .examined2 .given .1)
+returns-2 c = check-refused (c .before .before .before .before .before .before .before .args .table .now) (c .before .before .before .before .examine .result) (c .before .before .before .before .examine .ensures .0) _ _ _ (c .before .examined2 .given .1)
 
 pub check-spec : {M : Type 1} → statement M
 check-spec =

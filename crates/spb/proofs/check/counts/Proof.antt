@@ -1,13 +1,13 @@
--- `spb::calls::counts` counts by the shape, and the usable links by the index. Assumes nothing.
+-- `spb::check::counts` counts by the shape, and the usable links by the index. Assumes nothing.
 use mathlib.Core.Path.{refl, sym}
 use Rattle.rule.specs.Words.{wordsOf}
 use Rattle.rule.specs.Records.{bridgeOf, halfLinkOf, vidOf, memberOf}
 use Rattle.table.specs.Positions.{halfLinksFrom, vidsFrom, membersFrom}
 use Rattle.table.specs.PositionLaws.{how-many}
-use Rattle.spb.specs.CheckLaws.{same-counts}
+use Rattle.spb.specs.CallLaws.{same-counts}
 use borrow.Author.Needs.{needs}
-use Rattle.spb.proofs.calls.counts.Statement.{statement}
-use Rattle.spb.proofs.calls.counts.Tie as tie
+use Rattle.spb.proofs.check.counts.Statement.{statement}
+use Rattle.spb.proofs.check.counts.Tie as tie
 
 cast-t4 : tie.Need-cast-t4
 cast-t4 c = search needs
