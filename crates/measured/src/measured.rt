@@ -53,12 +53,23 @@ fn make_trees(
     n: usize,
     count: usize,
     labels: &mut [u32],
+    rows: &mut [u64],
 )
-    requires { ⌜ Listed n (now starts) (now neighbours) (now costs) (now identifiers) × (length (now identifiers) ≤ 64) × (count ≤ n) × (320 ≤ length (now labels)) ⌝ }
+    requires { ⌜ Listed n (now starts) (now neighbours) (now costs) (now identifiers) × (length (now identifiers) ≤ 64) × (count ≤ n) × (320 ≤ length (now labels)) × (4096 ≤ length (now rows)) ⌝ }
 {
     let mut root = 0;
     while root < count {
-        tree_over_lists(starts, neighbours, costs, identifiers, 1, labels, n, root);
+        tree_over_lists(
+            starts,
+            neighbours,
+            costs,
+            identifiers,
+            1,
+            labels,
+            rows,
+            n,
+            root,
+        );
         root += 1;
     }
 }
@@ -74,6 +85,7 @@ fn trees_of_table(table: &[u8], s: Shape, links: &[u32], count: usize) -> u32
     let mut ports = [0u32; 512];
     let mut identifiers = [0u64; 64];
     let mut labels = [0u32; 320];
+    let mut rows = [0u64; 4096];
     neighbours_of(
         table,
         s,
@@ -93,6 +105,7 @@ fn trees_of_table(table: &[u8], s: Shape, links: &[u32], count: usize) -> u32
         s.bridges,
         count,
         &mut labels,
+        &mut rows,
     );
     labels[64]
 }

@@ -45,8 +45,11 @@ slice-aggregate-make-trees-4 c = search needs
 slice-aggregate-make-trees-5 : tie.Need-slice-aggregate-make-trees-5
 slice-aggregate-make-trees-5 c = search needs
 
+slice-aggregate-make-trees-6 : tie.Need-slice-aggregate-make-trees-6
+slice-aggregate-make-trees-6 c = search needs
+
 make-trees-requires : tie.Need-make-trees-requires
-make-trees-requires c κs = (record { plan = _; lists = lists-of-table (c .before .before .before .before .before .before .before .before .before .before .before .before .before .before .before .before .before .before .before .before .before .pre .0) (c .before .before .before .before .before .before .before .before .before .before .before .before .before .neighbours-of .ensures) (c .before .before .before .before .before .before .write-identifiers .ensures) (omega (arith, few-bridges (c .before .before .before .before .before .before .before .before .before .before .before .before .before .before .before .before .before .before .before .before .before .pre .0))) (omega arith) (omega arith) (omega (arith, few-bridges (c .before .before .before .before .before .before .before .before .before .before .before .before .before .before .before .before .before .before .before .before .before .pre .0))) }, omega arith, (c .before .before .before .before .before .before .before .before .before .before .before .before .before .before .before .before .before .before .before .before .before .pre .1), omega arith)
+make-trees-requires c κs = (record { plan = _; lists = lists-of-table (c .before .before .before .before .before .before .before .before .before .before .before .before .before .before .before .before .before .before .before .before .before .before .pre .0) (c .before .before .before .before .before .before .before .before .before .before .before .before .before .before .neighbours-of .ensures) (c .before .before .before .before .before .before .before .write-identifiers .ensures) (omega (arith, few-bridges (c .before .before .before .before .before .before .before .before .before .before .before .before .before .before .before .before .before .before .before .before .before .before .pre .0))) (omega arith) (omega arith) (omega (arith, few-bridges (c .before .before .before .before .before .before .before .before .before .before .before .before .before .before .before .before .before .before .before .before .before .before .pre .0))) }, omega arith, (c .before .before .before .before .before .before .before .before .before .before .before .before .before .before .before .before .before .before .before .before .before .before .pre .1), omega arith, omega arith)
 
 array-read-result : tie.Need-array-read-result
 array-read-result c = search needs
@@ -71,6 +74,7 @@ trees-of-table-spec =
     slice-aggregate-make-trees-3
     slice-aggregate-make-trees-4
     slice-aggregate-make-trees-5
+    slice-aggregate-make-trees-6
     make-trees-requires
     array-read-result
     returns)
