@@ -11,7 +11,7 @@ use borrow.Author.Tests.{lt-ltb, le-ltb}
 use Rattle.graph.specs.Lists.{spliced}
 use Rattle.graph.specs.ListLaws.{same-last}
 use Rattle.graph.specs.Splices.{spliced-nothing, spliced-before}
-use Rattle.text.specs.Text.{digit, digits, places, decimal, Written}
+use Rattle.text.specs.Text.{digit, digits, places, decimal, WrittenAt}
 
 pub low-digit : (d : ℕ) → d < 10 → 48 + d ≡ digit d
 low-digit d h = simp (lt-ltb d 10 h)
@@ -175,7 +175,7 @@ pub decimal-written :
     count ≡ places 9 n →
     after ≡ spliced before at (digits 10 count n) →
     next ≡ at + count →
-    Written at before after (decimal n) next
+    WrittenAt at before after (decimal n) next
 unfolding decimal
 decimal-written {at} {before} {after} n count next e w h =
     record {
@@ -187,6 +187,6 @@ pub address-written :
     {at : ℕ} {before after : List ℕ} (n next : ℕ) →
     after ≡ spliced before at (digits 16 12 n) →
     next ≡ at + 12 →
-    Written at before after (digits 16 12 n) next
+    WrittenAt at before after (digits 16 12 n) next
 address-written {at} n next w h =
     record { next-is = h ∙ ap (λ (k : ℕ). at + k) (sym (length-digits 16 12 n)); contents = w }

@@ -48,6 +48,6 @@ abbrev pub line : List ℕ → List ℕ → List ℕ
 line w ns = w ++ (fields ns ++ (newline ∷ []))
 
 -- The text was written from the place `at` on, and `next` is the place after it; every other place is as before.
-pub record Written (at : ℕ) (before after text : List ℕ) (next : ℕ) : Type 0 where
+pub record WrittenAt (at : ℕ) (before after text : List ℕ) (next : ℕ) : Type 0 where
   pub next-is : next ≡ at + length text
   pub contents : after ≡ spliced before at text

@@ -7,10 +7,10 @@ use lib.ListN.{length, getD, take, set, length-append, length-set}
 use lib.Seq.{take-suc, take-all}
 use Rattle.graph.specs.Lists.{spliced}
 use Rattle.graph.specs.Splices.{length-spliced, spliced-nothing, spliced-next, spliced-twice}
-use Rattle.text.specs.Text.{field, fields, Written}
+use Rattle.text.specs.Text.{field, fields, WrittenAt}
 use Rattle.text.specs.DigitLaws.{length-decimal}
 
-module _ {at : ℕ} {before after text : List ℕ} {next : ℕ} (w : Written at before after text next) where
+module _ {at : ℕ} {before after text : List ℕ} {next : ℕ} (w : WrittenAt at before after text next) where
   -- The list is as long as before where the text fits.
   pub written-length : next ≤ length before → length after ≡ length before
   written-length h = ap length (w .contents) ∙ length-spliced before at text (omega (arith, w .next-is))
@@ -18,9 +18,9 @@ module _ {at : ℕ} {before after text : List ℕ} {next : ℕ} (w : Written at 
   -- A text written after it.
   pub written-on :
       {later more : List ℕ} {end : ℕ} →
-      Written next after later more end →
+      WrittenAt next after later more end →
       next ≤ length before →
-      Written at before later (text ++ more) end
+      WrittenAt at before later (text ++ more) end
   written-on {later} {more} {end} v h =
       record {
         next-is = omega (arith, w .next-is, v .next-is, length-append text more);
@@ -32,7 +32,7 @@ module _ {at : ℕ} {before after text : List ℕ} {next : ℕ} (w : Written at 
       }
 
   -- One byte after it.
-  pub written-byte : (b : ℕ) → next < length before → Written at before (set after next b) (text ++ (b ∷ [])) (next + 1)
+  pub written-byte : (b : ℕ) → next < length before → WrittenAt at before (set after next b) (text ++ (b ∷ [])) (next + 1)
   written-byte b h =
       record {
         next-is = omega (arith, w .next-is, length-append text (b ∷ []));
@@ -43,7 +43,7 @@ module _ {at : ℕ} {before after text : List ℕ} {next : ℕ} (w : Written at 
       }
 
   -- The same text under another name.
-  pub written-as : (other : List ℕ) → text ≡ other → Written at before after other next
+  pub written-as : (other : List ℕ) → text ≡ other → WrittenAt at before after other next
   written-as other e =
       record {
         next-is = w .next-is ∙ ap (λ (t : List ℕ). at + length t) e;
@@ -51,14 +51,14 @@ module _ {at : ℕ} {before after text : List ℕ} {next : ℕ} (w : Written at 
       }
 
 -- Nothing is written yet.
-pub nothing-written : (at : ℕ) (before : List ℕ) → Written at before before [] at
+pub nothing-written : (at : ℕ) (before : List ℕ) → WrittenAt at before before [] at
 nothing-written at before = record { next-is = omega arith; contents = sym (spliced-nothing before at) }
 
 -- Bytes copied one after the other.
 pub record Copying (bytes before : List ℕ) (at : ℕ) (out : List ℕ) (i : ℕ) : Type 0 where
   pub within : i ≤ length bytes
   pub same-length : length out ≡ length before
-  pub written : Written at before out (take i bytes) (at + i)
+  pub written : WrittenAt at before out (take i bytes) (at + i)
 
 pub copying-starts : (bytes before : List ℕ) (at : ℕ) → Copying bytes before at before 0
 copying-starts bytes before at =
@@ -77,13 +77,13 @@ module _ {bytes before : List ℕ} {at : ℕ} {out : List ℕ} {i : ℕ} (C : Co
         written = record { next-is = (let z : at + (i + 1) ≡ at + i + 1 = omega arith in z) ∙ next .next-is ∙ ap (λ (t : List ℕ). at + length t) one-more; contents = next .contents ∙ ap (spliced before at) one-more };
       }
     where
-      next : Written at before (set out (at + i) (getD bytes i 0)) (take i bytes ++ (getD bytes i 0 ∷ [])) (at + i + 1)
+      next : WrittenAt at before (set out (at + i) (getD bytes i 0)) (take i bytes ++ (getD bytes i 0 ∷ [])) (at + i + 1)
       next = written-byte (C .written) (getD bytes i 0) (omega arith)
 
       one-more : take i bytes ++ (getD bytes i 0 ∷ []) ≡ take (i + 1) bytes
       one-more = sym (take-suc bytes i 0 h) ∙ ap (λ (k : ℕ). take k bytes) (let z : suc i ≡ i + 1 = omega arith in z)
 
-  pub copying-ends : (next : ℕ) → length bytes ≤ i → next ≡ at + length bytes → Written at before out bytes next
+  pub copying-ends : (next : ℕ) → length bytes ≤ i → next ≡ at + length bytes → WrittenAt at before out bytes next
   copying-ends next h e =
       record { next-is = e; contents = C .written .contents ∙ ap (spliced before at) (take-all i bytes h) }
 
@@ -99,7 +99,7 @@ pub record Fielding (numbers before : List ℕ) (at : ℕ) (out : List ℕ) (nex
   pub within : i ≤ length numbers
   pub same-length : length out ≡ length before
   pub room : next ≤ at + 11 * i
-  pub written : Written at before out (fields (take i numbers)) next
+  pub written : WrittenAt at before out (fields (take i numbers)) next
 
 pub fielding-starts : (numbers before : List ℕ) (at : ℕ) → Fielding numbers before at before at 0
 unfolding flatMap
@@ -111,7 +111,7 @@ module _ {numbers before : List ℕ} {at : ℕ} {out : List ℕ} {next i : ℕ} 
       at + 11 * length numbers ≤ length before →
       i < length numbers →
       (after : List ℕ) (end : ℕ) →
-      Written next out after (field (getD numbers i 0)) end →
+      WrittenAt next out after (field (getD numbers i 0)) end →
       Fielding numbers before at after end (i + 1)
   fielding-goes-on room h after end w =
       record {
@@ -132,5 +132,5 @@ module _ {numbers before : List ℕ} {at : ℕ} {out : List ℕ} {next i : ℕ} 
   pub fielding-room : length numbers ≤ i → next ≤ at + 11 * length numbers
   fielding-room h = omega (arith, F .room, F .within)
 
-  pub fielding-ends : length numbers ≤ i → Written at before out (fields numbers) next
+  pub fielding-ends : length numbers ≤ i → WrittenAt at before out (fields numbers) next
   fielding-ends h = written-as (F .written) (fields numbers) (ap fields (take-all i numbers h))

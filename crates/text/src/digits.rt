@@ -4,7 +4,7 @@ ghost use mathlib.Core.Path.{_≡_};
 ghost use Prim.Native.Nat.{_+_, _≤_, _<_};
 ghost use lib.ListN.{length};
 ghost use Rattle.graph.specs.Lists.{spliced};
-ghost use Rattle.text.specs.Text.{digit, digits, places, decimal, address, Written};
+ghost use Rattle.text.specs.Text.{digit, digits, places, decimal, address, WrittenAt};
 
 fn decimal_digit(d: u32) -> u8
     requires { ⌜ d < 10 ⌝ }
@@ -46,7 +46,7 @@ fn write_last_digits(n: u32, count: usize, out: &mut [u8], at: usize)
 // "Fields are decimal".
 pub fn write_decimal(n: u32, out: &mut [u8], at: usize) -> usize
     requires { ⌜ at + 10 ≤ length (now out) ⌝ }
-    ensures { λ r. ⌜ Written at (now (out .entry)) (now (out .exit)) (decimal n) r ⌝ }
+    ensures { λ r. ⌜ WrittenAt at (now (out .entry)) (now (out .exit)) (decimal n) r ⌝ }
 {
     let count = decimal_places(n);
     write_last_digits(n, count, out, at);
@@ -66,7 +66,7 @@ fn hexadecimal_digit(d: u64) -> u8
 // "addresses, which have 12 lower-case digits".
 pub fn write_address(a: u64, out: &mut [u8], at: usize) -> usize
     requires { ⌜ at + 12 ≤ length (now out) ⌝ }
-    ensures { λ r. ⌜ Written at (now (out .entry)) (now (out .exit)) (address a) r ⌝ }
+    ensures { λ r. ⌜ WrittenAt at (now (out .entry)) (now (out .exit)) (address a) r ⌝ }
 {
     let mut rest = a;
     let mut left = 12;
