@@ -5,7 +5,7 @@ use native.Mathlib.Omega.{arith}
 use mathlib.Core.Path.{_≡_, refl, sym, ap, _∙_, subst}
 use mathlib.Core.List.{List, [], _∷_, _++_, append-assoc}
 use lib.ListN.{length, getD, take, drop, set, length-append, length-take, length-drop, take-append-drop}
-use lib.Seq.{length-take-le, take-append-le, drop-append-le, drop-append-add, take-append-seam, drop-drop, drop-at, set-at}
+use lib.Seq.{length-take-le, take-suc, take-append-le, drop-append-le, drop-append-add, take-append-seam, drop-drop, drop-at, take-at, set-at}
 use Rattle.graph.specs.Lists.{spliced}
 use Rattle.graph.specs.ListLaws.{drop-next}
 
@@ -76,3 +76,28 @@ module _ {A : Type 0} (xs : List A) (at : ℕ) where
 
       split : i ≡ length (take at xs ++ part) + (i - (at + length part))
       split = omega (arith, length-front part l)
+
+  -- A part written right after another: both are written.
+  pub spliced-twice :
+      (part more : List A) → at + length part ≤ length xs →
+      spliced (spliced xs at part) (at + length part) more ≡ spliced xs at (part ++ more)
+  spliced-twice part more h =
+      ap (λ (t : List A). t ++ (more ++ drop (at + length part + length more) (spliced xs at part)))
+      (ap (λ (t : List A). take (at + length part) t) (by-front part)
+      ∙ take-at (take at xs ++ part) (drop (at + length part) xs) (at + length part) (length-front part (omega arith)))
+      ∙ ap (λ (t : List A). (take at xs ++ part) ++ (more ++ t)) (after-spliced part (at + length part + length more) (omega arith) (omega arith))
+      ∙ append-assoc (take at xs) part (more ++ drop (at + length part + length more) xs)
+      ∙ ap (λ (t : List A). take at xs ++ t) (sym (append-assoc part more (drop (at + length part + length more) xs)))
+      ∙ ap (λ (k : ℕ). take at xs ++ ((part ++ more) ++ drop k xs)) after
+    where
+      after : at + length part + length more ≡ at + length (part ++ more)
+      after = omega (arith, length-append part more)
+
+  -- One more place written before a part.
+  pub spliced-before : (part : List A) (a : A) (j : ℕ) → at ≡ j + 1 → at ≤ length xs → set (spliced xs at part) j a ≡ spliced xs j (a ∷ part)
+  spliced-before part a j e h =
+      ap (λ (t : List A). set (t ++ (part ++ drop (at + length part) xs)) j a)
+      (ap (λ (k : ℕ). take k xs) (let z : at ≡ suc j = omega arith in z) ∙ take-suc xs j a (omega arith))
+      ∙ ap (λ (t : List A). set t j a) (append-assoc (take j xs) (getD xs j a ∷ []) (part ++ drop (at + length part) xs))
+      ∙ set-at (take j xs) (getD xs j a) (part ++ drop (at + length part) xs) a j (length-take-le j xs (omega arith))
+      ∙ ap (λ (k : ℕ). take j xs ++ (a ∷ (part ++ drop k xs))) (let z : at + length part ≡ j + suc (length part) = omega arith in z)
