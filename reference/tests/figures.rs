@@ -1,9 +1,11 @@
 //! The program `figures` prints what is computed here: its stored output, which
 //! the gate holds the program to, is the reference's. The tables need not be the
 //! program's own byte for byte: counts and refusals follow from the numbers of
-//! records alone.
+//! records alone, and paths from identifiers and metrics.
 
 use reference::check_line::check_line;
+use reference::path::path;
+use reference::properties::standard::PRIORITY_ORDER;
 use reference::records::{Bridge, HalfLink, Member, Plan, Vid};
 use reference::rules::Rules;
 
@@ -41,8 +43,50 @@ fn line(name: &str, records: [u16; 4], more: usize) -> String {
     format!("{name}: {}", check_line(Rules::AS_WRITTEN, &table))
 }
 
+/// Bridges with these identifiers and links between them, and VID 1 with index 1.
+fn network<const LINKS: usize>(identifiers: &[u64], links: [(u16, u16, u32); LINKS]) -> Vec<u8> {
+    let bridge = |(n, &address): (usize, &u64)| Bridge { source_id: n as u32 + 1, priority: 0, address };
+    let half_links = |(n, (one, other, metric)): (usize, (u16, u16, u32))| {
+        let half_link = |near, far, port| HalfLink { metric, near, far, port, link: n as u16 + 1 };
+        [half_link(one, other, 2 * n as u16 + 1), half_link(other, one, 2 * n as u16 + 2)]
+    };
+    let plan = Plan {
+        bridges: identifiers.iter().enumerate().map(bridge).collect(),
+        half_links: links.into_iter().enumerate().flat_map(half_links).collect(),
+        vids: vec![Vid { vid: 1, index: 1 }],
+        members: Vec::new(),
+    };
+    plan.bytes()
+}
+
+/// The path from bridge 0 to bridge 1 into a list of so many places.
+fn path_line(name: &str, table: &[u8], places: usize) -> String {
+    let mut list = vec![0; places];
+    match path(Rules::AS_WRITTEN, table, (1, 0, 1), &mut list) {
+        Ok(answer) => {
+            let bridges: String = list.iter().map(|bridge| format!(" {bridge}")).collect();
+            format!("{name}: path {} {}{bridges}\n", answer.cost, answer.hops)
+        }
+        Err(refusal) => format!("{name}: refused {}\n", refusal.number),
+    }
+}
+
+/// The priorities of Table 28-1 by their places, for index 1 to 16.
+fn order_lines() -> String {
+    let line = |(n, places): (usize, &[u16; 16])| {
+        let mut priorities: Vec<usize> = (0..16).collect();
+        priorities.sort_by_key(|&priority| places[priority]);
+        let order: String = priorities.iter().map(|priority| format!(" {priority}")).collect();
+        format!("Table 28-1, index {}{order}\n", n + 1)
+    };
+    PRIORITY_ORDER.iter().enumerate().map(line).collect()
+}
+
 #[test]
 fn the_program_prints_the_figures() {
+    let fewer =
+        network(&[9, 22, 15, 7, 8, 10], [(0, 2, 6), (2, 1, 6), (0, 3, 3), (3, 4, 3), (4, 5, 3), (5, 1, 3)]);
+    let lower = network(&[9, 22, 15, 99, 100], [(0, 2, 10), (2, 3, 10), (2, 4, 10), (3, 1, 10), (4, 1, 10)]);
     let lines = [
         line("64 bridges", [64, 0, 0, 0], 0),
         line("65 bridges", [65, 0, 0, 0], 0),
@@ -54,6 +98,11 @@ fn the_program_prints_the_figures() {
         line("65 members", [64, 0, 1, 65], 0),
         line("7492 bytes", [64, 512, 16, 64], 0),
         line("7496 bytes", [64, 512, 16, 64], 1),
+        path_line("2 hops into 3 places", &fewer, 3),
+        path_line("2 hops into 2 places", &fewer, 2),
+        path_line("28.5, 9 15 22 before 7 8 9 10 22", &fewer, 3),
+        path_line("28.5, 9 15 22 99 before 9 15 22 100", &lower, 4),
+        order_lines(),
     ];
     assert_eq!(lines.concat(), include_str!("../../crates/figures/stdout"));
 }

@@ -76,7 +76,7 @@ fn word_of(s: Shape, n: u32) -> u32
 }
 
 // The four bytes of a word, high byte first.
-fn put_word(table: &mut [u8], n: usize, word: u32)
+pub fn put_word(table: &mut [u8], n: usize, word: u32)
     requires { ⌜ 4 * n + 4 ≤ length (now table) ⌝ }
 {
     table[4 * n] = (word / 16777216) as u8;

@@ -9,7 +9,7 @@ use crate::entries::group_address;
 use crate::records::Plan;
 
 /// Table 28-1: for index 1 to 16 and priority 0 to 15 the place of the priority.
-const PRIORITY_ORDER: [[u16; 16]; 16] = [
+pub const PRIORITY_ORDER: [[u16; 16]; 16] = [
     [0, 1, 2, 3, 4, 5, 6, 7, 8, 9, 10, 11, 12, 13, 14, 15],
     [15, 14, 13, 12, 11, 10, 9, 8, 7, 6, 5, 4, 3, 2, 1, 0],
     [8, 9, 10, 11, 12, 13, 14, 15, 0, 1, 2, 3, 4, 5, 6, 7],
