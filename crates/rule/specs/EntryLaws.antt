@@ -12,28 +12,30 @@ use lib.ListN.{length}
 use Rattle.graph.specs.Lists.{rising, filter, any}
 use Rattle.graph.specs.Members.{In, Distinct}
 use Rattle.graph.specs.ListLaws.{both, first-of, last-of, equal-three, three-equal, is-true, true-test, eq-eqb, in-append, map-in, flatMap-in, filter-in, in-filter, any-in, in-any, in-rising, rising-in, distinct-filter, distinct-rising, filter-none, filter-append, filter-flatMap, filter-flatMap-only, flatMap-only, map-back}
-use Rattle.rule.specs.Records.{HalfLink, Vid, Member, address}
+use Rattle.rule.specs.Records.{HalfLink, Vid, Member, address, groupBit}
 use Rattle.rule.specs.Plan.{Plan, bridgeAt}
 use Rattle.rule.specs.Links.{Link, hopLink}
 use Rattle.rule.specs.Paths.{chosenPath}
 use Rattle.rule.specs.Entries.{Entry, entryWords, listOf, firstPort, portsOf, individualEntry, individualEntries, groupAddress, receives, receiverPorts, listedPorts, groupEntry, groupEntries, entriesOf, entryListOf}
 use Rattle.rule.specs.Lookup.{entryOf, entriesIn}
 use Rattle.rule.specs.Frames.{entryPorts}
-use Rattle.rule.specs.PlanLaws.{PlanLaws}
+use Rattle.rule.specs.PlanLaws.{VidFits, PlanLaws}
 use Rattle.rule.specs.OneRecord.{listed-bridge, one-address, one-source, distinct-vids, one-vid, distinct-members, one-member}
 use Rattle.rule.specs.LinkLaws.{hop-takes}
 
 -- Words
 
--- An entry whose fields fit their bits.
-record EntryFits (e : Entry) : Type 0 where
-  kind : e .kind < 16
-  vid : e .vid < 4096
-  port : e .port < 65536
-  address : e .address < 2 ^ 48
+-- An entry within its ranges, whose kind agrees with the group bit of its address.
+pub record EntryFits (e : Entry) : Type 0 where
+  pub kind : e .kind ≡ 8 + groupBit (e .address)
+  pub least-vid : 1 ≤ e .vid
+  pub vid : e .vid ≤ 4094
+  pub least-port : 1 ≤ e .port
+  pub port : e .port ≤ 4095
+  pub address : e .address < 2 ^ 48
 
 -- "An entry is 3 words": they give it back.
-entry-decoded : (e : Entry) → EntryFits e
+pub entry-decoded : (e : Entry) → EntryFits e
     → entryOf (e .kind * 2 ^ 28 + e .vid * 2 ^ 16 + e .port) (e .address / 2 ^ 32) (e .address % 2 ^ 32) ≡ e
 entry-decoded e F = λ i. record { kind = kind i; vid = vid i; port = port i; address = addr i }
   where
@@ -52,7 +54,7 @@ entry-decoded e F = λ i. record { kind = kind i; vid = vid i; port = port i; ad
     addr : e .address / 2 ^ 32 / 2 ^ 0 % 2 ^ 16 * 2 ^ 32 + e .address % 2 ^ 32 ≡ e .address
     addr = omega (arith, F .address)
 
-entries-decoded : (es : List Entry) → ((e : Entry) → In e es → EntryFits e) → entriesIn (flatMap entryWords es) ≡ es
+pub entries-decoded : (es : List Entry) → ((e : Entry) → In e es → EntryFits e) → entriesIn (flatMap entryWords es) ≡ es
 unfolding entriesIn flatMap
 entries-decoded [] f = refl
 entries-decoded (e ∷ es) f = λ i. entry-decoded e (f e (inl refl)) i ∷ entries-decoded es (λ d k. f d (inr k)) i
@@ -170,38 +172,51 @@ module _ (p : Plan) (v : Vid) (b : ℕ) where
 -- The words of a bridge give its entries back
 
 module _ (p : Plan) (L : PlanLaws p) where
-  port-to-fits : (v : Vid) (b d port : ℕ) → In port (portsTo p v b d) → port ≤ 4095
+  port-to-fits : (v : Vid) (b d port : ℕ) → In port (portsTo p v b d) → (1 ≤ port) × (port ≤ 4095)
   port-to-fits v b d port k = go (chosenPath p (v .index) b d) k
     where
-      go : (o : Option (List ℕ)) → In port (portsOf (firstPort (p .halfLinks)) o) → port ≤ 4095
+      go : (o : Option (List ℕ)) → In port (portsOf (firstPort (p .halfLinks)) o) → (1 ≤ port) × (port ≤ 4095)
       go none k = absurd k
       go (some path) k = let (u, w, t, l, e, f, g) = first-port-says (p .halfLinks) path port k in
-          rw g (L .half-links .fits (l .here) (hop-takes (p .halfLinks) u w l f .link .here-listed) .greatest-port)
+          let F = L .half-links .fits (l .here) (hop-takes (p .halfLinks) u w l f .link .here-listed) in
+          (omega (arith, F .least-port), omega (arith, F .greatest-port))
 
-  individual-fits : (v : Vid) (b : ℕ) → v .vid ≤ 4094 → (e : Entry) → In e (individualEntries p v b) → EntryFits e
-  individual-fits v b l e k = let (d, port, i, j, f) = individual-says p v b e k in
+  individual-fits : (v : Vid) (b : ℕ) → VidFits v → (e : Entry) → In e (individualEntries p v b) → EntryFits e
+  individual-fits v b F e k = let (d, port, i, j, f) = individual-says p v b e k in
+      let l = rising-in 0 (length (p .bridges)) d (filter-in (λ d. not (eqb d b)) d (rising 0 (length (p .bridges))) i .0) in
+      let g = L .bridges .fits (bridgeAt p d) (listed-bridge p L d (omega (arith, l .1))) .individual in
       subst (λ (z : Entry). EntryFits z) (sym f)
-      (record { kind = omega arith; vid = omega arith; port = omega (arith, port-to-fits v b d port j); address = omega arith })
+      (record {
+        kind = omega (arith, g);
+        least-vid = F .least;
+        vid = F .greatest;
+        least-port = port-to-fits v b d port j .0;
+        port = port-to-fits v b d port j .1;
+        address = omega arith;
+      })
 
-  group-fits : (v : Vid) (b : ℕ) → v .vid ≤ 4094 → (e : Entry) → In e (groupEntries p v b (p .members)) → EntryFits e
-  group-fits v b l e k = let (m, port, i, t, j, f) = group-says p v b e k in
+  group-fits : (v : Vid) (b : ℕ) → VidFits v → (e : Entry) → In e (groupEntries p v b (p .members)) → EntryFits e
+  group-fits v b F e k = let (m, port, i, t, j, f) = group-says p v b e k in
       let M = L .members .fits m i in
       let s : bridgeAt p (m .bridge) .spSourceId ≤ 1048575 = L .bridges .fits (bridgeAt p (m .bridge))
       (listed-bridge p L (m .bridge) (M .bridge-known)) .greatest-source in
+      let P = listed-port (receiverPorts p v b (p .members) m) port j in
       subst (λ (z : Entry). EntryFits z) (sym f)
       (record {
-        kind = omega arith;
-        vid = omega arith;
-        port = omega (arith, listed-port (receiverPorts p v b (p .members) m) port j .1);
+        kind = omega (arith, M .isid);
+        least-vid = F .least;
+        vid = F .greatest;
+        least-port = P .0;
+        port = P .1;
         address = omega (arith, M .isid);
       })
 
-  entry-fits : (b : ℕ) (e : Entry) → In e (entriesOf p b) → EntryFits e
+  pub entry-fits : (b : ℕ) (e : Entry) → In e (entriesOf p b) → EntryFits e
   unfolding entriesOf
   entry-fits b e k = let (v, i, j) = flatMap-in (λ v. individualEntries p v b ++ groupEntries p v b (p .members)) e (p .vids) k in
-      go v (L .vids .fits v i .greatest) (in-append e (individualEntries p v b) (groupEntries p v b (p .members)) j)
+      go v (L .vids .fits v i) (in-append e (individualEntries p v b) (groupEntries p v b (p .members)) j)
     where
-      go : (v : Vid) → v .vid ≤ 4094 → In e (individualEntries p v b) ⊎ In e (groupEntries p v b (p .members)) → EntryFits e
+      go : (v : Vid) → VidFits v → In e (individualEntries p v b) ⊎ In e (groupEntries p v b (p .members)) → EntryFits e
       go v l (inl k) = individual-fits v b l e k
       go v l (inr k) = group-fits v b l e k
 

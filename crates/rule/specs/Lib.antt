@@ -24,6 +24,7 @@ pub mod OneRecord
 pub mod LinkLaws
 pub mod IdentifierLaws
 pub mod EntryLaws
+pub mod WrittenLists
 pub mod Network
 pub mod FrameLaws
 pub mod ListedPorts
