@@ -76,3 +76,22 @@ module _ {A : Type 0} (xs : List A) (at : ℕ) where
 
       split : i ≡ length (take at xs ++ part) + (i - (at + length part))
       split = omega (arith, length-front part l)
+
+  -- A second part written right after the first: both are one part.
+  pub spliced-more : (part more : List A) → at + length part ≤ length xs
+      → spliced (spliced xs at part) (at + length part) more ≡ spliced xs at (part ++ more)
+  spliced-more part more h =
+      ap (λ (t : List A). t ++ (more ++ drop (at + length part + length more) (spliced xs at part))) front
+      ∙ ap (λ (t : List A). (take at xs ++ part) ++ (more ++ t)) (after-spliced part (at + length part + length more) (omega arith) (omega arith))
+      ∙ append-assoc (take at xs) part (more ++ drop (at + length part + length more) xs)
+      ∙ ap (λ (t : List A). take at xs ++ t) (sym (append-assoc part more (drop (at + length part + length more) xs)))
+      ∙ ap (λ (k : ℕ). take at xs ++ ((part ++ more) ++ drop k xs)) both-lengths
+    where
+      both-lengths : at + length part + length more ≡ at + length (part ++ more)
+      both-lengths = omega (arith, length-append part more)
+
+      front : take (at + length part) (spliced xs at part) ≡ take at xs ++ part
+      front =
+          ap (λ (t : List A). take (at + length part) t) (by-front part)
+          ∙ ap (λ (k : ℕ). take k ((take at xs ++ part) ++ drop (at + length part) xs)) (sym (length-front part (omega arith)))
+          ∙ take-append-seam (take at xs ++ part) (drop (at + length part) xs)

@@ -1,0 +1,3 @@
+// Filtering entries of a bridge (01, "Entries"): their words, in lent lists.
+pub mod group;
+pub mod words;
