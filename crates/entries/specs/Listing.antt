@@ -11,9 +11,32 @@ use lib.Seq.{drop-length}
 use borrow.Author.Tests.{eq-eqb, ne-eqb}
 use Rattle.graph.specs.Lists.{any}
 use Rattle.graph.specs.ListLaws.{drop-next}
+use Rattle.rule.specs.Records.{Bridge, address}
 use Rattle.rule.specs.Entries.{entryWords}
-use Rattle.entries.specs.Appending.{Appended, Room, eachOf, Appending, appending-starts, appending-room, appending-goes-on, appending-passes, appending-ends}
-use Rattle.entries.specs.Words.{entryWith, groupAt, groupWords}
+use Rattle.entries.specs.Appending.{Appended, Room, appended-nothing, Appending, appending-starts, appending-room, appending-goes-on, appending-passes, appending-ends}
+use Rattle.entries.specs.Words.{bridgeNumber, entryWith, individualTo, groupAt, groupWords}
+
+-- What the entry for the bridge `d` adds: nothing where no port leads there.
+module _ (ws row : List ℕ) (vid d port : ℕ) (e : port ≡ getD row d 0) where
+  pub no-individual : port ≡ 0 → (lent : List ℕ) (at : ℕ) → Appended lent at (individualTo ws row vid d) lent at
+  unfolding individualTo
+  no-individual z lent at = rw (eq-eqb (getD row d 0) 0 (sym e ∙ z)) (appended-nothing lent at)
+
+  module _ (n : port ≡ 0 → ⊥) (b : Bridge) (f : b ≡ bridgeNumber ws d) where
+    one-individual : individualTo ws row vid d ≡ entryWords (entryWith 8 vid port (address b))
+    unfolding individualTo
+    one-individual =
+        ap (λ (c : Bool). cond c [] (entryWords (entryWith 8 vid (getD row d 0) (address (bridgeNumber ws d)))))
+        (ne-eqb (getD row d 0) 0 (λ z. n (e ∙ z)))
+        ∙ ap (λ (q : ℕ). entryWords (entryWith 8 vid q (address (bridgeNumber ws d)))) (sym e)
+        ∙ ap (λ (x : Bridge). entryWords (entryWith 8 vid port (address x))) (sym f)
+
+    pub individual-room : (lent : List ℕ) (at : ℕ) → Room lent at (individualTo ws row vid d) → at + 3 ≤ length lent
+    individual-room lent at r = omega (arith, ap (λ (t : List ℕ). length t) one-individual)
+
+    pub individual-written : {lent written : List ℕ} {at end : ℕ} → Appended lent at (entryWords (entryWith 8 vid port (address b))) written end
+        → Appended lent at (individualTo ws row vid d) written end
+    individual-written A = rw one-individual A
 
 -- The loop over ports.
 pub record Listing (ports behind : List ℕ) (vid addr : ℕ) (lent : List ℕ) (at i : ℕ) (written : List ℕ) (end : ℕ) : Type 0 where

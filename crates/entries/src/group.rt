@@ -1,15 +1,9 @@
 // Group entries (01, "Entries"): the ports behind which a transmitter's receivers are, and the words of an entry for each.
+use crate::words::wide;
 use crate::words::write_entry;
-ghost use mathlib.Core.Path.{_≡_};
 ghost use Prim.Native.Nat.{_<_};
 ghost use Rattle.entries.specs.Appending.{Appended, Room};
 ghost use Rattle.entries.specs.Words.{groupWords};
-
-fn wide(port: u16) -> u32
-    ensures { λ r. ⌜ (r ≡ port) × (r < 65536) ⌝ }
-{
-    port as u32
-}
 
 // "a group entry for each port, ports rising: a port is listed as soon as one receiver behind it is found": `ports` are those of the
 // bridge, rising, and `behind` has the port behind which each receiver is. Gives the place after the words.

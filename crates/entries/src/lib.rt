@@ -1,3 +1,5 @@
 // Filtering entries of a bridge (01, "Entries"): their words, in lent lists.
 pub mod group;
+pub mod individual;
+pub mod records;
 pub mod words;

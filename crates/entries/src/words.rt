@@ -1,9 +1,16 @@
 // An entry as three words (01, "Entries").
+ghost use mathlib.Core.Path.{_≡_};
 ghost use Prim.Native.Nat.{_+_, _<_, _≤_};
 ghost use lib.ListN.{length};
 ghost use Rattle.rule.specs.Entries.{entryWords};
 ghost use Rattle.entries.specs.Appending.{Appended};
 ghost use Rattle.entries.specs.Words.{entryWith};
+
+pub fn wide(port: u16) -> u32
+    ensures { λ r. ⌜ (r ≡ port) × (r < 65536) ⌝ }
+{
+    port as u32
+}
 
 // "An entry is 3 words": writes them from the place `at` on, and gives the place after them.
 pub fn write_entry(words: &mut [u32], at: usize, kind: u32, vid: u32, port: u32, address: u64) -> usize

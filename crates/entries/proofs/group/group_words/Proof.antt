@@ -9,7 +9,7 @@ use Rattle.entries.specs.Listing.{Listing, listing-starts, listing-ends,
 use borrow.Author.Needs.{needs}
 use Rattle.entries.proofs.group.group_words.Statement.{statement}
 use Rattle.entries.proofs.group.group_words.Tie as tie
-use Rattle.entries.proofs.group.wide.Reads as wide-reads
+use Rattle.entries.proofs.words.wide.Reads as wide-reads
 use Rattle.entries.proofs.words.write_entry.Reads as write-entry-reads
 
 abbrev Inv-loop : tie.InvT-loop
