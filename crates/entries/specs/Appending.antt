@@ -34,21 +34,27 @@ appended-both {lent} {part} {written} {more} {last} {at} {end} A B r = record {
   end-is = omega (arith, A .end-is, B .end-is, length-append part more);
 }
 
--- Three words, written one after the other.
+-- One word, and three written one after the other.
+first-word : (lent : List ℕ) (at a : ℕ) → at < length lent → set lent at a ≡ spliced lent at (a ∷ [])
+first-word lent at a l =
+    ap (λ (t : List ℕ). set t at a) (sym (spliced-nothing lent at)) ∙ ap (λ (k : ℕ). set (spliced lent at []) k a) here
+    ∙ spliced-next lent at [] a (omega arith)
+  where
+    here : at ≡ at + 0
+    here = omega arith
+
+pub one-word : (lent : List ℕ) (at a : ℕ) → at < length lent → Appended lent at (a ∷ []) (set lent at a) (at + 1)
+one-word lent at a l = record { words-are = first-word lent at a l; end-is = refl }
+
 pub three-words : (lent : List ℕ) (at a b c : ℕ) → at + 3 ≤ length lent
     → Appended lent at (a ∷ b ∷ c ∷ []) (set (set (set lent at a) (at + 1) b) (at + 2) c) (at + 3)
 three-words lent at a b c r = record {
   words-are =
-      ap (λ (t : List ℕ). set (set t (at + 1) b) (at + 2) c)
-      (ap (λ (t : List ℕ). set t at a) (sym (spliced-nothing lent at)) ∙ ap (λ (k : ℕ). set (spliced lent at []) k a) none
-      ∙ spliced-next lent at [] a (omega arith))
+      ap (λ (t : List ℕ). set (set t (at + 1) b) (at + 2) c) (first-word lent at a (omega arith))
       ∙ ap (λ (t : List ℕ). set t (at + 2) c) (spliced-next lent at (a ∷ []) b (omega arith))
       ∙ spliced-next lent at (a ∷ b ∷ []) c (omega arith);
   end-is = refl;
 }
-  where
-    none : at ≡ at + 0
-    none = omega arith
 
 -- What a loop appends: for each number below `n` the words that `f` gives.
 abbrev pub eachOf : (ℕ → List ℕ) → ℕ → List ℕ

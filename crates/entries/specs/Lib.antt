@@ -2,3 +2,4 @@
 pub mod Appending
 pub mod Words
 pub mod Listing
+pub mod Receivers
