@@ -302,6 +302,17 @@ unfolding rising
 rising-in k (suc n) m (inl e) = (omega arith, omega arith)
 rising-in k (suc n) m (inr h) = let r = rising-in (suc k) n m h in (omega (arith, r .0), omega (arith, r .1))
 
+pub rising-at : (k n i d : ℕ) → i < n → getD (rising k n) i d ≡ k + i
+unfolding rising
+rising-at k zero i d h = absurd (omega arith)
+rising-at k (suc n) zero d h = omega arith
+rising-at k (suc n) (suc i) d h = rising-at (suc k) n i d (omega arith) ∙ omega arith
+
+pub rising-length : (k n : ℕ) → length (rising k n) ≡ n
+unfolding rising
+rising-length k zero = refl
+rising-length k (suc n) = ap suc (rising-length (suc k) n)
+
 pub in-rising : (k n m : ℕ) → k ≤ m → m < k + n → In m (rising k n)
 unfolding rising
 in-rising k zero m h l = absurd (omega arith)

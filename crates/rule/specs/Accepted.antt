@@ -17,7 +17,7 @@ use Rattle.rule.specs.Records.{Bridge, HalfLink, Vid, Member, Record, br
 use Rattle.rule.specs.Outcome.{Outcome, answered, refused, refusedAs}
 use Rattle.rule.specs.Plan.{Plan, noRecords, withRecord, alike, knownBridge, knownVid}
 use Rattle.rule.specs.Check.{badLength, outsideRange, wrongEndCount, unknownName, repeated, wrongHalf, wrongLink, Reading, start, Fault, faults, lowestFault, taken, judged, readAs, readFrom, after, readOn, verdict}
-use Rattle.rule.specs.PlanLaws.{BridgesApart, PortsApart, VidsApart, MembersApart, Mirrors, HalfLinkFits, MemberFits, HalfLinkLaws, MemberLaws, PlanLaws}
+use Rattle.rule.specs.PlanLaws.{BridgesApart, PortsApart, VidsApart, MembersApart, Mirrors, BridgeFits, HalfLinkFits, VidFits, MemberFits, HalfLinkLaws, MemberLaws, PlanLaws}
 
 -- No fault applies
 
@@ -101,13 +101,13 @@ members-still n k vs ws ms l f M = record { few = M .few; apart = M .apart; fits
     still m F = let (v, i, e) = F .vid-known in record { isid = F .isid; bridge-known = omega arith; vid-known = (v, f v i, e) }
 
 module _ (p : Plan) (L : PlanLaws p) where
-  with-bridge : (b : Bridge) → length (p .bridges) < 64 → b .spSourceId ≤ 1048575 → (T (repeated p (bridge b)) → ⊥)
+  with-bridge : (b : Bridge) → length (p .bridges) < 64 → BridgeFits b → (T (repeated p (bridge b)) → ⊥)
       → PlanLaws (withRecord p (bridge b))
   with-bridge b l s f = record {
     bridges = record {
       few = omega (arith, longer (p .bridges) b);
       apart = pairwise-end BridgesApart (p .bridges) b (L .bridges .apart) apart;
-      fits = each-end (λ b. b .spSourceId ≤ 1048575) (p .bridges) b (L .bridges .fits) s;
+      fits = each-end BridgeFits (p .bridges) b (L .bridges .fits) s;
     };
     half-links = half-links-still (length (p .bridges)) (length (p .bridges ++ (b ∷ []))) (p .halfLinks) more (L .half-links);
     vids = L .vids;
@@ -159,14 +159,14 @@ module _ (p : Plan) (L : PlanLaws p) where
       apart e k i j = f (in-any (λ e. eqb (e .near) (h .near) && eqb (e .port) (h .port)) e (p .halfLinks) k
           (equal-two (e .near) (h .near) (e .port) (h .port) i j))
 
-  with-vid : (v : Vid) → length (p .vids) < 16 → v .vid ≤ 4094 → (T (repeated p (vid v)) → ⊥) → PlanLaws (withRecord p (vid v))
+  with-vid : (v : Vid) → length (p .vids) < 16 → VidFits v → (T (repeated p (vid v)) → ⊥) → PlanLaws (withRecord p (vid v))
   with-vid v l s f = record {
     bridges = L .bridges;
     half-links = L .half-links;
     vids = record {
       few = omega (arith, longer (p .vids) v);
       apart = pairwise-end VidsApart (p .vids) v (L .vids .apart) apart;
-      fits = each-end (λ v. v .vid ≤ 4094) (p .vids) v (L .vids .fits) s;
+      fits = each-end VidFits (p .vids) v (L .vids .fits) s;
     };
     members = members-still (length (p .bridges)) (length (p .bridges)) (p .vids) (p .vids ++ (v ∷ [])) (p .members) (omega arith)
         (λ w k. in-left w (p .vids) (v ∷ []) k) (L .members);
@@ -217,9 +217,11 @@ faultless s l r e = go (no-fault (faults s l r) e)
 abbrev Keeps : Reading → List ℕ → Layout → Type 0
 Keeps s r l = Faultless s l r → PlanLaws (s .plan) → PlanLaws (withRecord (s .plan) (l .decoded r))
 
--- Of the ranges of a row the laws need the first, and of a half-link the second too.
 keeps-bridge : (s : Reading) (r : List ℕ) → Keeps s r bridgeLayout
-keeps-bridge s r F L = with-bridge (s .plan) L (bridgeOf r) (F .room) (F .in-range .0 .1) (F .new)
+keeps-bridge s r F L = with-bridge (s .plan) L (bridgeOf r) (F .room) fits (F .new)
+  where
+    fits : BridgeFits (bridgeOf r)
+    fits = record { greatest-source = F .in-range .0 .1; individual = omega (arith, F .in-range .1 .1 .0 .1) }
 
 keeps-half-link : (s : Reading) (r : List ℕ) → Keeps s r halfLinkLayout
 keeps-half-link s r F L = with-half-link (s .plan) L (halfLinkOf r)
@@ -249,7 +251,15 @@ keeps-half-link s r F L = with-half-link (s .plan) L (halfLinkOf r)
         equal = eqb (h .near) (h .far)
 
 keeps-vid : (s : Reading) (r : List ℕ) → Keeps s r vidLayout
-keeps-vid s r F L = with-vid (s .plan) L (vidOf r) (F .room) (F .in-range .0 .1) (F .new)
+keeps-vid s r F L = with-vid (s .plan) L (vidOf r) (F .room) fits (F .new)
+  where
+    fits : VidFits (vidOf r)
+    fits = record {
+      least = F .in-range .0 .0;
+      greatest = F .in-range .0 .1;
+      least-index = F .in-range .1 .0 .0;
+      greatest-index = F .in-range .1 .0 .1;
+    }
 
 keeps-member : (s : Reading) (r : List ℕ) → Keeps s r memberLayout
 keeps-member s r F L = with-member (s .plan) L (memberOf r) (F .room) (fits (memberOf r) (F .in-range .0 .1) (F .known)) (F .new)

@@ -187,7 +187,7 @@ module _ (p : Plan) (L : PlanLaws p) where
   group-fits v b l e k = let (m, port, i, t, j, f) = group-says p v b e k in
       let M = L .members .fits m i in
       let s : bridgeAt p (m .bridge) .spSourceId ≤ 1048575 = L .bridges .fits (bridgeAt p (m .bridge))
-      (listed-bridge p L (m .bridge) (M .bridge-known)) in
+      (listed-bridge p L (m .bridge) (M .bridge-known)) .greatest-source in
       subst (λ (z : Entry). EntryFits z) (sym f)
       (record {
         kind = omega arith;
@@ -199,7 +199,7 @@ module _ (p : Plan) (L : PlanLaws p) where
   entry-fits : (b : ℕ) (e : Entry) → In e (entriesOf p b) → EntryFits e
   unfolding entriesOf
   entry-fits b e k = let (v, i, j) = flatMap-in (λ v. individualEntries p v b ++ groupEntries p v b (p .members)) e (p .vids) k in
-      go v (L .vids .fits v i) (in-append e (individualEntries p v b) (groupEntries p v b (p .members)) j)
+      go v (L .vids .fits v i .greatest) (in-append e (individualEntries p v b) (groupEntries p v b (p .members)) j)
     where
       go : (v : Vid) → v .vid ≤ 4094 → In e (individualEntries p v b) ⊎ In e (groupEntries p v b (p .members)) → EntryFits e
       go v l (inl k) = individual-fits v b l e k
@@ -291,7 +291,7 @@ module _ (p : Plan) (L : PlanLaws p) where
           omega (arith, ap (λ (z : Entry). z .kind) f, matches-says 9 (v .vid) addr e t .0))
 
       source : (c : Member) → In c (p .members) → bridgeAt p (c .bridge) .spSourceId ≤ 1048575
-      source c j = L .bridges .fits (bridgeAt p (c .bridge)) (listed-bridge p L (c .bridge) (L .members .fits c j .bridge-known))
+      source c j = L .bridges .fits (bridgeAt p (c .bridge)) (listed-bridge p L (c .bridge) (L .members .fits c j .bridge-known)) .greatest-source
 
       -- Another transmitting member of the VID has another group address.
       one-address-one-member : (c : Member) → In c (p .members) → c .vid ≡ v .vid

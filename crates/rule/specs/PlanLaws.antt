@@ -5,7 +5,7 @@ use mathlib.Core.Path.{_≡_}
 use mathlib.Core.List.{List}
 use lib.ListN.{length}
 use Rattle.graph.specs.Members.{In, Pairwise}
-use Rattle.rule.specs.Records.{Bridge, HalfLink, Vid, Member, address}
+use Rattle.rule.specs.Records.{Bridge, HalfLink, Vid, Member, address, groupBit}
 use Rattle.rule.specs.Plan.{Plan}
 
 -- "A record repeats an earlier one's address, SPsourceID, near bridge with port, VID, or bridge with I-SID and VID": of two records
@@ -27,6 +27,11 @@ MembersApart e m = e .bridge ≡ m .bridge → e .isid ≡ m .isid → e .vid �
 abbrev pub Mirrors : HalfLink → HalfLink → Type 0
 Mirrors e h = e .link ≡ h .link → (h .near ≡ e .far) × (h .far ≡ e .near)
 
+-- A bridge within its ranges: no group address.
+pub record BridgeFits (b : Bridge) : Type 0 where
+  pub greatest-source : b .spSourceId ≤ 1048575
+  pub individual : groupBit (address b) ≡ 0
+
 -- A half-link within its ranges, between two different bridges of the plan.
 pub record HalfLinkFits (bridges : ℕ) (h : HalfLink) : Type 0 where
   pub metric : 1 ≤ h .metric
@@ -35,6 +40,13 @@ pub record HalfLinkFits (bridges : ℕ) (h : HalfLink) : Type 0 where
   pub near-known : h .near < bridges
   pub far-known : h .far < bridges
   pub apart : h .near ≡ h .far → ⊥
+
+-- A VID record within its ranges.
+pub record VidFits (v : Vid) : Type 0 where
+  pub least : 1 ≤ v .vid
+  pub greatest : v .vid ≤ 4094
+  pub least-index : 1 ≤ v .index
+  pub greatest-index : v .index ≤ 16
 
 -- A member within its ranges, of a bridge and a VID of the plan.
 pub record MemberFits (bridges : ℕ) (vids : List Vid) (m : Member) : Type 0 where
@@ -46,7 +58,7 @@ pub record MemberFits (bridges : ℕ) (vids : List Vid) (m : Member) : Type 0 wh
 pub record BridgeLaws (bs : List Bridge) : Type 0 where
   pub few : length bs ≤ 64
   pub apart : Pairwise BridgesApart bs
-  pub fits : (b : Bridge) → In b bs → b .spSourceId ≤ 1048575
+  pub fits : (b : Bridge) → In b bs → BridgeFits b
 
 pub record HalfLinkLaws (bridges : ℕ) (hs : List HalfLink) : Type 0 where
   pub apart : Pairwise PortsApart hs
@@ -56,7 +68,7 @@ pub record HalfLinkLaws (bridges : ℕ) (hs : List HalfLink) : Type 0 where
 pub record VidLaws (vs : List Vid) : Type 0 where
   pub few : length vs ≤ 16
   pub apart : Pairwise VidsApart vs
-  pub fits : (v : Vid) → In v vs → v .vid ≤ 4094
+  pub fits : (v : Vid) → In v vs → VidFits v
 
 pub record MemberLaws (bridges : ℕ) (vids : List Vid) (ms : List Member) : Type 0 where
   pub few : length ms ≤ 64

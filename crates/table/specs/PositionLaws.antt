@@ -1,15 +1,16 @@
 -- Laws of the records of a kind by their positions: how many, each of them, one more, and a search among them. Assumes nothing.
-use Prim.Native.Nat.{ℕ, zero, suc, _+_, _*_, _≤_, _<_}
+use Prim.Native.Nat.{ℕ, zero, suc, _+_, _*_, _-_, _≤_, _<_}
 use native.Mathlib.Omega.{arith}
 use native.Mathlib.Numerals.{add-one}
 use mathlib.Core.Path.{_≡_, refl, sym, ap, _∙_, subst}
 use mathlib.Core.List.{List, [], _∷_, _++_, map, map-append}
 use mathlib.Core.Bool.{Bool, true, false, _||_}
 use mathlib.Core.Logic.{_⊎_, inl, inr}
-use lib.ListN.{length, drop}
-use Rattle.graph.specs.Lists.{rising, any}
+use mathlib.Core.Option.{Option, none, some}
+use lib.ListN.{length, drop, getD, getElem?, length-map}
+use Rattle.graph.specs.Lists.{rising, any, filter}
 use Rattle.graph.specs.Members.{In, Pairwise}
-use Rattle.graph.specs.ListLaws.{le-or-gt, in-map, map-in, in-rising, rising-in}
+use Rattle.graph.specs.ListLaws.{le-or-gt, in-map, map-in, map-at, in-rising, rising-in, rising-at, rising-length}
 use Rattle.graph.specs.Searching.{Searching, search-on, search-finds, search-ends, rising-more}
 use Rattle.table.specs.Positions.{recordAt, recordsAt}
 
@@ -54,12 +55,14 @@ module _ {A : Type 0} (decoded : List ℕ → A) (width from : ℕ) (ws : List �
       ∙ ap (λ (k : ℕ). map (recordAt decoded width from ws) (rising 0 n) ++ (recordAt decoded width from ws k ∷ [])) (omega arith)
 
   pub how-many : (n : ℕ) → length (recordsAt decoded width from ws n) ≡ n
-  unfolding recordsAt rising
-  how-many n = counted (recordAt decoded width from ws) 0 n
-    where
-      counted : (f : ℕ → A) (k n : ℕ) → length (map f (rising k n)) ≡ n
-      counted f k zero = refl
-      counted f k (suc n) = ap suc (counted f (suc k) n)
+  unfolding recordsAt
+  how-many n = length-map (rising 0 n) (recordAt decoded width from ws) ∙ rising-length 0 n
+
+  pub record-at : (n i : ℕ) (d : A) → i < n → getD (recordsAt decoded width from ws n) i d ≡ recordAt decoded width from ws i
+  unfolding recordsAt
+  record-at n i d l =
+      map-at (recordAt decoded width from ws) (rising 0 n) i 0 d (omega (arith, rising-length 0 n))
+      ∙ ap (recordAt decoded width from ws) (rising-at 0 n i 0 l ∙ omega arith)
 
   pub search-records : (test : A → Bool) (n : ℕ) → any test (recordsAt decoded width from ws n) ≡ any (λ i. test (recordAt decoded width from ws i)) (rising 0 n)
   unfolding recordsAt
@@ -130,3 +133,37 @@ module _ {A : Type 0} (decoded : List ℕ → A) (width from : ℕ) (ws : List �
 
     pub no-record-found : n ≤ j → false ≡ any test (recordsAt decoded width from ws n)
     no-record-found l = search-ends s l ∙ sym (search-records decoded width from ws test n)
+
+-- The first of `n` records that passes a test is sought one after the other: what is left from the record `j` on has it where the
+-- whole has.
+module _ {A : Type 0} (decoded : List ℕ → A) (width from : ℕ) (ws : List ℕ) (test : A → Bool) where
+  unfoldable pub firstFrom : ℕ → ℕ → Option A
+  firstFrom j k = getElem? (filter test (map (recordAt decoded width from ws) (rising j k))) 0
+
+  pub record SeekingRecord (n j : ℕ) : Type 0 where
+    pub within : j ≤ n
+    pub rest : firstFrom j (n - j) ≡ getElem? (filter test (recordsAt decoded width from ws n)) 0
+
+  pub seeking-starts : (n : ℕ) → SeekingRecord n 0
+  unfolding firstFrom recordsAt
+  seeking-starts n = record { within = omega arith; rest = ap (firstFrom 0) (omega arith) }
+
+  from-here : (n j : ℕ) → j < n → firstFrom j (n - j) ≡ getElem? (filter test (recordAt decoded width from ws j ∷ map (recordAt decoded width from ws) (rising (j + 1) (n - (j + 1))))) 0
+  unfolding firstFrom rising
+  from-here n j h = rw (let e : n - j ≡ suc (n - (j + 1)) = omega arith in e, let f : j + 1 ≡ suc j = omega arith in f) refl
+
+  module _ {n j : ℕ} (s : SeekingRecord n j) (at : ℕ) (v : A) (h : j < n) (e : at ≡ from + width * j) (f : v ≡ decoded (drop at ws)) where
+    here-is : recordAt decoded width from ws j ≡ v
+    here-is = ap (λ (k : ℕ). decoded (drop k ws)) (sym e) ∙ sym f
+
+    pub seeking-on : test v ≡ false → SeekingRecord n (j + 1)
+    unfolding firstFrom filter
+    seeking-on g = record { within = omega arith; rest = rw (ap test here-is ∙ g) at (sym (from-here n j h)) ∙ s .rest }
+
+    pub seeking-finds : test v ≡ true → some v ≡ getElem? (filter test (recordsAt decoded width from ws n)) 0
+    unfolding filter
+    seeking-finds g = ap some (sym here-is) ∙ rw (ap test here-is ∙ g) at (sym (from-here n j h)) ∙ s .rest
+
+  pub seeking-ends : {n j : ℕ} → SeekingRecord n j → n ≤ j → none ≡ getElem? (filter test (recordsAt decoded width from ws n)) 0
+  unfolding firstFrom filter rising
+  seeking-ends {n} {j} s h = rw (let e : n - j ≡ 0 = omega arith in e) at (s .rest)
