@@ -1,5 +1,4 @@
 -- Words appended to lent lists, the words of a bridge's entries by the ports of rows, and the laws that lead to the definitions.
-pub mod Appending
 pub mod Words
 pub mod Listing
 pub mod Receivers

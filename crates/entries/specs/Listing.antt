@@ -13,7 +13,7 @@ use Rattle.graph.specs.Lists.{any}
 use Rattle.graph.specs.ListLaws.{drop-next}
 use Rattle.rule.specs.Records.{Bridge, address}
 use Rattle.rule.specs.Entries.{entryWords}
-use Rattle.entries.specs.Appending.{Appended, Room, appended-nothing, Appending, appending-starts, appending-room, appending-goes-on, appending-passes, appending-ends}
+use Rattle.graph.specs.Appending.{Appended, Room, appended-nothing, Appending, appending-starts, appending-room, appending-goes-on, appending-passes, appending-ends}
 use Rattle.entries.specs.Words.{bridgeNumber, entryWith, individualTo, groupAt, groupWords}
 
 -- What the entry for the bridge `d` adds: nothing where no port leads there.

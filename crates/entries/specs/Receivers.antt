@@ -16,7 +16,7 @@ use Rattle.rule.specs.Entries.{receives}
 use Rattle.table.specs.declared.shape.Shape.{Shape}
 use Rattle.table.specs.Positions.{membersFrom, planAt}
 use Rattle.table.specs.PositionLaws.{how-many, record-in}
-use Rattle.entries.specs.Appending.{Appended, Room, appended-nothing, one-word}
+use Rattle.graph.specs.Appending.{Appended, Room, appended-nothing, one-word}
 use Rattle.entries.specs.Words.{Readable, memberNumber, behindAt, portsBehind}
 
 -- "another bridge with R in the same I-SID and VID", test by test.

@@ -12,7 +12,7 @@ use Rattle.rule.specs.Entries.{Entry, entryWords, receives}
 use Rattle.rule.specs.PlanLaws.{PlanLaws}
 use Rattle.table.specs.declared.shape.Shape.{Shape}
 use Rattle.table.specs.Positions.{recordAt, vidsFrom, membersFrom, wordsRead, planAt}
-use Rattle.entries.specs.Appending.{eachOf}
+use Rattle.graph.specs.Appending.{eachOf}
 
 -- A table whose records, as many of each kind as `s` says, are those of an accepted plan.
 pub record Readable (t : List ℕ) (s : Shape) : Type 0 where

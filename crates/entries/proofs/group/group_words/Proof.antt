@@ -4,7 +4,7 @@ use native.Mathlib.Omega.{arith}
 use Prim.Native.Nat.{_-_}
 use mathlib.Core.Path.{refl}
 use lib.ListN.{length}
-use Rattle.entries.specs.Appending.{appending-length}
+use Rattle.graph.specs.Appending.{appending-length}
 use Rattle.entries.specs.Listing.{Listing, listing-starts, listing-ends, Seeking, seeking-starts, seeking-goes-on, found-room, found-listed, none-listed}
 use borrow.Author.Needs.{needs}
 use Rattle.entries.proofs.group.group_words.Statement.{statement}

@@ -4,7 +4,7 @@ use Prim.Native.Nat.{_-_}
 use Rattle.rule.specs.Words.{wordsOf}
 use Rattle.table.specs.Readers.{memberValues}
 use Rattle.entries.specs.Words.{behindAt, portsBehind}
-use Rattle.entries.specs.Appending.{Appending, appending-starts, appending-room, appending-goes-on, appending-length, appending-ends}
+use Rattle.graph.specs.Appending.{Appending, appending-starts, appending-room, appending-goes-on, appending-length, appending-ends}
 use Rattle.entries.specs.Receivers.{behind-room}
 use borrow.Author.Needs.{needs}
 use Rattle.entries.proofs.group.ports_behind.Statement.{statement}

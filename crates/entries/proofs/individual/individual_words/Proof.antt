@@ -3,7 +3,7 @@ use native.Mathlib.Omega.{arith}
 use Prim.Native.Nat.{_-_}
 use Rattle.rule.specs.Words.{wordsOf}
 use Rattle.entries.specs.Words.{individualTo, individualWords}
-use Rattle.entries.specs.Appending.{Appending, appending-starts, appending-room, appending-goes-on, appending-length, appending-ends}
+use Rattle.graph.specs.Appending.{Appending, appending-starts, appending-room, appending-goes-on, appending-length, appending-ends}
 use borrow.Author.Needs.{needs}
 use Rattle.entries.proofs.individual.individual_words.Statement.{statement}
 use Rattle.entries.proofs.individual.individual_words.Tie as tie

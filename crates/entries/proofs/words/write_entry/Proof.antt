@@ -1,7 +1,7 @@
 -- `entries::words::write_entry` writes three words one after the other. Assumes nothing.
 use native.Mathlib.Omega.{arith}
 use lib.ListN.{length-set}
-use Rattle.entries.specs.Appending.{three-words}
+use Rattle.graph.specs.Appending.{three-words}
 use borrow.Author.Needs.{needs}
 use Rattle.entries.proofs.words.write_entry.Statement.{statement}
 use Rattle.entries.proofs.words.write_entry.Tie as tie

@@ -1,12 +1,12 @@
--- Words appended to a lent list: what a function that appends has written, and what a loop of such functions keeps true.
+-- Numbers appended to a lent list: what a function that appends has written, and what a loop of such functions keeps true.
 -- Assumes nothing.
 use Prim.Native.Nat.{ℕ, suc, _+_, _-_, _≤_, _<_}
 use native.Mathlib.Omega.{arith}
 use mathlib.Core.Path.{_≡_, refl, sym, ap, _∙_}
 use mathlib.Core.List.{List, [], _∷_, _++_, flatMap, append-nil, append-assoc}
 use lib.ListN.{length, set, length-append}
 use Rattle.graph.specs.Lists.{rising, spliced}
 use Rattle.graph.specs.Splices.{length-spliced, spliced-nothing, spliced-next, spliced-more}
 
 -- From the place `at` on the list `lent` got the words of `part`, and nothing else changed; `end` is the place after them.
 pub record Appended (lent : List ℕ) (at : ℕ) (part written : List ℕ) (end : ℕ) : Type 0 where

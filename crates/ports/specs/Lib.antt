@@ -1,0 +1,1 @@
+-- The ports of a bridge's hops, and the ports by which chosen paths leave it.
