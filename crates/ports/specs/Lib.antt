@@ -1,1 +1,5 @@
 -- The ports of a bridge's hops, and the ports by which chosen paths leave it.
+pub mod Hops
+pub mod HopLaws
+pub mod Leaving
+pub mod LeavingLaws
