@@ -28,7 +28,7 @@ use Rattle.network.specs.PlanLists.{IdentifiersOf, ListsOf, Listed, Tree
 
 module _ (p : Plan) (L : PlanLaws p) where
   -- "usable when that is below 16,777,215".
-  hop-usable : (u v : ℕ) → graphOf p .hop u v ≤ 16777214
+  pub hop-usable : (u v : ℕ) → graphOf p .hop u v ≤ 16777214
   hop-usable u v = go (hopLink (p .halfLinks) u v) refl
     where
       go : (o : Option Link) → hopLink (p .halfLinks) u v ≡ o → costOf o ≤ 16777214

@@ -1,0 +1,68 @@
+-- `path::path::write_path` follows next hops. Assumes nothing.
+use borrow.Author.Needs.{needs}
+use Prim.Native.Nat.{_-_}
+use native.Mathlib.Omega.{arith}
+use Rattle.path.specs.Followed.{Following, following-starts, following-inside, following-on, following-ends}
+use Rattle.path.proofs.path.write_path.Statement.{statement}
+use Rattle.path.proofs.path.write_path.Tie as tie
+
+abbrev Inv-loop : tie.InvT-loop
+Inv-loop labels from count list₀ i₀ u₀ list i u = Following labels list₀ list from count i u
+
+abbrev μ-loop : tie.MeasureT-loop
+μ-loop labels from count list₀ i₀ u₀ list i u = count - i
+
+loop-holds : tie.Need-loop-holds Inv-loop μ-loop
+loop-holds c = following-starts _ _ _ _
+
+mul-list : tie.Need-mul-list Inv-loop μ-loop
+mul-list c = search needs
+
+slice-write-list : tie.Need-slice-write-list Inv-loop μ-loop
+slice-write-list c = omega (arith, (c .before .before .pre .2), (c .before .loop .inv .same-length), (c .loop-test .taken))
+
+cast-u : tie.Need-cast-u Inv-loop μ-loop
+cast-u c = omega (arith, following-inside (c .before .loop .inv) (c .before .before .pre .1) (c .loop-test .taken))
+
+add-u : tie.Need-add-u Inv-loop μ-loop
+add-u c = omega (arith, following-inside (c .before .loop .inv) (c .before .before .pre .1) (c .loop-test .taken))
+
+mul-u : tie.Need-mul-u Inv-loop μ-loop
+mul-u c = omega (arith, following-inside (c .before .loop .inv) (c .before .before .pre .1) (c .loop-test .taken))
+
+shared-slice-read-u : tie.Need-shared-slice-read-u Inv-loop μ-loop
+shared-slice-read-u c = omega (arith, (c .before .before .before .pre .0), following-inside (c .before .before .loop .inv) (c .before .before .before .pre .1) (c .before .loop-test .taken))
+
+add-i : tie.Need-add-i Inv-loop μ-loop
+add-i c = search needs
+
+loop-less : tie.Need-loop-less Inv-loop μ-loop
+loop-less c = search needs
+
+loop-again : tie.Need-loop-again Inv-loop μ-loop
+loop-again c = following-on (c .before .before .loop .inv) _ (c .before .before .before .pre .2) (c .before .loop-test .taken) (search needs)
+
+same-length : tie.Need-same-length Inv-loop μ-loop
+same-length c = search needs
+
+returns : tie.Need-returns Inv-loop μ-loop
+returns c = following-ends (c .before .loop .inv) (c .loop-test .left)
+
+pub write-path-spec : {M : Type 1} → statement M
+write-path-spec =
+    tie.close
+    (tie.spec
+    Inv-loop
+    μ-loop
+    loop-holds
+    mul-list
+    slice-write-list
+    cast-u
+    add-u
+    mul-u
+    shared-slice-read-u
+    add-i
+    loop-less
+    loop-again
+    same-length
+    returns)

@@ -1,0 +1,89 @@
+// The path from a bridge to the root of a tree, by the tree's labels (01, "Calls": path).
+use crate::named::named_tree;
+use rule::answer::PathAnswer;
+use rule::answer::RecordKind;
+use rule::measure::Cost;
+use rule::measure::Hops;
+use table::shape::Shape;
+ghost use mathlib.Core.Path.{_≡_};
+ghost use mathlib.Core.List.{List};
+ghost use Prim.Native.Nat.{ℕ, _≤_};
+ghost use lib.ListN.{length};
+ghost use Rattle.graph.specs.Lists.{spliced};
+ghost use Rattle.rule.specs.Words.{wordsOf};
+ghost use Rattle.rule.specs.Outcome.{Outcome, lentTo};
+ghost use Rattle.rule.specs.Answers.{CostAndHops, pathValues};
+ghost use Rattle.table.specs.Positions.{planAt};
+ghost use Rattle.links.specs.Mates.{Checked};
+ghost use Rattle.path.specs.Followed.{followed, Inside};
+ghost use Rattle.path.specs.Labelled.{labelledPath, Followable};
+ghost use Rattle.path.specs.Named.{planPath};
+
+// Writes the bridge `from` and those that next hops lead to from it, `count` in all, to the front of a lent list.
+pub fn write_path(labels: &[u32], from: u32, count: usize, list: &mut [u32])
+    requires { ⌜ (320 ≤ length (now labels)) × Inside (now labels) from count × (count ≤ length (now list)) ⌝ }
+    ensures { λ _. ⌜ now (list .exit) ≡ spliced (now (list .entry)) 0 (followed (now (labels .entry)) from count) ⌝ }
+{
+    let mut i = 0;
+    let mut u = from;
+    while i < count {
+        list[i] = u;
+        u = labels[192 + u as usize];
+        i += 1;
+    }
+}
+
+// The path that the labels have for the bridge `from`.
+pub fn labelled_path(labels: &[u32], from: u32, list: &mut [u32]) -> PathAnswer
+    requires { ⌜ (320 ≤ length (now labels)) × Followable (now labels) from ⌝ }
+    ensures { λ r. ⌜ _≡_ {A = Outcome CostAndHops × List ℕ} (pathValues r, now (list .exit)) (lentTo (now (list .entry)) (labelledPath (now (labels .entry)) from)) ⌝ }
+{
+    let place = from as usize;
+    let cost = labels[64 + place];
+    if cost == 4294967295 {
+        return PathAnswer::Refused {
+            number: 12,
+            kind: RecordKind::None,
+            word: 0,
+        };
+    }
+    let hops = labels[128 + place];
+    let count = hops as usize + 1;
+    if list.len() < count {
+        return PathAnswer::Refused {
+            number: 13,
+            kind: RecordKind::None,
+            word: 0,
+        };
+    }
+    write_path(labels, from, count, list);
+    PathAnswer::Given {
+        cost: Cost(cost),
+        hops: Hops(hops),
+    }
+}
+
+// "Path (VID, from, to): bridges into a lent list; cost, hops", of a table that passed the check.
+pub fn path_in_table(
+    table: &[u8],
+    s: Shape,
+    links: &[u32],
+    vid: u32,
+    from: u32,
+    to: u32,
+    list: &mut [u32],
+) -> PathAnswer
+    requires { ⌜ Checked (now table) (now links) s ⌝ }
+    ensures { λ r. ⌜ _≡_ {A = Outcome CostAndHops × List ℕ} (pathValues r, now (list .exit)) (lentTo (now (list .entry)) (planPath (planAt (wordsOf (now (table .entry))) s) vid from to)) ⌝ }
+{
+    let mut labels = [0u32; 320];
+    let index = named_tree(table, s, links, vid, from, to, &mut labels);
+    if index == 0 {
+        return PathAnswer::Refused {
+            number: 11,
+            kind: RecordKind::None,
+            word: 0,
+        };
+    }
+    labelled_path(&labels, from, list)
+}
