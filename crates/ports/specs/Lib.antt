@@ -3,3 +3,5 @@ pub mod Hops
 pub mod HopLaws
 pub mod Leaving
 pub mod LeavingLaws
+pub mod PlanPorts
+pub mod Rows
