@@ -2,3 +2,6 @@
 pub mod Words
 pub mod Listing
 pub mod Receivers
+pub mod PlanWords
+pub mod Needed
+pub mod Parts

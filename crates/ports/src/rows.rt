@@ -1,6 +1,7 @@
 // Rows kept by ECT index and start of the paths: one tree for each that is asked for.
 use crate::leaving::leaving_row;
 use network::plan_tree::tree_over_lists;
+ghost use mathlib.Core.Path.{_≡_};
 ghost use Prim.Native.Nat.{_+_, _≤_, _<_};
 ghost use lib.ListN.{length};
 ghost use Rattle.network.specs.PlanLists.{Listed};
@@ -45,4 +46,19 @@ pub fn keep_row(
     rows[slot] = place as u16;
     leaving_row(&labels, hops, b, n, rows, place);
     count + 1
+}
+
+fn wide(place: u16) -> usize
+    ensures { λ r. ⌜ r ≡ place ⌝ }
+{
+    place as usize
+}
+
+// Where the row of the chosen paths from the bridge `a` for an ECT index begins.
+pub fn row_at(rows: &[u16], index: u32, a: usize) -> usize
+    requires { ⌜ (1 ≤ index) × (index ≤ 16) × (a < 64) × (1024 ≤ length (now rows)) ⌝ }
+    ensures { λ r. ⌜ r ≡ rowAt (now (rows .entry)) index a ⌝ }
+{
+    let slot = (index as usize - 1) * 64 + a;
+    wide(rows[slot])
 }
