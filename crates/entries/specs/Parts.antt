@@ -1,21 +1,24 @@
 -- The parts of a bridge's list by the rows kept: the group entries for one transmitter, the part of a VID, and the whole; and that they
 -- are those of the definitions (01, "Entries"). Assumes nothing.
-use Prim.Native.Nat.{ℕ, _+_, _≤_, _<_}
+use Prim.Native.Nat.{ℕ, _+_, _-_, _≤_, _<_}
 use native.Mathlib.Omega.{arith}
 use mathlib.Core.Path.{_≡_, refl, sym, ap, _∙_, subst}
 use mathlib.Core.List.{List, [], _∷_, _++_, map, flatMap}
 use mathlib.Core.Bool.{Bool, true, false, cond, _&&_}
 use lib.Dec.{T, eqb, eqb→eq}
-use lib.ListN.{length, drop}
-use Rattle.graph.specs.Lists.{rising, filter}
+use lib.ListN.{length, take, drop, length-take, length-drop}
+use lib.Seq.{take-append-seam}
+use Rattle.graph.specs.Lists.{rising, filter, spliced}
 use Rattle.graph.specs.ListLaws.{first-of, last-of, is-true, rising-in, flatMap-map, flatMap-flatMap, flatMap-append, flatMap-filter, flatMap-same}
-use Rattle.graph.specs.Appending.{eachOf}
+use Rattle.graph.specs.Appending.{Appended, Room, eachOf}
 use Rattle.rule.specs.Words.{wordsOf}
 use Rattle.rule.specs.Records.{Bridge, Vid, Member}
 use Rattle.rule.specs.Plan.{Plan, bridgeAt}
 use Rattle.rule.specs.Entries.{entryWords, individualEntries, groupAddress, receiverPorts, listedPorts, groupEntry, groupEntries, entriesOf, entryListOf}
 use Rattle.table.specs.declared.shape.Shape.{Shape}
+use Rattle.rule.specs.OneRecord.{listed-bridge}
 use Rattle.table.specs.Positions.{recordsAt, planAt}
+use Rattle.table.specs.WordLaws.{part-from}
 use Rattle.ports.specs.PlanPorts.{PlanPorts}
 use Rattle.ports.specs.Rows.{rowAt}
 use Rattle.entries.specs.Words.{Readable, bridgeNumber, vidNumber, memberNumber, individualWords, portsBehind, groupWords}
@@ -103,3 +106,39 @@ module _ {t : List ℕ} {s : Shape} (R : Readable t s) {b : ℕ} {rows : List �
       (λ k i. vid-is k (omega (arith, rising-in 0 (s .vids) k i .1)))
       ∙ sym (flatMap-map (vidWords p b) (vidNumber (wordsOf t) s) (rising 0 (s .vids)))
       ∙ sym (flatMap-flatMap entryWords (λ v. individualEntries p v b ++ groupEntries p v b (p .members)) (p .vids))
+
+-- The bridge's SPsourceID fits its bits.
+pub source-fits : {t : List ℕ} {s : Shape} → Readable t s → (d : ℕ) → d < s .bridges → bridgeNumber (wordsOf t) d .spSourceId < 1048576
+source-fits {t} {s} R d l = omega (
+  arith,
+  R .laws .bridges .fits (bridgeAt (planAt (wordsOf t) s) d) (listed-bridge (planAt (wordsOf t) s) (R .laws) d (omega (arith, bridges-are R))) .greatest-source,
+  ap (λ (x : Bridge). x .spSourceId) (bridge-is R d l),
+)
+
+-- The part of the rows that is lent has a place for every bridge.
+pub row-lent : (rows : List ℕ) (place n : ℕ) → place + 64 ≤ length rows → n ≤ 64 → n ≤ length (take (length rows - place) (drop place rows))
+row-lent rows place n h k = omega (arith, length-take (length rows - place) (drop place rows), length-drop place rows)
+
+-- What was appended from the front on is the front.
+pub front-is : {lent part written : List ℕ} {end : ℕ} → Appended lent 0 part written end → take end written ≡ part
+front-is {lent} {part} {written} {end} A =
+    ap (take end) (A .words-are) ∙ ap (λ (k : ℕ). take k (spliced lent 0 part)) (A .end-is ∙ none) ∙ take-append-seam part (drop (0 + length part) lent)
+  where
+    none : 0 + length part ≡ length part
+    none = omega arith
+
+module _ (ws : List ℕ) (s : Shape) (rows ports : List ℕ) (v : Vid) (m : Member) (place : ℕ) (e : place ≡ rowAt rows (v .index) (m .bridge))
+    (lent behind : List ℕ) (count : ℕ) (A : Appended lent 0 (portsBehind ws s (take (length rows - place) (drop place rows)) m) behind count)
+    (source : ℕ) (f : source ≡ bridgeNumber ws (m .bridge) .spSourceId) (addr : ℕ) (g : addr ≡ groupAddress source (m .isid)) where
+  part-is : groupWords ports (take count behind) (v .vid) addr ≡ transmitterPart ws s rows ports v m
+  unfolding transmitterPart
+  part-is =
+      ap (λ (x : List ℕ). groupWords ports x (v .vid) addr) (front-is A ∙ ap (λ (x : List ℕ). portsBehind ws s x m) (part-from place rows ∙ ap (λ (k : ℕ). drop k rows) e))
+      ∙ ap (groupWords ports (portsBehind ws s (drop (rowAt rows (v .index) (m .bridge)) rows) m) (v .vid)) (g ∙ ap (λ (x : ℕ). groupAddress x (m .isid)) f)
+
+  pub transmitter-room : (words : List ℕ) (at : ℕ) → Room words at (transmitterPart ws s rows ports v m) → Room words at (groupWords ports (take count behind) (v .vid) addr)
+  transmitter-room words at r = omega (arith, ap (λ (x : List ℕ). length x) part-is)
+
+  pub transmitter-written : {words written : List ℕ} {at end : ℕ} → Appended words at (groupWords ports (take count behind) (v .vid) addr) written end
+      → Appended words at (transmitterPart ws s rows ports v m) written end
+  transmitter-written {words} {written} {at} {end} B = subst (λ (x : List ℕ). Appended words at x written end) part-is B

@@ -7,7 +7,7 @@ use ports::rows::keep_row;
 use table::shape::Shape;
 ghost use Prim.Native.Nat.{_+_, _≤_, _<_};
 ghost use Rattle.rule.specs.Words.{wordsOf};
-ghost use Rattle.ports.specs.Rows.{rowAt, RowsHeld, Kept};
+ghost use Rattle.ports.specs.Rows.{HasRow, RowsHeld, Kept};
 ghost use Rattle.entries.specs.Words.{vidNumber};
 ghost use Rattle.entries.specs.Needed.{Lists, TransmitterRow, OwnRows, MemberRows, RowsReady};
 
@@ -28,7 +28,7 @@ fn keep_own_row(
     requires { ⌜ Lists (now table) s (now starts) (now neighbours) (now costs) (now identifiers) (now hops) b × (k < s .vids) × (count < 80) ⌝ }
     requires { ⌜ RowsHeld (s .bridges) (now starts) (now neighbours) (now costs) (now identifiers) (now hops) b count (now rows) ⌝ }
     ensures { λ r. ⌜ RowsHeld (s .bridges) (now (starts .entry)) (now (neighbours .entry)) (now (costs .entry)) (now (identifiers .entry)) (now (hops .entry)) b r (now (rows .exit)) ⌝ }
-    ensures { λ r. ⌜ Kept (now (rows .entry)) (now (rows .exit)) × (0 < rowAt (now (rows .exit)) (vidNumber (wordsOf (now (table .entry))) s k .index) b) × (r ≤ count + 1) ⌝ }
+    ensures { λ r. ⌜ Kept (now (rows .entry)) (now (rows .exit)) × HasRow (now (rows .exit)) (vidNumber (wordsOf (now (table .entry))) s k .index) b × (r ≤ count + 1) ⌝ }
 {
     let index = vid(table, s, k).index;
     keep_row(
@@ -100,7 +100,7 @@ fn keep_own_rows(
     requires { ⌜ Lists (now table) s (now starts) (now neighbours) (now costs) (now identifiers) (now hops) b ⌝ }
     requires { ⌜ RowsHeld (s .bridges) (now starts) (now neighbours) (now costs) (now identifiers) (now hops) b 0 (now rows) ⌝ }
     ensures { λ r. ⌜ RowsHeld (s .bridges) (now (starts .entry)) (now (neighbours .entry)) (now (costs .entry)) (now (identifiers .entry)) (now (hops .entry)) b r (now (rows .exit)) ⌝ }
-    ensures { λ r. ⌜ OwnRows (now (table .entry)) s b (now (rows .exit)) (s .vids) × (r ≤ s .vids) ⌝ }
+    ensures { λ r. ⌜ Kept (now (rows .entry)) (now (rows .exit)) × OwnRows (now (table .entry)) s b (now (rows .exit)) (s .vids) × (r ≤ s .vids) ⌝ }
 {
     let mut count = 0;
     let mut k = 0;

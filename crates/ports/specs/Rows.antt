@@ -24,6 +24,10 @@ slotOf index a = (index - 1) * 64 + a
 abbrev pub rowAt : List ℕ → ℕ → ℕ → ℕ
 rowAt rows index a = getD rows (slotOf index a) 0
 
+-- There is a row.
+pub record HasRow (rows : List ℕ) (index a : ℕ) : Type 0 where
+  pub there : 0 < rowAt rows index a
+
 -- The row of a tree over the lists: for each bridge the port by which the way from the root to it leaves `b`.
 pub record RowOf (n : ℕ) (starts neighbours costs identifiers hops : List ℕ) (b index a : ℕ) (row : List ℕ) : Type 0 where
   pub labels : List ℕ
@@ -37,15 +41,16 @@ pub record RowsHeld (n : ℕ) (starts neighbours costs identifiers hops : List �
   pub held : (index a : ℕ) → 1 ≤ index → index ≤ 16 → a < n → (rowAt rows index a ≡ 0 → ⊥)
       → RowOf n starts neighbours costs identifiers hops b index a (drop (rowAt rows index a) rows)
 
--- No row is lost.
+-- No row is lost, and the list keeps its length.
 pub record Kept (before after : List ℕ) : Type 0 where
+  pub same-length : length after ≡ length before
   pub still : (i : ℕ) → i < 1024 → (getD before i 0 ≡ 0 → ⊥) → getD after i 0 ≡ 0 → ⊥
 
 pub kept-all : (rows : List ℕ) → Kept rows rows
-kept-all rows = record { still = λ i l d. d }
+kept-all rows = record { same-length = refl; still = λ i l d. d }
 
 pub kept-both : {before between after : List ℕ} → Kept before between → Kept between after → Kept before after
-kept-both K M = record { still = λ i l d. M .still i l (K .still i l d) }
+kept-both K M = record { same-length = M .same-length ∙ K .same-length; still = λ i l d. M .still i l (K .still i l d) }
 
 pub slot-below : (index a : ℕ) → 1 ≤ index → index ≤ 16 → a < 64 → slotOf index a < 1024
 slot-below index a h k l = omega arith
@@ -158,14 +163,14 @@ module _ {n : ℕ} {starts neighbours costs identifiers hops : List ℕ} {b coun
             let f = same index′ a′ h k i e in old-row index′ a′ h k i e (λ z. d (f ∙ z)) f
 
     pub row-kept : Kept rows rows′
-    row-kept = record { still = λ i h d z. go i h d z (same-or-not i (slotOf index a)) }
+    row-kept = record { same-length = rows-length; still = λ i h d z. go i h d z (same-or-not i (slotOf index a)) }
       where
         go : (i : ℕ) → i < 1024 → (getD rows i 0 ≡ 0 → ⊥) → getD rows′ i 0 ≡ 0 → (i ≡ slotOf index a) ⊎ (i ≡ slotOf index a → ⊥) → ⊥
         go i h d z (inl e) = omega (arith, ap (λ (x : ℕ). getD rows′ x 0) e, at-slot)
         go i h d z (inr e) = d (sym (at-place i (omega arith) e) ∙ z)
 
-    pub row-there : 0 < rowAt rows′ index a
-    row-there = omega (arith, at-slot)
+    pub row-there : HasRow rows′ index a
+    row-there = record { there = omega (arith, at-slot) }
 
 -- A row over the lists of a plan is the plan's.
 pub plan-row : {p : Plan} {n : ℕ} {starts neighbours costs identifiers hops : List ℕ} {b index a : ℕ} {row : List ℕ}

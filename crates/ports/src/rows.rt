@@ -5,7 +5,7 @@ ghost use mathlib.Core.Path.{_≡_};
 ghost use Prim.Native.Nat.{_+_, _≤_, _<_};
 ghost use lib.ListN.{length};
 ghost use Rattle.network.specs.PlanLists.{Listed};
-ghost use Rattle.ports.specs.Rows.{rowAt, RowsHeld, Kept};
+ghost use Rattle.ports.specs.Rows.{rowAt, HasRow, RowsHeld, Kept};
 
 // Keeps the row of the chosen paths from the bridge `a` for an ECT index, where it is not kept yet; `count` rows are kept. Gives how
 // many are kept then.
@@ -25,7 +25,7 @@ pub fn keep_row(
     requires { ⌜ Listed n (now starts) (now neighbours) (now costs) (now identifiers) × (length (now identifiers) ≤ 64) × (64 ≤ length (now hops)) ⌝ }
     requires { ⌜ (1 ≤ index) × (index ≤ 16) × (a < n) × (count < 80) × RowsHeld n (now starts) (now neighbours) (now costs) (now identifiers) (now hops) b count (now rows) ⌝ }
     ensures { λ r. ⌜ RowsHeld n (now (starts .entry)) (now (neighbours .entry)) (now (costs .entry)) (now (identifiers .entry)) (now (hops .entry)) b r (now (rows .exit)) ⌝ }
-    ensures { λ r. ⌜ Kept (now (rows .entry)) (now (rows .exit)) × (0 < rowAt (now (rows .exit)) index a) × (r ≤ count + 1) ⌝ }
+    ensures { λ r. ⌜ Kept (now (rows .entry)) (now (rows .exit)) × HasRow (now (rows .exit)) index a × (r ≤ count + 1) ⌝ }
 {
     let slot = (index as usize - 1) * 64 + a;
     if rows[slot] != 0 {

@@ -27,7 +27,7 @@ slice-read-if1 : tie.Need-slice-read-if1
 slice-read-if1 c = search needs
 
 returns : tie.Need-returns
-returns c = (((c .before .before .before .before .before .before .before .before .pre .1 .4)), (kept-all _, omega (arith, (c .if1 .taken)), omega arith))
+returns c = (((c .before .before .before .before .before .before .before .before .pre .1 .4)), (kept-all _, record { there = omega (arith, (c .if1 .taken)) }, omega arith))
 
 slice-aggregate-tree-over-lists : tie.Need-slice-aggregate-tree-over-lists
 slice-aggregate-tree-over-lists c = search needs
