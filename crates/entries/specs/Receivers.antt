@@ -67,6 +67,18 @@ module _ {t : List ℕ} {s : Shape} (R : Readable t s) where
     R .laws .members .few,
   )
 
+  pub behind-few : (row : List ℕ) (m : Member) {lent behind : List ℕ} {count : ℕ} → Appended lent 0 (portsBehind (wordsOf t) s row m) behind count
+      → count ≤ 64
+  unfolding portsBehind
+  behind-few row m A = omega (
+    arith,
+    A .end-is,
+    length-flatMap-most (behindAt (wordsOf t) s row m) 1 (rising 0 (s .members)) (λ j k. at-most-one row m j),
+    length-rising 0 (s .members),
+    members-are,
+    R .laws .members .few,
+  )
+
 -- What the member `j`, read as `r`, adds.
 module _ (ws : List ℕ) (s : Shape) (row : List ℕ) (m : Member) (j : ℕ) (r : Member) (e : r ≡ memberNumber ws s j) where
   by-test : (b : Bool) → b ≡ receives m r → behindAt ws s row m j ≡ cond b (getD row (r .bridge) 0 ∷ []) []

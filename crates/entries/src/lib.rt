@@ -2,5 +2,6 @@
 pub mod group;
 pub mod individual;
 pub mod needed;
+pub mod parts;
 pub mod records;
 pub mod words;

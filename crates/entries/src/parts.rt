@@ -1,0 +1,52 @@
+// The parts of a bridge's list (01, "Entries"): the group entries for a transmitter, the part of a VID, and all VIDs, by the rows kept.
+use crate::group::group_words;
+use crate::group::ports_behind;
+use crate::individual::individual_words;
+use crate::records::bridge;
+use crate::records::member;
+use crate::records::vid;
+use ports::rows::row_at;
+use table::member::Member;
+use table::shape::Shape;
+use table::vid::Vid;
+ghost use mathlib.Core.Path.{_≡_};
+ghost use Prim.Native.Nat.{_≤_, _<_};
+ghost use Rattle.graph.specs.Appending.{Appended, Room};
+ghost use Rattle.rule.specs.Words.{wordsOf};
+ghost use Rattle.rule.specs.Entries.{groupAddress};
+ghost use Rattle.table.specs.Readers.{vidValues, memberValues};
+ghost use Rattle.entries.specs.Words.{Readable};
+ghost use Rattle.entries.specs.Needed.{RowsInside};
+ghost use Rattle.entries.specs.Parts.{transmitterPart, memberPart, groupPart, vidPart, wholeList};
+
+// "The group address, first octet first: top 4 bits of SPsourceID then hexadecimal 3; the other 16 bits of SPsourceID; the 24 bits of
+// I-SID."
+fn group_address(source: u32, isid: u32) -> u64
+    requires { ⌜ (source < 1048576) × (isid < 16777216) ⌝ }
+    ensures { λ r. ⌜ r ≡ groupAddress source isid ⌝ }
+{
+    (source as u64 / 65536 * 16 + 3) * 1099511627776 + source as u64 % 65536 * 16777216 + isid as u64
+}
+
+// Writes the group entries for the transmitter `m`.
+fn transmitter_words(
+    table: &[u8],
+    s: Shape,
+    rows: &[u16],
+    ports: &[u16],
+    v: Vid,
+    m: Member,
+    words: &mut [u32],
+    at: usize,
+) -> usize
+    requires { ⌜ Readable (now table) s × RowsInside (s .bridges) (now rows) × (1 ≤ v .index) × (v .index ≤ 16) × (v .vid < 4096) × (m .bridge < s .bridges) × (m .isid < 16777216) ⌝ }
+    requires { ⌜ Room (now words) at (transmitterPart (wordsOf (now table)) s (now rows) (now ports) (vidValues v) (memberValues m)) ⌝ }
+    ensures { λ r. ⌜ Appended (now (words .entry)) at (transmitterPart (wordsOf (now (table .entry))) s (now (rows .entry)) (now (ports .entry)) (vidValues v) (memberValues m)) (now (words .exit)) r ⌝ }
+{
+    let source = bridge(table, s, m.bridge as usize).sp_source_id;
+    let address = group_address(source, m.isid);
+    let place = row_at(rows, v.index, m.bridge as usize);
+    let mut behind = [0u16; 64];
+    let count = ports_behind(table, s, &rows[place..], m, &mut behind);
+    group_words(ports, &behind[..count], v.vid, address, words, at)
+}
