@@ -6,11 +6,12 @@ use mathlib.Core.Path.{_≡_, refl, sym, ap, _∙_, subst}
 use mathlib.Core.List.{List, [], _∷_, _++_, map, flatMap}
 use mathlib.Core.Bool.{Bool, true, false, cond, _&&_}
 use lib.Dec.{T, eqb, eqb→eq}
+use borrow.Author.Tests.{eq-eqb, ne-eqb}
 use lib.ListN.{length, take, drop, length-take, length-drop}
 use lib.Seq.{take-append-seam}
 use Rattle.graph.specs.Lists.{rising, filter, spliced}
 use Rattle.graph.specs.ListLaws.{first-of, last-of, is-true, rising-in, flatMap-map, flatMap-flatMap, flatMap-append, flatMap-filter, flatMap-same}
-use Rattle.graph.specs.Appending.{Appended, Room, eachOf}
+use Rattle.graph.specs.Appending.{Appended, Room, appended-nothing, eachOf}
 use Rattle.rule.specs.Words.{wordsOf}
 use Rattle.rule.specs.Records.{Bridge, Vid, Member}
 use Rattle.rule.specs.Plan.{Plan, bridgeAt}
@@ -142,3 +143,29 @@ module _ (ws : List ℕ) (s : Shape) (rows ports : List ℕ) (v : Vid) (m : Memb
   pub transmitter-written : {words written : List ℕ} {at end : ℕ} → Appended words at (groupWords ports (take count behind) (v .vid) addr) written end
       → Appended words at (transmitterPart ws s rows ports v m) written end
   transmitter-written {words} {written} {at} {end} B = subst (λ (x : List ℕ). Appended words at x written end) part-is B
+
+-- What the member `j`, read as `m`, adds.
+module _ (ws : List ℕ) (s : Shape) (rows ports : List ℕ) (v : Vid) (j : ℕ) (m : Member) (e : m ≡ memberNumber ws s j) where
+  member-by : (c : Bool) → (m .transmits && eqb (m .vid) (v .vid)) ≡ c → memberPart ws s rows ports v j ≡ cond c (transmitterPart ws s rows ports v m) []
+  unfolding memberPart
+  member-by c f =
+      ap (λ (x : Member). cond (x .transmits && eqb (x .vid) (v .vid)) (transmitterPart ws s rows ports v x) []) (sym e)
+      ∙ ap (λ (c : Bool). cond c (transmitterPart ws s rows ports v m) []) f
+
+  pub silent-part : m .transmits ≡ false → (words : List ℕ) (at : ℕ) → Appended words at (memberPart ws s rows ports v j) words at
+  silent-part f words at = rw (member-by false (ap (λ (c : Bool). c && eqb (m .vid) (v .vid)) f)) (appended-nothing words at)
+
+  pub other-part : m .transmits ≡ true → (m .vid ≡ v .vid → ⊥) → (words : List ℕ) (at : ℕ) → Appended words at (memberPart ws s rows ports v j) words at
+  other-part f d words at =
+      rw (member-by false (ap (λ (c : Bool). c && eqb (m .vid) (v .vid)) f ∙ ne-eqb (m .vid) (v .vid) d)) (appended-nothing words at)
+
+  module _ (f : m .transmits ≡ true) (d : m .vid ≡ v .vid) where
+    own-part : memberPart ws s rows ports v j ≡ transmitterPart ws s rows ports v m
+    own-part = member-by true (ap (λ (c : Bool). c && eqb (m .vid) (v .vid)) f ∙ eq-eqb (m .vid) (v .vid) d)
+
+    pub member-room : (words : List ℕ) (at : ℕ) → Room words at (memberPart ws s rows ports v j) → Room words at (transmitterPart ws s rows ports v m)
+    member-room words at r = omega (arith, ap (λ (x : List ℕ). length x) own-part)
+
+    pub member-written : {words written : List ℕ} {at end : ℕ} → Appended words at (transmitterPart ws s rows ports v m) written end
+        → Appended words at (memberPart ws s rows ports v j) written end
+    member-written {words} {written} {at} {end} B = subst (λ (x : List ℕ). Appended words at x written end) (sym own-part) B

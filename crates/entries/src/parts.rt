@@ -50,3 +50,28 @@ fn transmitter_words(
     let count = ports_behind(table, s, &rows[place..], m, &mut behind);
     group_words(ports, &behind[..count], v.vid, address, words, at)
 }
+
+// Writes the group entries for the member number `j`, where it transmits in the VID.
+fn member_words(
+    table: &[u8],
+    s: Shape,
+    rows: &[u16],
+    ports: &[u16],
+    v: Vid,
+    j: usize,
+    words: &mut [u32],
+    at: usize,
+) -> usize
+    requires { ⌜ Readable (now table) s × RowsInside (s .bridges) (now rows) × (1 ≤ v .index) × (v .index ≤ 16) × (v .vid < 4096) × (j < s .members) ⌝ }
+    requires { ⌜ Room (now words) at (memberPart (wordsOf (now table)) s (now rows) (now ports) (vidValues v) j) ⌝ }
+    ensures { λ r. ⌜ Appended (now (words .entry)) at (memberPart (wordsOf (now (table .entry))) s (now (rows .entry)) (now (ports .entry)) (vidValues v) j) (now (words .exit)) r ⌝ }
+{
+    let m = member(table, s, j);
+    if !m.transmits {
+        return at;
+    }
+    if m.vid != v.vid {
+        return at;
+    }
+    transmitter_words(table, s, rows, ports, v, m, words, at)
+}
