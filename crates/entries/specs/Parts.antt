@@ -7,11 +7,11 @@ use mathlib.Core.List.{List, [], _∷_, _++_, map, flatMap}
 use mathlib.Core.Bool.{Bool, true, false, cond, _&&_}
 use lib.Dec.{T, eqb, eqb→eq}
 use borrow.Author.Tests.{eq-eqb, ne-eqb}
-use lib.ListN.{length, take, drop, length-take, length-drop}
+use lib.ListN.{length, take, drop, length-take, length-drop, length-append}
 use lib.Seq.{take-append-seam}
 use Rattle.graph.specs.Lists.{rising, filter, spliced}
 use Rattle.graph.specs.ListLaws.{first-of, last-of, is-true, rising-in, flatMap-map, flatMap-flatMap, flatMap-append, flatMap-filter, flatMap-same}
-use Rattle.graph.specs.Appending.{Appended, Room, appended-nothing, eachOf}
+use Rattle.graph.specs.Appending.{Appended, Room, appended-nothing, appended-both, appended-length, eachOf}
 use Rattle.rule.specs.Words.{wordsOf}
 use Rattle.rule.specs.Records.{Bridge, Vid, Member}
 use Rattle.rule.specs.Plan.{Plan, bridgeAt}
@@ -169,3 +169,28 @@ module _ (ws : List ℕ) (s : Shape) (rows ports : List ℕ) (v : Vid) (j : ℕ)
     pub member-written : {words written : List ℕ} {at end : ℕ} → Appended words at (transmitterPart ws s rows ports v m) written end
         → Appended words at (memberPart ws s rows ports v j) written end
     member-written {words} {written} {at} {end} B = subst (λ (x : List ℕ). Appended words at x written end) (sym own-part) B
+
+-- The part of the VID `k`, read as `v`: the individual entries by the row at `place`, then the group entries.
+module _ (ws : List ℕ) (s : Shape) (rows ports : List ℕ) (b k : ℕ) (v : Vid) (e : v ≡ vidNumber ws s k) (place : ℕ) (f : place ≡ rowAt rows (v .index) b) where
+  two-parts : individualWords ws s (take (length rows - place) (drop place rows)) (v .vid) ++ groupPart ws s rows ports v ≡ vidPart ws s rows ports b k
+  unfolding vidPart
+  two-parts =
+      ap (λ (x : List ℕ). individualWords ws s x (v .vid) ++ groupPart ws s rows ports v) (part-from place rows ∙ ap (λ (i : ℕ). drop i rows) f)
+      ∙ ap (λ (w : Vid). individualWords ws s (drop (rowAt rows (w .index) b) rows) (w .vid) ++ groupPart ws s rows ports w) e
+
+  lengths : length (individualWords ws s (take (length rows - place) (drop place rows)) (v .vid)) + length (groupPart ws s rows ports v) ≡ length (vidPart ws s rows ports b k)
+  lengths =
+      sym (length-append (individualWords ws s (take (length rows - place) (drop place rows)) (v .vid)) (groupPart ws s rows ports v))
+      ∙ ap (λ (x : List ℕ). length x) two-parts
+
+  module _ (words : List ℕ) (at : ℕ) (r : Room words at (vidPart ws s rows ports b k)) where
+    pub first-room : Room words at (individualWords ws s (take (length rows - place) (drop place rows)) (v .vid))
+    first-room = omega (arith, lengths)
+
+    module _ (written : List ℕ) (end : ℕ) (A : Appended words at (individualWords ws s (take (length rows - place) (drop place rows)) (v .vid)) written end) where
+      pub second-room : Room written end (groupPart ws s rows ports v)
+      second-room = omega (arith, lengths, A .end-is, appended-length A first-room)
+
+      pub vid-written : {last : List ℕ} {end′ : ℕ} → Appended written end (groupPart ws s rows ports v) last end′
+          → Appended words at (vidPart ws s rows ports b k) last end′
+      vid-written {last} {end′} B = subst (λ (x : List ℕ). Appended words at x last end′) two-parts (appended-both A B first-room)

@@ -75,3 +75,26 @@ fn member_words(
     }
     transmitter_words(table, s, rows, ports, v, m, words, at)
 }
+
+// Writes the group entries of a VID: "for each member record of that VID with T, in table order".
+fn group_part(
+    table: &[u8],
+    s: Shape,
+    rows: &[u16],
+    ports: &[u16],
+    v: Vid,
+    words: &mut [u32],
+    at: usize,
+) -> usize
+    requires { ⌜ Readable (now table) s × RowsInside (s .bridges) (now rows) × (1 ≤ v .index) × (v .index ≤ 16) × (v .vid < 4096) ⌝ }
+    requires { ⌜ Room (now words) at (groupPart (wordsOf (now table)) s (now rows) (now ports) (vidValues v)) ⌝ }
+    ensures { λ r. ⌜ Appended (now (words .entry)) at (groupPart (wordsOf (now (table .entry))) s (now (rows .entry)) (now (ports .entry)) (vidValues v)) (now (words .exit)) r ⌝ }
+{
+    let mut end = at;
+    let mut j = 0;
+    while j < s.members {
+        end = member_words(table, s, rows, ports, v, j, words, end);
+        j += 1;
+    }
+    end
+}
