@@ -24,7 +24,7 @@ use Rattle.ports.specs.PlanPorts.{PlanPorts}
 use Rattle.ports.specs.Rows.{rowAt}
 use Rattle.entries.specs.Words.{Readable, bridgeNumber, vidNumber, memberNumber, individualWords, portsBehind, groupWords}
 use Rattle.entries.specs.PlanWords.{vidWords, memberWords, bridges-are, bridge-is, individual-words, group-words}
-use Rattle.entries.specs.Needed.{RowsReady, member-fits}
+use Rattle.entries.specs.Needed.{RowsInside, RowsReady, vid-fits, member-fits}
 
 -- The words of the group entries for the transmitter `m`, of the group entries for the member `j`, and of all group entries.
 unfoldable pub transmitterPart : List ℕ → Shape → List ℕ → List ℕ → Vid → Member → List ℕ
@@ -119,6 +119,16 @@ source-fits {t} {s} R d l = omega (
 -- The part of the rows that is lent has a place for every bridge.
 pub row-lent : (rows : List ℕ) (place n : ℕ) → place + 64 ≤ length rows → n ≤ 64 → n ≤ length (take (length rows - place) (drop place rows))
 row-lent rows place n h k = omega (arith, length-take (length rows - place) (drop place rows), length-drop place rows)
+
+-- The row of a bridge for a VID is inside the list.
+pub row-place-inside : {t : List ℕ} {s : Shape} {rows : List ℕ} → Readable t s → RowsInside (s .bridges) rows → (k : ℕ) → k < s .vids
+    → (b : ℕ) → b < s .bridges → (v : Vid) → v ≡ vidNumber (wordsOf t) s k → (place : ℕ) → place ≡ rowAt rows (v .index) b → place + 64 ≤ length rows
+row-place-inside R I k l b h v e place f =
+    let g = vid-fits R k l
+    in omega (
+      arith,
+      I .inside (v .index) b (omega (arith, g .least-index, ap (λ (w : Vid). w .index) e)) (omega (arith, g .greatest-index, ap (λ (w : Vid). w .index) e)) h,
+    )
 
 -- What was appended from the front on is the front.
 pub front-is : {lent part written : List ℕ} {end : ℕ} → Appended lent 0 part written end → take end written ≡ part

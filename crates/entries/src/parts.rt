@@ -98,3 +98,24 @@ fn group_part(
     }
     end
 }
+
+// Writes the entries of the VID number `k`: first the individual ones, then those of groups.
+fn vid_part(
+    table: &[u8],
+    s: Shape,
+    rows: &[u16],
+    ports: &[u16],
+    b: usize,
+    k: usize,
+    words: &mut [u32],
+    at: usize,
+) -> usize
+    requires { ⌜ Readable (now table) s × RowsInside (s .bridges) (now rows) × (b < s .bridges) × (k < s .vids) ⌝ }
+    requires { ⌜ Room (now words) at (vidPart (wordsOf (now table)) s (now rows) (now ports) b k) ⌝ }
+    ensures { λ r. ⌜ Appended (now (words .entry)) at (vidPart (wordsOf (now (table .entry))) s (now (rows .entry)) (now (ports .entry)) b k) (now (words .exit)) r ⌝ }
+{
+    let v = vid(table, s, k);
+    let place = row_at(rows, v.index, b);
+    let end = individual_words(table, s, &rows[place..], v.vid, words, at);
+    group_part(table, s, rows, ports, v, words, end)
+}
