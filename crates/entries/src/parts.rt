@@ -119,3 +119,25 @@ fn vid_part(
     let end = individual_words(table, s, &rows[place..], v.vid, words, at);
     group_part(table, s, rows, ports, v, words, end)
 }
+
+// Writes the whole list of the bridge `b`: "VID by VID in record order".
+pub fn whole_list(
+    table: &[u8],
+    s: Shape,
+    rows: &[u16],
+    ports: &[u16],
+    b: usize,
+    words: &mut [u32],
+) -> usize
+    requires { ⌜ Readable (now table) s × RowsInside (s .bridges) (now rows) × (b < s .bridges) ⌝ }
+    requires { ⌜ Room (now words) 0 (wholeList (wordsOf (now table)) s (now rows) (now ports) b) ⌝ }
+    ensures { λ r. ⌜ Appended (now (words .entry)) 0 (wholeList (wordsOf (now (table .entry))) s (now (rows .entry)) (now (ports .entry)) b) (now (words .exit)) r ⌝ }
+{
+    let mut end = 0;
+    let mut k = 0;
+    while k < s.vids {
+        end = vid_part(table, s, rows, ports, b, k, words, end);
+        k += 1;
+    }
+    end
+}
