@@ -5,3 +5,4 @@ pub mod Receivers
 pub mod PlanWords
 pub mod Needed
 pub mod Parts
+pub mod Whole

@@ -1,0 +1,84 @@
+-- The whole list of a bridge, from the lists of a plan: what each step gives the next. And lists copied to where they are lent.
+-- Assumes nothing.
+use Prim.Native.Nat.{ℕ, _+_, _≤_, _<_}
+use native.Mathlib.Omega.{arith}
+use mathlib.Core.Path.{_≡_, refl, sym, ap, _∙_, subst}
+use mathlib.Core.List.{List, [], _∷_, _++_}
+use mathlib.Core.Bool.{Bool, cond}
+use lib.ListN.{length, getD, drop}
+use Rattle.graph.specs.Lists.{rising, spliced}
+use Rattle.graph.specs.ListLaws.{flatMap-one, by-places}
+use Rattle.graph.specs.Appending.{Appended, Room, eachOf}
+use Rattle.rule.specs.Words.{wordsOf}
+use Rattle.rule.specs.Plan.{Plan, knownBridge}
+use Rattle.rule.specs.Outcome.{Outcome, answered, refusedAs, Written}
+use Rattle.rule.specs.Entries.{entryListOf}
+use Rattle.rule.specs.ListBound.{few-words}
+use Rattle.table.specs.declared.shape.Shape.{Shape}
+use Rattle.table.specs.Positions.{planAt}
+use Rattle.links.specs.NeighbourLaws.{NeighboursOf}
+use Rattle.network.specs.PlanLists.{ListsOf}
+use Rattle.ports.specs.Hops.{HopLists, HopPorts, InRange, RisingPorts}
+use Rattle.ports.specs.Leaving.{PlanHops}
+use Rattle.ports.specs.PlanPorts.{PlanPorts, hop-lists, plan-hops, hops-in-range, plan-ports}
+use Rattle.entries.specs.Words.{Readable}
+use Rattle.entries.specs.PlanWords.{bridges-are}
+use Rattle.entries.specs.Needed.{Lists, RowsReady}
+use Rattle.entries.specs.Parts.{wholeList, whole-is}
+
+-- What the entries call answers of an accepted plan, whatever list is lent.
+unfoldable pub planEntries : Plan → ℕ → Outcome (Written ℕ)
+planEntries p b = cond (knownBridge p b) (answered (record { values = length (entryListOf p b); words = entryListOf p b })) (refusedAs 11)
+
+-- The neighbour lists, with their ports, and the identifiers of the table's plan.
+pub record PlanOf (t : List ℕ) (s : Shape) (starts neighbours costs ports identifiers : List ℕ) : Type 0 where
+  pub readable : Readable t s
+  pub lists : ListsOf (planAt (wordsOf t) s) (s .bridges) starts neighbours costs identifiers
+  pub hops : NeighboursOf (planAt (wordsOf t) s) (s .bridges) starts neighbours costs ports
+  pub few-identifiers : length identifiers ≤ 64
+  pub has-ports : 512 ≤ length ports
+
+module _ {t : List ℕ} {s : Shape} {starts neighbours costs ports identifiers : List ℕ} (P : PlanOf t s starts neighbours costs ports identifiers)
+    (b : ℕ) (known : b < s .bridges) where
+  pub hop-lists-of : HopLists (s .bridges) starts neighbours ports b
+  hop-lists-of = hop-lists (P .lists) (P .hops) (P .has-ports) b known
+
+  module _ {hops : List ℕ} (H : HopPorts (s .bridges) starts neighbours ports b hops) where
+    hops-of : PlanHops (planAt (wordsOf t) s) (s .bridges) b hops
+    hops-of = plan-hops (P .lists) (P .hops) (P .has-ports) b known H
+
+    pub in-range : InRange hops (s .bridges)
+    in-range = hops-in-range (P .readable .laws) hops-of
+
+    pub lists-of : 64 ≤ length hops → Lists t s starts neighbours costs identifiers hops b
+    lists-of l = record {
+      readable = P .readable;
+      lists = P .lists;
+      hop-ports = hops-of;
+      few-identifiers = P .few-identifiers;
+      has-hops = l;
+      known = known;
+    }
+
+    module _ {rises : List ℕ} (G : RisingPorts hops (s .bridges) rises) {rows : List ℕ} (W : RowsReady t s b rows) where
+      list-is : wholeList (wordsOf t) s rows rises b ≡ entryListOf (planAt (wordsOf t) s) b
+      list-is = whole-is (P .readable) W (plan-ports (P .readable .laws) hops-of (bridges-are (P .readable)) G) known
+
+      -- "No bridge's list exceeds 14,931 words."
+      pub whole-room : (words : List ℕ) → 14931 ≤ length words → Room words 0 (wholeList (wordsOf t) s rows rises b)
+      whole-room words l = omega (
+        arith,
+        ap (λ (x : List ℕ). length x) list-is,
+        few-words (planAt (wordsOf t) s) (P .readable .laws) b (omega (arith, bridges-are (P .readable))),
+      )
+
+      pub whole-written : {words written : List ℕ} {end : ℕ} → Appended words 0 (wholeList (wordsOf t) s rows rises b) written end
+          → Appended words 0 (entryListOf (planAt (wordsOf t) s) b) written end
+      whole-written {words} {written} {end} A = subst (λ (x : List ℕ). Appended words 0 x written end) list-is A
+
+-- A list copied place by place.
+abbrev pub placesOf : List ℕ → ℕ → List ℕ
+placesOf words i = getD words i 0 ∷ []
+
+pub copied : (words : List ℕ) → eachOf (placesOf words) (length words) ≡ words
+copied words = flatMap-one (λ i. getD words i 0) (rising 0 (length words)) ∙ by-places words 0
