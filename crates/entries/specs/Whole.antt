@@ -26,9 +26,13 @@ use Rattle.entries.specs.PlanWords.{bridges-are}
 use Rattle.entries.specs.Needed.{Lists, RowsReady}
 use Rattle.entries.specs.Parts.{wholeList, whole-is}
 
+-- The answer with these words.
+abbrev pub listAnswer : List ℕ → Outcome (Written ℕ)
+listAnswer words = answered (record { values = length words; words = words })
+
 -- What the entries call answers of an accepted plan, whatever list is lent.
 unfoldable pub planEntries : Plan → ℕ → Outcome (Written ℕ)
-planEntries p b = cond (knownBridge p b) (answered (record { values = length (entryListOf p b); words = entryListOf p b })) (refusedAs 11)
+planEntries p b = cond (knownBridge p b) (listAnswer (entryListOf p b)) (refusedAs 11)
 
 -- The neighbour lists, with their ports, and the identifiers of the table's plan.
 pub record PlanOf (t : List ℕ) (s : Shape) (starts neighbours costs ports identifiers : List ℕ) : Type 0 where

@@ -1,0 +1,58 @@
+// The entries of a bridge of a table that passed the check (01, "Calls"): the words are made in an array of their own and copied when
+// they fit, so that a refusal writes nothing.
+use crate::needed::keep_rows;
+use crate::parts::whole_list;
+use links::neighbours::neighbours_of;
+use network::records::write_identifiers;
+use ports::hops::hop_ports;
+use ports::hops::rising_ports;
+use rule::answer::EntriesAnswer;
+use rule::answer::RecordKind;
+use table::shape::Shape;
+ghost use mathlib.Core.Path.{_≡_};
+ghost use mathlib.Core.List.{List};
+ghost use Prim.Native.Nat.{ℕ, _≤_, _<_};
+ghost use lib.ListN.{length};
+ghost use Rattle.graph.specs.Lists.{spliced};
+ghost use Rattle.graph.specs.Appending.{Appended};
+ghost use Rattle.rule.specs.Words.{wordsOf};
+ghost use Rattle.rule.specs.Outcome.{Outcome, lentTo};
+ghost use Rattle.rule.specs.Answers.{entriesValues};
+ghost use Rattle.rule.specs.Entries.{entryListOf};
+ghost use Rattle.table.specs.Positions.{planAt};
+ghost use Rattle.links.specs.Mates.{Checked};
+ghost use Rattle.entries.specs.Whole.{PlanOf, listAnswer, planEntries};
+
+// The words of the bridge's list, over the lists of a plan, written to the front of a lent list; gives how many there are.
+pub fn list_over_lists(
+    table: &[u8],
+    s: Shape,
+    starts: &[u32],
+    neighbours: &[u32],
+    costs: &[u32],
+    ports: &[u32],
+    identifiers: &[u64],
+    b: usize,
+    words: &mut [u32],
+) -> usize
+    requires { ⌜ PlanOf (now table) s (now starts) (now neighbours) (now costs) (now ports) (now identifiers) × (b < s .bridges) × (14931 ≤ length (now words)) ⌝ }
+    ensures { λ r. ⌜ Appended (now (words .entry)) 0 (entryListOf (planAt (wordsOf (now (table .entry))) s) b) (now (words .exit)) r ⌝ }
+{
+    let mut hops = [0u16; 64];
+    hop_ports(starts, neighbours, ports, s.bridges, b, &mut hops);
+    let mut rises = [0u16; 64];
+    let count = rising_ports(&hops, s.bridges, &mut rises);
+    let mut rows = [0u16; 6144];
+    keep_rows(
+        table,
+        s,
+        starts,
+        neighbours,
+        costs,
+        identifiers,
+        &hops,
+        b,
+        &mut rows,
+    );
+    whole_list(table, s, &rows, &rises[..count], b, words)
+}
