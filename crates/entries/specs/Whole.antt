@@ -17,13 +17,15 @@ use Rattle.rule.specs.ListBound.{few-words}
 use Rattle.table.specs.declared.shape.Shape.{Shape}
 use Rattle.table.specs.Positions.{planAt}
 use Rattle.links.specs.NeighbourLaws.{NeighboursOf}
-use Rattle.network.specs.PlanLists.{ListsOf}
+use Rattle.links.specs.Mates.{Checked}
+use Rattle.network.specs.PlanLists.{ListsOf, IdentifiersOf}
+use Rattle.network.specs.PlanListLaws.{lists-of-table}
 use Rattle.ports.specs.Hops.{HopLists, HopPorts, InRange, RisingPorts}
 use Rattle.ports.specs.Leaving.{PlanHops}
 use Rattle.ports.specs.PlanPorts.{PlanPorts, hop-lists, plan-hops, hops-in-range, plan-ports}
 use Rattle.entries.specs.Words.{Readable}
 use Rattle.entries.specs.PlanWords.{bridges-are}
-use Rattle.entries.specs.Needed.{Lists, RowsReady}
+use Rattle.entries.specs.Needed.{Lists, RowsReady, few-bridges}
 use Rattle.entries.specs.Parts.{wholeList, whole-is}
 
 -- The answer with these words.
@@ -79,6 +81,22 @@ module _ {t : List ℕ} {s : Shape} {starts neighbours costs ports identifiers :
       pub whole-written : {words written : List ℕ} {end : ℕ} → Appended words 0 (wholeList (wordsOf t) s rows rises b) written end
           → Appended words 0 (entryListOf (planAt (wordsOf t) s) b) written end
       whole-written {words} {written} {end} A = subst (λ (x : List ℕ). Appended words 0 x written end) list-is A
+
+-- The lists made of a table that passed the check are those of its plan.
+pub plan-of : {t links : List ℕ} {s : Shape} → Checked t links s → {starts neighbours costs ports identifiers : List ℕ}
+    → NeighboursOf (planAt (wordsOf t) s) (s .bridges) starts neighbours costs ports → IdentifiersOf (planAt (wordsOf t) s) (s .bridges) identifiers
+    → s .bridges < length starts → 512 ≤ length neighbours → 512 ≤ length costs → 512 ≤ length ports → s .bridges ≤ length identifiers → length identifiers ≤ 64
+    → PlanOf t s starts neighbours costs ports identifiers
+plan-of C N I a c d e f g = record {
+  readable = record { whole = C .whole; bounded = C .bounded; laws = C .laws };
+  lists = lists-of-table C N I a c d f;
+  hops = N;
+  few-identifiers = g;
+  has-ports = e;
+}
+
+pub few-in-table : {t links : List ℕ} {s : Shape} → Checked t links s → s .bridges ≤ 64
+few-in-table C = few-bridges (record { whole = C .whole; bounded = C .bounded; laws = C .laws })
 
 -- A list copied place by place.
 abbrev pub placesOf : List ℕ → ℕ → List ℕ

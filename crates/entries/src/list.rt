@@ -56,3 +56,44 @@ pub fn list_over_lists(
     );
     whole_list(table, s, &rows, &rises[..count], b, words)
 }
+
+// The same of a table that passed the check.
+fn list_of_table(
+    table: &[u8],
+    s: Shape,
+    links: &[u32],
+    b: usize,
+    words: &mut [u32],
+) -> usize
+    requires { ⌜ Checked (now table) (now links) s × (b < s .bridges) × (14931 ≤ length (now words)) ⌝ }
+    ensures { λ r. ⌜ Appended (now (words .entry)) 0 (entryListOf (planAt (wordsOf (now (table .entry))) s) b) (now (words .exit)) r ⌝ }
+{
+    let mut pairs = [0u64; 4096];
+    let mut starts = [0u32; 65];
+    let mut neighbours = [0u32; 512];
+    let mut costs = [0u32; 512];
+    let mut ports = [0u32; 512];
+    let mut identifiers = [0u64; 64];
+    neighbours_of(
+        table,
+        s,
+        links,
+        &mut pairs,
+        &mut starts,
+        &mut neighbours,
+        &mut costs,
+        &mut ports,
+    );
+    write_identifiers(table, s, &mut identifiers);
+    list_over_lists(
+        table,
+        s,
+        &starts,
+        &neighbours,
+        &costs,
+        &ports,
+        &identifiers,
+        b,
+        words,
+    )
+}
