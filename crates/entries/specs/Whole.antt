@@ -5,13 +5,14 @@ use native.Mathlib.Omega.{arith}
 use mathlib.Core.Path.{_≡_, refl, sym, ap, _∙_, subst}
 use mathlib.Core.List.{List, [], _∷_, _++_}
 use mathlib.Core.Bool.{Bool, cond}
-use lib.ListN.{length, getD, drop}
+use borrow.Author.Tests.{lt-leb, le-leb, lt-ltb, le-ltb}
+use lib.ListN.{length, getD, set, take, drop}
 use Rattle.graph.specs.Lists.{rising, spliced}
 use Rattle.graph.specs.ListLaws.{flatMap-one, by-places}
-use Rattle.graph.specs.Appending.{Appended, Room, eachOf}
+use Rattle.graph.specs.Appending.{Appended, Room, one-word, eachOf, Appending, appending-starts, appending-length, appending-room, appending-goes-on, appending-ends}
 use Rattle.rule.specs.Words.{wordsOf}
 use Rattle.rule.specs.Plan.{Plan, knownBridge}
-use Rattle.rule.specs.Outcome.{Outcome, answered, refusedAs, Written}
+use Rattle.rule.specs.Outcome.{Outcome, answered, refusedAs, Written, overwritten, lentTo}
 use Rattle.rule.specs.Entries.{entryListOf}
 use Rattle.rule.specs.ListBound.{few-words}
 use Rattle.table.specs.declared.shape.Shape.{Shape}
@@ -26,7 +27,7 @@ use Rattle.ports.specs.PlanPorts.{PlanPorts, hop-lists, plan-hops, hops-in-rang
 use Rattle.entries.specs.Words.{Readable}
 use Rattle.entries.specs.PlanWords.{bridges-are}
 use Rattle.entries.specs.Needed.{Lists, RowsReady, few-bridges}
-use Rattle.entries.specs.Parts.{wholeList, whole-is}
+use Rattle.entries.specs.Parts.{wholeList, whole-is, front-is}
 
 -- The answer with these words.
 abbrev pub listAnswer : List ℕ → Outcome (Written ℕ)
@@ -104,3 +105,60 @@ placesOf words i = getD words i 0 ∷ []
 
 pub copied : (words : List ℕ) → eachOf (placesOf words) (length words) ≡ words
 copied words = flatMap-one (λ i. getD words i 0) (rising 0 (length words)) ∙ by-places words 0
+
+-- The first `i` words are copied.
+pub record Copying (words list₀ list : List ℕ) (i : ℕ) : Type 0 where
+  pub so-far : Appending (placesOf words) (length words) list₀ 0 i list i
+
+pub copying-starts : (words list : List ℕ) → length words ≤ length list → Copying words list list 0
+copying-starts words list l = record { so-far = appending-starts (placesOf words) (length words) list 0 (omega (arith, ap (λ (x : List ℕ). length x) (copied words))) }
+
+module _ {words list₀ list : List ℕ} {i : ℕ} (C : Copying words list₀ list i) where
+  pub copying-length : length list ≡ length list₀
+  copying-length = appending-length (C .so-far)
+
+  pub copying-room : i < length words → i < length list
+  copying-room l = omega (arith, appending-room (C .so-far) l)
+
+  pub copying-goes-on : i < length words → Copying words list₀ (set list i (getD words i 0)) (i + 1)
+  copying-goes-on l = record { so-far = appending-goes-on (C .so-far) l (one-word list i (getD words i 0) (copying-room l)) }
+
+  pub copying-ends : length words ≤ i → list ≡ spliced list₀ 0 words
+  copying-ends l = appending-ends (C .so-far) l .words-are ∙ ap (spliced list₀ 0) (copied words)
+
+-- A list of words that fits, and one that does not.
+module _ (words list : List ℕ) where
+  pub fits-not : length list < length words → _≡_ {A = Outcome ℕ × List ℕ} (refusedAs 13, list) (lentTo list (listAnswer words))
+  fits-not l = rw (lt-leb (length words) (length list) l)
+
+  pub fits-in : length words ≤ length list → {list′ : List ℕ} → list′ ≡ spliced list 0 words
+      → _≡_ {A = Outcome ℕ × List ℕ} (answered (length words), list′) (lentTo list (listAnswer words))
+  fits-in l e = rw (le-leb (length words) (length list) l) (λ i. (answered (length words), (e ∙ front) i))
+    where
+      front : spliced list 0 words ≡ overwritten words list
+      front = ap (λ (k : ℕ). words ++ drop k list) zero
+        where
+          zero : 0 + length words ≡ length words
+          zero = omega arith
+
+-- A bridge that the table has, and one that it lacks.
+module _ {t links : List ℕ} {s : Shape} (C : Checked t links s) (bridge : ℕ) where
+  pub lacks-bridge : s .bridges ≤ bridge → (list : List ℕ) → _≡_ {A = Outcome ℕ × List ℕ} (refusedAs 11, list) (lentTo list (planEntries (planAt (wordsOf t) s) bridge))
+  unfolding planEntries
+  lacks-bridge l list = rw (le-ltb bridge (length (planAt (wordsOf t) s .bridges)) (omega (arith, bridges-are (record { whole = C .whole; bounded = C .bounded; laws = C .laws }))))
+
+  pub has-bridge : bridge < s .bridges → planEntries (planAt (wordsOf t) s) bridge ≡ listAnswer (entryListOf (planAt (wordsOf t) s) bridge)
+  unfolding planEntries
+  has-bridge l = rw (lt-ltb bridge (length (planAt (wordsOf t) s .bridges)) (omega (arith, bridges-are (record { whole = C .whole; bounded = C .bounded; laws = C .laws }))))
+
+  -- The list made has at most 14,931 words.
+  pub few-made : bridge < s .bridges → {lent written : List ℕ} {count : ℕ} → Appended lent 0 (entryListOf (planAt (wordsOf t) s) bridge) written count → count ≤ 14931
+  few-made l A = omega (
+    arith,
+    A .end-is,
+    few-words (planAt (wordsOf t) s) (C .laws) bridge (omega (arith, bridges-are (record { whole = C .whole; bounded = C .bounded; laws = C .laws }))),
+  )
+
+  pub answer-made : bridge < s .bridges → {lent written : List ℕ} {count : ℕ} → Appended lent 0 (entryListOf (planAt (wordsOf t) s) bridge) written count
+      → listAnswer (take count written) ≡ planEntries (planAt (wordsOf t) s) bridge
+  answer-made l A = ap listAnswer (front-is A) ∙ sym (has-bridge l)

@@ -97,3 +97,15 @@ fn list_of_table(
         words,
     )
 }
+
+// Copies the words to the front of the lent list.
+fn copy(words: &[u32], list: &mut [u32])
+    requires { ⌜ length (now words) ≤ length (now list) ⌝ }
+    ensures { λ _. ⌜ now (list .exit) ≡ spliced (now (list .entry)) 0 (now (words .entry)) ⌝ }
+{
+    let mut i = 0;
+    while i < words.len() {
+        list[i] = words[i];
+        i += 1;
+    }
+}
