@@ -109,3 +109,19 @@ fn copy(words: &[u32], list: &mut [u32])
         i += 1;
     }
 }
+
+// 13: "The lent list is shorter than the answer."
+fn fitted(words: &[u32], list: &mut [u32]) -> EntriesAnswer
+    requires { ⌜ length (now words) ≤ 14931 ⌝ }
+    ensures { λ r. ⌜ _≡_ {A = Outcome ℕ × List ℕ} (entriesValues r, now (list .exit)) (lentTo (now (list .entry)) (listAnswer (now (words .entry)))) ⌝ }
+{
+    if list.len() < words.len() {
+        return EntriesAnswer::Refused {
+            number: 13,
+            kind: RecordKind::None,
+            word: 0,
+        };
+    }
+    copy(words, list);
+    EntriesAnswer::Written { words: words.len() as u32 }
+}
