@@ -125,3 +125,26 @@ fn fitted(words: &[u32], list: &mut [u32]) -> EntriesAnswer
     copy(words, list);
     EntriesAnswer::Written { words: words.len() as u32 }
 }
+
+// "Entries (bridge): into a lent list of words; the words written", of a table that passed the check.
+pub fn entries_in_table(
+    table: &[u8],
+    s: Shape,
+    links: &[u32],
+    bridge: u32,
+    list: &mut [u32],
+) -> EntriesAnswer
+    requires { ⌜ Checked (now table) (now links) s ⌝ }
+    ensures { λ r. ⌜ _≡_ {A = Outcome ℕ × List ℕ} (entriesValues r, now (list .exit)) (lentTo (now (list .entry)) (planEntries (planAt (wordsOf (now (table .entry))) s) bridge)) ⌝ }
+{
+    if s.bridges <= bridge as usize {
+        return EntriesAnswer::Refused {
+            number: 11,
+            kind: RecordKind::None,
+            word: 0,
+        };
+    }
+    let mut words = [0u32; 14931];
+    let count = list_of_table(table, s, links, bridge as usize, &mut words);
+    fitted(&words[..count], list)
+}
