@@ -54,13 +54,7 @@ fn note_receiver(
 
 // The ports behind which the receivers of the transmitter `m` are, by the row of its bridge: one for each receiver, 0 where its path
 // does not pass. Gives how many there are.
-pub fn ports_behind(
-    table: &[u8],
-    s: Shape,
-    row: &[u16],
-    m: Member,
-    behind: &mut [u16],
-) -> usize
+pub fn ports_behind(table: &[u8], s: Shape, row: &[u16], m: Member, behind: &mut [u16]) -> usize
     requires { ⌜ Readable (now table) s × (s .bridges ≤ length (now row)) × (64 ≤ length (now behind)) ⌝ }
     ensures { λ r. ⌜ Appended (now (behind .entry)) 0 (portsBehind (wordsOf (now (table .entry))) s (now (row .entry)) (memberValues m)) (now (behind .exit)) r ⌝ }
 {

@@ -58,13 +58,7 @@ pub fn list_over_lists(
 }
 
 // The same of a table that passed the check.
-fn list_of_table(
-    table: &[u8],
-    s: Shape,
-    links: &[u32],
-    b: usize,
-    words: &mut [u32],
-) -> usize
+fn list_of_table(table: &[u8], s: Shape, links: &[u32], b: usize, words: &mut [u32]) -> usize
     requires { ⌜ Checked (now table) (now links) s × (b < s .bridges) × (14931 ≤ length (now words)) ⌝ }
     ensures { λ r. ⌜ Appended (now (words .entry)) 0 (entryListOf (planAt (wordsOf (now (table .entry))) s) b) (now (words .exit)) r ⌝ }
 {
@@ -123,7 +117,9 @@ fn fitted(words: &[u32], list: &mut [u32]) -> EntriesAnswer
         };
     }
     copy(words, list);
-    EntriesAnswer::Written { words: words.len() as u32 }
+    EntriesAnswer::Written {
+        words: words.len() as u32,
+    }
 }
 
 // "Entries (bridge): into a lent list of words; the words written", of a table that passed the check.

@@ -25,7 +25,9 @@ fn group_address(source: u32, isid: u32) -> u64
     requires { ⌜ (source < 1048576) × (isid < 16777216) ⌝ }
     ensures { λ r. ⌜ r ≡ groupAddress source isid ⌝ }
 {
-    (source as u64 / 65536 * 16 + 3) * 1099511627776 + source as u64 % 65536 * 16777216 + isid as u64
+    (source as u64 / 65536 * 16 + 3) * 1099511627776
+        + source as u64 % 65536 * 16777216
+        + isid as u64
 }
 
 // Writes the group entries for the transmitter `m`.

@@ -13,7 +13,14 @@ pub fn wide(port: u16) -> u32
 }
 
 // "An entry is 3 words": writes them from the place `at` on, and gives the place after them.
-pub fn write_entry(words: &mut [u32], at: usize, kind: u32, vid: u32, port: u32, address: u64) -> usize
+pub fn write_entry(
+    words: &mut [u32],
+    at: usize,
+    kind: u32,
+    vid: u32,
+    port: u32,
+    address: u64,
+) -> usize
     requires { ⌜ (at + 3 ≤ length (now words)) × (kind < 16) × (vid < 4096) × (port < 65536) ⌝ }
     ensures { λ r. ⌜ Appended (now (words .entry)) at (entryWords (entryWith kind vid port address)) (now (words .exit)) r ⌝ }
 {

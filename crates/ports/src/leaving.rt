@@ -25,14 +25,7 @@ fn leaving_port(labels: &[u32], hops: &[u16], b: u32, d: usize) -> u16
 }
 
 // The row of these ports for the first `n` bridges, written from the place `at` on.
-pub fn leaving_row(
-    labels: &[u32],
-    hops: &[u16],
-    b: u32,
-    n: usize,
-    rows: &mut [u16],
-    at: usize,
-)
+pub fn leaving_row(labels: &[u32], hops: &[u16], b: u32, n: usize, rows: &mut [u16], at: usize)
     requires { ⌜ Walkable (now labels) n × (320 ≤ length (now labels)) × (64 ≤ length (now hops)) × (at + n ≤ length (now rows)) ⌝ }
     ensures { λ _. ⌜ Appended (now (rows .entry)) at (rowBy (now (labels .entry)) (now (hops .entry)) b n) (now (rows .exit)) (at + n) ⌝ }
 {
