@@ -1,7 +1,4 @@
--- Words appended to lent lists, the words of a bridge's entries by the ports of rows, and the laws that lead to the definitions.
-pub mod Words
-pub mod Listing
-pub mod Receivers
+-- From the rows of a plan to the words of the definitions, and the entries of a table that passed the check.
 pub mod PlanWords
 pub mod Needed
 pub mod Parts

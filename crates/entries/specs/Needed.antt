@@ -23,7 +23,7 @@ use Rattle.table.specs.PositionLaws.{how-many, record-in}
 use Rattle.network.specs.PlanLists.{ListsOf, Listed, indexOf}
 use Rattle.ports.specs.Leaving.{PlanHops, LeavingRow}
 use Rattle.ports.specs.Rows.{slotOf, rowAt, HasRow, RowOf, RowsHeld, Kept, kept-all, kept-both, plan-row}
-use Rattle.entries.specs.Words.{Readable, vidNumber, memberNumber}
+use Rattle.words.specs.Words.{Readable, vidNumber, memberNumber}
 use Rattle.entries.specs.PlanWords.{bridges-are}
 
 -- The lists over which the entries of the bridge `b` are made: those of the table's plan, and the ports of the bridge's hops.

@@ -22,7 +22,7 @@ use Rattle.table.specs.Positions.{recordsAt, planAt}
 use Rattle.table.specs.WordLaws.{part-from}
 use Rattle.ports.specs.PlanPorts.{PlanPorts}
 use Rattle.ports.specs.Rows.{rowAt}
-use Rattle.entries.specs.Words.{Readable, bridgeNumber, vidNumber, memberNumber, individualWords, portsBehind, groupWords}
+use Rattle.words.specs.Words.{Readable, bridgeNumber, vidNumber, memberNumber, individualWords, portsBehind, groupWords}
 use Rattle.entries.specs.PlanWords.{vidWords, memberWords, bridges-are, bridge-is, individual-words, group-words}
 use Rattle.entries.specs.Needed.{RowsInside, RowsReady, vid-fits, member-fits}
 

@@ -31,7 +31,7 @@ use Rattle.table.specs.Positions.{vidsFrom, membersFrom, recordsAt, planAt}
 use Rattle.table.specs.PositionLaws.{how-many, record-at, record-in}
 use Rattle.ports.specs.Leaving.{numberOf, portOn, LeavingRow}
 use Rattle.ports.specs.PlanPorts.{PlanPorts}
-use Rattle.entries.specs.Words.{Readable, bridgeNumber, vidNumber, memberNumber, entryWith, individualTo, individualWords, behindAt, portsBehind, groupAt, groupWords}
+use Rattle.words.specs.Words.{Readable, bridgeNumber, vidNumber, memberNumber, entryWith, individualTo, individualWords, behindAt, portsBehind, groupAt, groupWords}
 
 -- The words of a VID's part of a bridge's list, and of the group entries for one transmitter.
 abbrev pub vidWords : Plan → ℕ → Vid → List ℕ

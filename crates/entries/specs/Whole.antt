@@ -24,7 +24,7 @@ use Rattle.network.specs.PlanListLaws.{lists-of-table}
 use Rattle.ports.specs.Hops.{HopLists, HopPorts, InRange, RisingPorts}
 use Rattle.ports.specs.Leaving.{PlanHops}
 use Rattle.ports.specs.PlanPorts.{PlanPorts, hop-lists, plan-hops, hops-in-range, plan-ports}
-use Rattle.entries.specs.Words.{Readable}
+use Rattle.words.specs.Words.{Readable}
 use Rattle.entries.specs.PlanWords.{bridges-are}
 use Rattle.entries.specs.Needed.{Lists, RowsReady, few-bridges}
 use Rattle.entries.specs.Parts.{wholeList, whole-is, front-is}

@@ -1,8 +1,4 @@
-// Filtering entries of a bridge (01, "Entries"): their words, in lent lists.
-pub mod group;
-pub mod individual;
+// Filtering entries of a bridge (01, "Entries"): the rows that they need, the parts of its list, and the list of a table.
 pub mod list;
 pub mod needed;
 pub mod parts;
-pub mod records;
-pub mod words;

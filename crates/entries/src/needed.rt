@@ -1,14 +1,14 @@
 // The rows that the entries of a bridge need: one tree for each different ECT index and bridge among the bridge itself and the
 // transmitting members.
-use crate::records::member;
-use crate::records::vid;
 use network::records::index_of;
 use ports::rows::keep_row;
 use table::shape::Shape;
+use words::records::member;
+use words::records::vid;
 ghost use Prim.Native.Nat.{_+_, _≤_, _<_};
 ghost use Rattle.rule.specs.Words.{wordsOf};
 ghost use Rattle.ports.specs.Rows.{HasRow, RowsHeld, Kept};
-ghost use Rattle.entries.specs.Words.{vidNumber};
+ghost use Rattle.words.specs.Words.{vidNumber};
 ghost use Rattle.entries.specs.Needed.{Lists, TransmitterRow, OwnRows, MemberRows, RowsReady};
 
 // Keeps the row of the bridge's own paths for the VID number `k`.

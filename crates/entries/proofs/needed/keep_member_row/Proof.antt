@@ -15,7 +15,7 @@ use Rattle.entries.specs.Needed.{listed, row-of, transmitter-has, silent
 use borrow.Author.Needs.{needs}
 use Rattle.entries.proofs.needed.keep_member_row.Statement.{statement}
 use Rattle.entries.proofs.needed.keep_member_row.Tie as tie
-use Rattle.entries.proofs.records.member.Reads as member-reads
+use Rattle.words.proofs.records.member.Reads as member-reads
 use Rattle.network.proofs.records.index_of.Reads as index-of-reads
 use Rattle.ports.proofs.rows.keep_row.Reads as keep-row-reads
 

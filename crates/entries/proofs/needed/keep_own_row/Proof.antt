@@ -6,7 +6,7 @@ use Rattle.entries.specs.Needed.{listed, vid-fits, row-of}
 use borrow.Author.Needs.{needs}
 use Rattle.entries.proofs.needed.keep_own_row.Statement.{statement}
 use Rattle.entries.proofs.needed.keep_own_row.Tie as tie
-use Rattle.entries.proofs.records.vid.Reads as vid-reads
+use Rattle.words.proofs.records.vid.Reads as vid-reads
 use Rattle.ports.proofs.rows.keep_row.Reads as keep-row-reads
 
 vid-requires : tie.Need-vid-requires

@@ -6,15 +6,15 @@ use Rattle.rule.specs.Words.{wordsOf}
 use Rattle.rule.specs.Records.{Bridge}
 use Rattle.table.specs.Readers.{vidValues, memberValues, bridgeValues}
 use Rattle.entries.specs.Needed.{few-bridges}
-use Rattle.entries.specs.Receivers.{behind-few}
+use Rattle.words.specs.Receivers.{behind-few}
 use Rattle.entries.specs.Parts.{source-fits, row-lent, transmitter-room, transmitter-written}
 use borrow.Author.Needs.{needs}
 use Rattle.entries.proofs.parts.transmitter_words.Statement.{statement}
 use Rattle.entries.proofs.parts.transmitter_words.Tie as tie
-use Rattle.entries.proofs.group.group_words.Reads as group-words-reads
-use Rattle.entries.proofs.group.ports_behind.Reads as ports-behind-reads
+use Rattle.words.proofs.group.group_words.Reads as group-words-reads
+use Rattle.words.proofs.group.ports_behind.Reads as ports-behind-reads
 use Rattle.entries.proofs.parts.group_address.Reads as group-address-reads
-use Rattle.entries.proofs.records.bridge.Reads as bridge-reads
+use Rattle.words.proofs.records.bridge.Reads as bridge-reads
 use Rattle.ports.proofs.rows.row_at.Reads as row-at-reads
 
 cast-bridge : tie.Need-cast-bridge

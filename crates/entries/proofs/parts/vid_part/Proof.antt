@@ -9,9 +9,9 @@ use Rattle.entries.specs.Parts.{row-lent, row-place-inside, first-room, 
 use borrow.Author.Needs.{needs}
 use Rattle.entries.proofs.parts.vid_part.Statement.{statement}
 use Rattle.entries.proofs.parts.vid_part.Tie as tie
-use Rattle.entries.proofs.individual.individual_words.Reads as individual-words-reads
+use Rattle.words.proofs.individual.individual_words.Reads as individual-words-reads
 use Rattle.entries.proofs.parts.group_part.Reads as group-part-reads
-use Rattle.entries.proofs.records.vid.Reads as vid-reads
+use Rattle.words.proofs.records.vid.Reads as vid-reads
 use Rattle.ports.proofs.rows.row_at.Reads as row-at-reads
 
 vid-requires : tie.Need-vid-requires
