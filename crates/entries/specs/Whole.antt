@@ -12,6 +12,7 @@ use Rattle.graph.specs.ListLaws.{flatMap-one, by-places}
 use Rattle.graph.specs.Appending.{Appended, Room, one-word, eachOf, Appending, appending-starts, appending-length, appending-room, appending-goes-on, appending-ends}
 use Rattle.rule.specs.Words.{wordsOf}
 use Rattle.rule.specs.Plan.{Plan, knownBridge}
+use Rattle.rule.specs.PlanLaws.{PlanLaws}
 use Rattle.rule.specs.Outcome.{Outcome, answered, refusedAs, Written, overwritten, lentTo}
 use Rattle.rule.specs.Entries.{entryListOf}
 use Rattle.rule.specs.ListBound.{few-words}
@@ -162,3 +163,10 @@ module _ {t links : List ℕ} {s : Shape} (C : Checked t links s) (bridge : ℕ)
   pub answer-made : bridge < s .bridges → {lent written : List ℕ} {count : ℕ} → Appended lent 0 (entryListOf (planAt (wordsOf t) s) bridge) written count
       → listAnswer (take count written) ≡ planEntries (planAt (wordsOf t) s) bridge
   answer-made l A = ap listAnswer (front-is A) ∙ sym (has-bridge l)
+
+-- A caller who lends 14,931 words never gets 13.
+pub never-thirteen : (p : Plan) → PlanLaws p → (b : ℕ) → b < length (p .bridges) → (list : List ℕ) → 14931 ≤ length list
+    → lentTo list (planEntries p b) ≡ (answered (length (entryListOf p b)), overwritten (entryListOf p b) list)
+unfolding planEntries
+never-thirteen p L b known list l =
+    rw (lt-ltb b (length (p .bridges)) known, le-leb (length (entryListOf p b)) (length list) (omega (arith, few-words p L b known))) refl
