@@ -29,6 +29,19 @@ extern "C" {
  * The first faulty record counts, and of its faults the lowest. */
 uint32_t spb_check(const uint8_t *table, size_t len);
 
+/* Exported path cost gives 4,294,967,296 plus the number of a refusal. */
+#define SPB_REFUSED UINT64_C(4294967296)
+
+/* The cost of the chosen path between two bridges for a VID: the sum of its hops' costs, at most 1,056,964,482; 0 from a bridge to
+ * itself. Bridges are numbered from 0 in their order in the table. Where there is no cost to give, SPB_REFUSED plus
+ *
+ *    1 to 10  the number that spb_check gives for the table
+ *         11  the table lacks the VID or one of the bridges; no number above 65,535 names one
+ *         12  no path exists
+ *
+ * No list is lent, so 13 is never given. */
+uint64_t spb_path_cost(const uint8_t *table, size_t len, uint32_t vid, uint32_t from, uint32_t to);
+
 #ifdef __cplusplus
 }
 #endif

@@ -1,19 +1,19 @@
-// Measures Boost Graph's plain-cost tree on the networks of tables, and beside
-// it the exported check, when WITH_CHECK is defined, and path cost, when WITH_PATH is. All are
-// measured in turn within each round; the median of the rounds is printed.
+// Measures Boost Graph's plain-cost tree on the networks of tables, and beside it
+// the library: exported check, the path call, the tree call, and one tree over
+// lists that are made already. All are measured in turn within each round; the
+// median of the rounds is printed.
 #include <chrono>
 #include <cstdio>
 #include <functional>
 
+#include "../../include/spb.h"
 #include "table.hpp"
 
-#ifdef WITH_CHECK
-extern "C" std::uint32_t spb_check(const std::uint8_t *table, std::size_t len);
-#endif
-#ifdef WITH_PATH
-extern "C" std::uint64_t spb_path_cost(const std::uint8_t *table, std::size_t len, std::uint32_t vid, std::uint32_t from,
+// crates/measured
+extern "C" std::uint32_t measured_path(const std::uint8_t *table, std::size_t len, std::uint32_t vid, std::uint32_t from,
                                        std::uint32_t to);
-#endif
+extern "C" std::uint32_t measured_tree(const std::uint8_t *table, std::size_t len, std::uint32_t vid, std::uint32_t from);
+extern "C" std::uint32_t measured_trees(const std::uint8_t *table, std::size_t len, std::uint32_t count);
 
 namespace {
 
@@ -39,44 +39,57 @@ double median(std::vector<double> times) {
     return times[times.size() / 2];
 }
 
-void measure(const std::string &name, const Table &table) {
-    const Graph graph = graph_of(table);
-    Tree tree(table.bridges);
-    std::vector<std::function<void(std::size_t)>> calls;
-    calls.push_back([&](std::size_t root) {
-        tree.grow(graph, root);
-        sum += tree.costs[table.bridges - 1 - root];
-    });
-#ifdef WITH_CHECK
+// Microseconds for each of the calls, in the order of `columns`.
+struct Times {
+    double boost, check, path, tree, inner;
+};
+
+// One tree over lists that are made already: the trees of all bridges without
+// the check and the lists, which a call for no tree makes too.
+double time_inner_tree(const std::uint8_t *bytes, std::size_t length, std::size_t bridges) {
+    const double all = time_calls(1, [=](std::size_t) { sum += measured_trees(bytes, length, std::uint32_t(bridges)); });
+    const double none = time_calls(1, [=](std::size_t) { sum += measured_trees(bytes, length, 0); });
+    return (all - none) / double(bridges);
+}
+
+Times time_round(const Table &table, const Graph &graph, Tree &grown) {
     const std::uint8_t *bytes = table.bytes.data();
     const std::size_t length = table.bytes.size();
-    calls.push_back([=](std::size_t) { sum += spb_check(bytes, length); });
-#endif
-#ifdef WITH_PATH
     const std::uint32_t vid = table.vids.at(0);
     const std::uint32_t last = std::uint32_t(table.bridges - 1);
-    calls.push_back([=](std::size_t from) {
-        sum += spb_path_cost(bytes, length, vid, std::uint32_t(from), last - std::uint32_t(from));
+    Times times;
+    times.boost = time_calls(table.bridges, [&](std::size_t root) {
+        grown.grow(graph, root);
+        sum += grown.costs[table.bridges - 1 - root];
     });
-#endif
-    std::vector<std::vector<double>> times(calls.size());
+    times.check = time_calls(table.bridges, [=](std::size_t) { sum += spb_check(bytes, length); });
+    times.path = time_calls(table.bridges, [=](std::size_t from) {
+        sum += measured_path(bytes, length, vid, std::uint32_t(from), last - std::uint32_t(from));
+    });
+    times.tree = time_calls(table.bridges, [=](std::size_t from) { sum += measured_tree(bytes, length, vid, std::uint32_t(from)); });
+    times.inner = time_inner_tree(bytes, length, table.bridges);
+    return times;
+}
+
+void measure(const std::string &name, const Table &table) {
+    const Graph graph = graph_of(table);
+    Tree grown(table.bridges);
+    std::vector<Times> all;
     for (int round = 0; round < rounds; round++) {
-        for (std::size_t place = 0; place < calls.size(); place++) {
-            times[place].push_back(time_calls(table.bridges, calls[place]));
+        all.push_back(time_round(table, graph, grown));
+    }
+    const auto median_of = [&](double Times::*column) {
+        std::vector<double> times;
+        for (const Times &one : all) {
+            times.push_back(one.*column);
         }
-    }
-    const double boost = median(times[0]);
+        return median(times);
+    };
+    const double boost = median_of(&Times::boost);
     std::printf("%-24s %8zu %10zu %10.2f", name.c_str(), table.bridges, table.hops.size() / 2, boost);
-#ifdef WITH_CHECK
-    const double check = median(times[1]);
-    std::printf(" %10.2f %7.2f", check, check / boost);
-#endif
-#ifdef WITH_PATH
-    const double path = median(times[2]);
-    for (const double time : {path, path - check}) {
-        std::printf(" %10.2f %7.2f", time, time / boost);
+    for (double Times::*column : {&Times::inner, &Times::check, &Times::path, &Times::tree}) {
+        std::printf(" %10.2f %7.2f", median_of(column), median_of(column) / boost);
     }
-#endif
     std::printf("\n");
 }
 
@@ -84,12 +97,9 @@ void measure(const std::string &name, const Table &table) {
 
 int main(int count, char **files) {
     std::printf("%-24s %8s %10s %10s", "shape", "bridges", "joined", "Boost us");
-#ifdef WITH_CHECK
-    std::printf(" %10s %7s", "check us", "ratio");
-#endif
-#ifdef WITH_PATH
-    std::printf(" %10s %7s %10s %7s", "path us", "ratio", "less chk", "ratio");
-#endif
+    for (const char *column : {"inner tree", "check us", "path us", "tree us"}) {
+        std::printf(" %10s %7s", column, "ratio");
+    }
     std::printf("\n");
     for (int place = 1; place < count; place++) {
         std::ifstream input(files[place], std::ios::binary);

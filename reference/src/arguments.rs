@@ -4,6 +4,8 @@
 use std::collections::{BTreeMap, BTreeSet};
 use std::process::exit;
 
+use crate::rules::{Misreading, Rules};
+
 /// What a runner takes.
 pub struct Usage {
     pub text: &'static str,
@@ -54,6 +56,15 @@ impl Arguments {
     pub fn number(&self, name: &str, otherwise: u64) -> u64 {
         self.text(name).map_or(otherwise, |value| {
             value.parse().unwrap_or_else(|_| self.refuse(&format!("--{name}: '{value}' is no number")))
+        })
+    }
+
+    /// The rules as written, or with the misreading that `--misread` names.
+    pub fn rules(&self) -> Rules {
+        self.text("misread").map_or(Rules::AS_WRITTEN, |name| {
+            let named = Misreading::ALL.iter().find(|misreading| format!("{misreading:?}") == name);
+            let unknown = || self.refuse(&format!("--misread: no misreading '{name}'"));
+            Rules::with(*named.unwrap_or_else(unknown))
         })
     }
 

@@ -7,6 +7,7 @@
 
 pub mod arguments;
 pub mod check;
+pub mod check_line;
 pub mod checked;
 pub mod comparing;
 pub mod entries;

@@ -6,7 +6,7 @@ use mathlib.Core.Path.{_≡_, refl, sym, ap, _∙_}
 use mathlib.Core.List.{List, [], _∷_, _++_, flatMap, append-nil, append-assoc}
 use lib.ListN.{length, set, length-append}
 use Rattle.graph.specs.Lists.{rising, spliced}
-use Rattle.graph.specs.Splices.{length-spliced, spliced-nothing, spliced-next, spliced-more}
+use Rattle.graph.specs.Splices.{length-spliced, spliced-nothing, spliced-next, spliced-twice}
 
 -- From the place `at` on the list `lent` got the words of `part`, and nothing else changed; `end` is the place after them.
 pub record Appended (lent : List ℕ) (at : ℕ) (part written : List ℕ) (end : ℕ) : Type 0 where
@@ -30,7 +30,7 @@ appended-both {lent} {part} {written} {more} {last} {at} {end} A B r = record {
       B .words-are
       ∙ ap (λ (t : List ℕ). spliced t end more) (A .words-are)
       ∙ ap (λ (k : ℕ). spliced (spliced lent at part) k more) (A .end-is)
-      ∙ spliced-more lent at part more r;
+      ∙ spliced-twice lent at part more r;
   end-is = omega (arith, A .end-is, B .end-is, length-append part more);
 }
 

@@ -5,7 +5,7 @@ use native.Mathlib.Omega.{arith}
 use mathlib.Core.Path.{_≡_, refl, sym, ap, _∙_, subst}
 use mathlib.Core.List.{List, [], _∷_, _++_, append-assoc}
 use lib.ListN.{length, getD, take, drop, set, length-append, length-take, length-drop, take-append-drop}
-use lib.Seq.{length-take-le, take-append-le, drop-append-le, drop-append-add, take-append-seam, drop-drop, drop-at, set-at, getD-take, getD-drop}
+use lib.Seq.{length-take-le, take-suc, take-append-le, drop-append-le, drop-append-add, take-append-seam, drop-drop, drop-at, take-at, set-at, getD-take, getD-drop}
 use Rattle.graph.specs.Lists.{spliced}
 use Rattle.graph.specs.ListLaws.{drop-next}
 
@@ -89,21 +89,27 @@ module _ {A : Type 0} (xs : List A) (at : ℕ) where
       ∙ sym (getD-take (length part) (drop at (spliced xs at part)) j d h)
       ∙ ap (λ (t : List A). getD t j d) (spliced-part part l)
 
-  -- A second part written right after the first: both are one part.
-  pub spliced-more : (part more : List A) → at + length part ≤ length xs
-      → spliced (spliced xs at part) (at + length part) more ≡ spliced xs at (part ++ more)
-  spliced-more part more h =
-      ap (λ (t : List A). t ++ (more ++ drop (at + length part + length more) (spliced xs at part))) front
+  -- A part written right after another: both are written.
+  pub spliced-twice :
+      (part more : List A) → at + length part ≤ length xs →
+      spliced (spliced xs at part) (at + length part) more ≡ spliced xs at (part ++ more)
+  spliced-twice part more h =
+      ap (λ (t : List A). t ++ (more ++ drop (at + length part + length more) (spliced xs at part)))
+      (ap (λ (t : List A). take (at + length part) t) (by-front part)
+      ∙ take-at (take at xs ++ part) (drop (at + length part) xs) (at + length part) (length-front part (omega arith)))
       ∙ ap (λ (t : List A). (take at xs ++ part) ++ (more ++ t)) (after-spliced part (at + length part + length more) (omega arith) (omega arith))
       ∙ append-assoc (take at xs) part (more ++ drop (at + length part + length more) xs)
       ∙ ap (λ (t : List A). take at xs ++ t) (sym (append-assoc part more (drop (at + length part + length more) xs)))
-      ∙ ap (λ (k : ℕ). take at xs ++ ((part ++ more) ++ drop k xs)) both-lengths
+      ∙ ap (λ (k : ℕ). take at xs ++ ((part ++ more) ++ drop k xs)) after
     where
-      both-lengths : at + length part + length more ≡ at + length (part ++ more)
-      both-lengths = omega (arith, length-append part more)
+      after : at + length part + length more ≡ at + length (part ++ more)
+      after = omega (arith, length-append part more)
 
-      front : take (at + length part) (spliced xs at part) ≡ take at xs ++ part
-      front =
-          ap (λ (t : List A). take (at + length part) t) (by-front part)
-          ∙ ap (λ (k : ℕ). take k ((take at xs ++ part) ++ drop (at + length part) xs)) (sym (length-front part (omega arith)))
-          ∙ take-append-seam (take at xs ++ part) (drop (at + length part) xs)
+  -- One more place written before a part.
+  pub spliced-before : (part : List A) (a : A) (j : ℕ) → at ≡ j + 1 → at ≤ length xs → set (spliced xs at part) j a ≡ spliced xs j (a ∷ part)
+  spliced-before part a j e h =
+      ap (λ (t : List A). set (t ++ (part ++ drop (at + length part) xs)) j a)
+      (ap (λ (k : ℕ). take k xs) (let z : at ≡ suc j = omega arith in z) ∙ take-suc xs j a (omega arith))
+      ∙ ap (λ (t : List A). set t j a) (append-assoc (take j xs) (getD xs j a ∷ []) (part ++ drop (at + length part) xs))
+      ∙ set-at (take j xs) (getD xs j a) (part ++ drop (at + length part) xs) a j (length-take-le j xs (omega arith))
+      ∙ ap (λ (k : ℕ). take j xs ++ (a ∷ (part ++ drop k xs))) (let z : at + length part ≡ j + suc (length part) = omega arith in z)

@@ -11,7 +11,7 @@ use Rattle.rule.specs.Links.{mates, combinedMetric, usableMetric}
 use Rattle.rule.specs.PlanLaws.{PlanLaws}
 use Rattle.table.specs.declared.shape.Shape.{Shape}
 use Rattle.table.specs.Positions.{recordAt, halfLinksFrom, wordsRead, planAt}
-use Rattle.verdict.specs.HalfLinks.{numberKey, Keyed}
+use Rattle.faults.specs.HalfLinks.{numberKey, Keyed}
 
 abbrev pub halfLinkAt : List ℕ → Shape → ℕ → HalfLink
 halfLinkAt ws s i = recordAt halfLinkOf 3 (halfLinksFrom s) ws i

@@ -12,7 +12,7 @@ ghost use Rattle.table.specs.Positions.{planAt};
 ghost use Rattle.links.specs.Mates.{Checked};
 ghost use Rattle.network.specs.PlanLists.{Listed, PlanTree, TreeOfLists};
 
-// The tree for an ECT index and a root, over the lists of a plan.
+// The tree for an ECT index and a root, over the lists of a plan. The rows are lent too, so that a caller of many trees makes them once.
 pub fn tree_over_lists(
     starts: &[u32],
     neighbours: &[u32],
@@ -20,18 +20,18 @@ pub fn tree_over_lists(
     identifiers: &[u64],
     index: u32,
     labels: &mut [u32],
+    rows: &mut [u64],
     n: usize,
     root: usize,
 )
     requires { ⌜ Listed n (now starts) (now neighbours) (now costs) (now identifiers) × (length (now identifiers) ≤ 64) ⌝ }
-    requires { ⌜ (1 ≤ index) × (index ≤ 16) × (root < n) × (320 ≤ length (now labels)) ⌝ }
+    requires { ⌜ (1 ≤ index) × (index ≤ 16) × (root < n) × (320 ≤ length (now labels)) × (4096 ≤ length (now rows)) ⌝ }
     ensures { λ _. ⌜ TreeOfLists n (now (starts .entry)) (now (neighbours .entry)) (now (costs .entry)) (now (identifiers .entry)) index root (now (labels .exit)) ⌝ }
 {
     let mut keys = [0u64; 64];
-    let mut rows = [0u64; 4096];
     let mask = mask_of(index);
     write_keys(identifiers, mask, &mut keys);
-    tree(starts, neighbours, costs, &keys, labels, &mut rows, n, root);
+    tree(starts, neighbours, costs, &keys, labels, rows, n, root);
 }
 
 // The tree for an ECT index and a root of a table that passed the check.
@@ -52,6 +52,7 @@ pub fn tree_of_table(
     let mut costs = [0u32; 512];
     let mut ports = [0u32; 512];
     let mut identifiers = [0u64; 64];
+    let mut rows = [0u64; 4096];
     neighbours_of(
         table,
         s,
@@ -70,6 +71,7 @@ pub fn tree_of_table(
         &identifiers,
         index,
         labels,
+        &mut rows,
         s.bridges,
         root,
     );

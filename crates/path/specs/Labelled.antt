@@ -74,7 +74,7 @@ module _ (g : Graph) (L : GraphLaws g) (key : ℕ → ℕ) (K : KeyLaws g key) (
 
 module _ (p : Plan) (L : PlanLaws p) (index root : ℕ) (labels : List ℕ) (T : PlanTree p index root labels) (u : ℕ) (h : u < length (p .bridges)) where
   -- No path costs as much as what stands for no cost.
-  path-cheaper : (q : List ℕ) → Chosen (graphOf p) (keyOf p index) u root q → (cost (graphOf p) q < noCost) × (hops q < 64)
+  pub path-cheaper : (q : List ℕ) → Chosen (graphOf p) (keyOf p index) u root q → (cost (graphOf p) q < noCost) × (hops q < 64)
   path-cheaper q P = go (chosen-first (graphOf p) (keyOf p index) u root q P .0) (chosen-first (graphOf p) (keyOf p index) u root q P .1)
     where
       go : (t : List ℕ) → q ≡ u ∷ t → (cost (graphOf p) q < noCost) × (hops q < 64)
@@ -111,6 +111,14 @@ module _ (p : Plan) (L : PlanLaws p) (index root : ℕ) (labels : List ℕ) (T :
             words = (ap (λ (k : ℕ). followed labels u (k + 1)) s ∙ f) i;
           })
 
+  pub cost-fits : labelAt labels u .far ≤ noCost
+  cost-fits = go (chosen (graphOf p) (keyOf p index) u root) refl (T .each u h)
+    where
+      go : (o : Option (List ℕ)) → chosen (graphOf p) (keyOf p index) u root ≡ o → SaysPath (graphOf p) o (labelAt labels u)
+          → labelAt labels u .far ≤ noCost
+      go none e f = omega (arith, f)
+      go (some q) e (c, s, n, f) = omega (arith, path-cheaper q (chosen-says q e) .0)
+
   pub tree-followable : Followable labels u
   tree-followable = record {
     place = omega (arith, L .bridges .few);
@@ -129,18 +137,18 @@ module _ (p : Plan) (L : PlanLaws p) (index root : ℕ) (labels : List ℕ) (T :
 
 -- The answer with the lent list's later contents, by what the label says. "13. The lent list is shorter than the answer."
 module _ (labels : List ℕ) (u : ℕ) (old : List ℕ) where
-  pub no-path-labelled : labelAt labels u .far ≡ noCost
-      → _≡_ {A = Outcome CostAndHops × List ℕ} (refusedAs 12, old) (lentTo old (labelledPath labels u))
-  no-path-labelled e = rw (eq-eqb (labelAt labels u .far) noCost e) refl
+  pub no-path-labelled : (o : Outcome CostAndHops) → o ≡ refusedAs 12 → labelAt labels u .far ≡ noCost
+      → _≡_ {A = Outcome CostAndHops × List ℕ} (o, old) (lentTo old (labelledPath labels u))
+  no-path-labelled o f e = rw (f, eq-eqb (labelAt labels u .far) noCost e) refl
 
   module _ (d : labelAt labels u .far ≡ noCost → ⊥) where
     bridges-labelled : length (followed labels u (labelAt labels u .steps + 1)) ≡ labelAt labels u .steps + 1
     bridges-labelled = followed-length labels u (labelAt labels u .steps + 1)
 
-    pub list-too-short : length old < labelAt labels u .steps + 1
-        → _≡_ {A = Outcome CostAndHops × List ℕ} (refusedAs 13, old) (lentTo old (labelledPath labels u))
-    list-too-short h =
-        rw (ne-eqb (labelAt labels u .far) noCost d, bridges-labelled, lt-leb (labelAt labels u .steps + 1) (length old) h) refl
+    pub list-too-short : (o : Outcome CostAndHops) → o ≡ refusedAs 13 → length old < labelAt labels u .steps + 1
+        → _≡_ {A = Outcome CostAndHops × List ℕ} (o, old) (lentTo old (labelledPath labels u))
+    list-too-short o f h =
+        rw (f, ne-eqb (labelAt labels u .far) noCost d, bridges-labelled, lt-leb (labelAt labels u .steps + 1) (length old) h) refl
 
     pub path-written : (new : List ℕ) → labelAt labels u .steps + 1 ≤ length old
         → new ≡ spliced old 0 (followed labels u (labelAt labels u .steps + 1))

@@ -2,4 +2,5 @@
 pub mod Followed
 pub mod Labelled
 pub mod Named
+pub mod Places
 pub mod PlanCalls

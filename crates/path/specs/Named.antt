@@ -1,5 +1,4 @@
--- What a call names: "11. The call names a bridge or VID that the table lacks." The index of the VID named, or 0; and what the calls
--- answer of a plan. Assumes nothing.
+-- What a call names: "11. The call names a bridge or VID that the table lacks." The index of the VID named, or 0. Assumes nothing.
 use Prim.Native.Nat.{ℕ, _≤_, _<_}
 use native.Mathlib.Omega.{arith}
 use mathlib.Core.Path.{_≡_, refl, sym, ap, _∙_}
@@ -14,21 +13,11 @@ use Rattle.graph.specs.Lists.{filter}
 use Rattle.graph.specs.Members.{In}
 use Rattle.graph.specs.ListLaws.{filter-in}
 use Rattle.rule.specs.Records.{Vid}
-use Rattle.rule.specs.Outcome.{Outcome, answered, refusedAs, Written}
-use Rattle.rule.specs.Answers.{CostAndHops}
+use Rattle.rule.specs.Outcome.{Outcome, refusedAs}
 use Rattle.rule.specs.Plan.{Plan, knownBridge, hasVid, vidRecord}
 use Rattle.rule.specs.PlanLaws.{PlanLaws}
-use Rattle.rule.specs.Paths.{chosenPath}
-use Rattle.rule.specs.Calls.{named, pathFound, Place, treeOf}
+use Rattle.rule.specs.Calls.{named}
 use Rattle.network.specs.PlanLists.{PlanTree, indexOf}
-
--- What the path call answers of an accepted plan, whatever list is lent.
-unfoldable pub planPath : Plan → ℕ → ℕ → ℕ → Outcome (Written CostAndHops)
-planPath p vid a b = named (knownBridge p a && knownBridge p b) (vidRecord p vid) λ v. pathFound p (chosenPath p (v .index) a b)
-
--- What the tree call answers of it.
-unfoldable pub planPlaces : Plan → ℕ → ℕ → Outcome (List Place)
-planPlaces p vid a = named (knownBridge p a) (vidRecord p vid) λ v. answered (treeOf p (v .index) a)
 
 -- The ECT index of the VID, or 0 where the plan lacks the VID or one of the bridges.
 abbrev pub namedIndex : Plan → ℕ → ℕ → ℕ → ℕ

@@ -11,13 +11,14 @@ ghost use Prim.Native.Nat.{ℕ, _≤_};
 ghost use lib.ListN.{length};
 ghost use Rattle.graph.specs.Lists.{spliced};
 ghost use Rattle.rule.specs.Words.{wordsOf};
-ghost use Rattle.rule.specs.Outcome.{Outcome, lentTo};
+ghost use Rattle.rule.specs.Outcome.{Outcome, refusedAs, lentTo};
 ghost use Rattle.rule.specs.Answers.{CostAndHops, pathValues};
+ghost use Rattle.rule.specs.Calls.{planPath};
+ghost use Rattle.rule.specs.Exported.{costNumber};
 ghost use Rattle.table.specs.Positions.{planAt};
 ghost use Rattle.links.specs.Mates.{Checked};
 ghost use Rattle.path.specs.Followed.{followed, Inside};
 ghost use Rattle.path.specs.Labelled.{labelledPath, Followable};
-ghost use Rattle.path.specs.Named.{planPath};
 
 // Writes the bridge `from` and those that next hops lead to from it, `count` in all, to the front of a lent list.
 pub fn write_path(labels: &[u32], from: u32, count: usize, list: &mut [u32])
@@ -33,6 +34,17 @@ pub fn write_path(labels: &[u32], from: u32, count: usize, list: &mut [u32])
     }
 }
 
+// A refusal of the path call's own: no kind and the word 0.
+fn refused(number: u32) -> PathAnswer
+    ensures { λ r. ⌜ pathValues r ≡ refusedAs number ⌝ }
+{
+    PathAnswer::Refused {
+        number: number,
+        kind: RecordKind::None,
+        word: 0,
+    }
+}
+
 // The path that the labels have for the bridge `from`.
 pub fn labelled_path(labels: &[u32], from: u32, list: &mut [u32]) -> PathAnswer
     requires { ⌜ (320 ≤ length (now labels)) × Followable (now labels) from ⌝ }
@@ -41,20 +53,12 @@ pub fn labelled_path(labels: &[u32], from: u32, list: &mut [u32]) -> PathAnswer
     let place = from as usize;
     let cost = labels[64 + place];
     if cost == 4294967295 {
-        return PathAnswer::Refused {
-            number: 12,
-            kind: RecordKind::None,
-            word: 0,
-        };
+        return refused(12);
     }
     let hops = labels[128 + place];
     let count = hops as usize + 1;
     if list.len() < count {
-        return PathAnswer::Refused {
-            number: 13,
-            kind: RecordKind::None,
-            word: 0,
-        };
+        return refused(13);
     }
     write_path(labels, from, count, list);
     PathAnswer::Given {
@@ -79,11 +83,31 @@ pub fn path_in_table(
     let mut labels = [0u32; 320];
     let index = named_tree(table, s, links, vid, from, to, &mut labels);
     if index == 0 {
-        return PathAnswer::Refused {
-            number: 11,
-            kind: RecordKind::None,
-            word: 0,
-        };
+        return refused(11);
     }
     labelled_path(&labels, from, list)
+}
+
+// "Exported path cost gives the cost as a 64-bit number, or 4,294,967,296 plus the refusal number", of a table that passed the check.
+pub fn path_cost_in_table(
+    table: &[u8],
+    s: Shape,
+    links: &[u32],
+    vid: u32,
+    from: u32,
+    to: u32,
+) -> u64
+    requires { ⌜ Checked (now table) (now links) s ⌝ }
+    ensures { λ r. ⌜ r ≡ costNumber (planPath (planAt (wordsOf (now (table .entry))) s) vid from to) ⌝ }
+{
+    let mut labels = [0u32; 320];
+    let index = named_tree(table, s, links, vid, from, to, &mut labels);
+    if index == 0 {
+        return 4294967307;
+    }
+    let cost = labels[64 + from as usize];
+    if cost == 4294967295 {
+        return 4294967308;
+    }
+    cost as u64
 }

@@ -32,6 +32,7 @@ pub fn keep_row(
         return count;
     }
     let mut labels = [0u32; 320];
+    let mut path_ids = [0u64; 4096];
     tree_over_lists(
         starts,
         neighbours,
@@ -39,6 +40,7 @@ pub fn keep_row(
         identifiers,
         index,
         &mut labels,
+        &mut path_ids,
         n,
         a,
     );

@@ -47,11 +47,13 @@ abbrev pub pathFound : Plan → Option (List ℕ) → Outcome (Written CostAndHo
 pathFound p none = refusedAs 12
 pathFound p (some path) = answered (record { values = measured p path; words = path })
 
--- What the path call answers, whatever list is lent.
-unfoldable pub pathAnswer : List ℕ → ℕ → ℕ → ℕ → Outcome (Written CostAndHops)
-pathAnswer t vid a b =
-    andThen (verdict t) λ p.
+-- What the path call answers, whatever list is lent: of an accepted plan, and of a table.
+abbrev pub planPath : Plan → ℕ → ℕ → ℕ → Outcome (Written CostAndHops)
+planPath p vid a b =
     named (knownBridge p a && knownBridge p b) (vidRecord p vid) λ v. pathFound p (chosenPath p (v .index) a b)
+
+unfoldable pub pathAnswer : List ℕ → ℕ → ℕ → ℕ → Outcome (Written CostAndHops)
+pathAnswer t vid a b = andThen (verdict t) λ p. planPath p vid a b
 
 -- "Path (VID, from, to): bridges into a lent list; cost, hops."
 unfoldable pub pathOutcome : List ℕ → ℕ → ℕ → ℕ → List ℕ → Outcome CostAndHops × List ℕ
@@ -96,19 +98,24 @@ lentToThree costs hopCounts lasts (answered places) =
     )
     (refusedAs 13, costs, hopCounts, lasts)
 
+-- What the tree call answers of an accepted plan, whatever lists are lent.
+abbrev pub planPlaces : Plan → ℕ → ℕ → Outcome (List Place)
+planPlaces p vid a = named (knownBridge p a) (vidRecord p vid) λ v. answered (treeOf p (v .index) a)
+
 -- Tree (VID, from): for each bridge its place, into three lent lists. A house form: docs/DECISIONS.md.
 unfoldable pub treeOutcome : List ℕ → ℕ → ℕ → List ℕ → List ℕ → List ℕ → Outcome ℕ × List ℕ × List ℕ × List ℕ
 treeOutcome t vid a costs hopCounts lasts =
-    lentToThree costs hopCounts lasts
-    (andThen (verdict t) λ p. named (knownBridge p a) (vidRecord p vid) λ v. answered (treeOf p (v .index) a))
+    lentToThree costs hopCounts lasts (andThen (verdict t) λ p. planPlaces p vid a)
 
--- What the entries call answers, whatever list is lent: the number of words, and the words.
-unfoldable pub entriesAnswer : List ℕ → ℕ → Outcome (Written ℕ)
-entriesAnswer t b =
-    andThen (verdict t) λ p.
+-- What the entries call answers, whatever list is lent: the number of words, and the words; of an accepted plan, and of a table.
+abbrev pub planEntries : Plan → ℕ → Outcome (Written ℕ)
+planEntries p b =
     cond (knownBridge p b)
     (answered (record { values = length (entryListOf p b); words = entryListOf p b }))
     (refusedAs 11)
+
+unfoldable pub entriesAnswer : List ℕ → ℕ → Outcome (Written ℕ)
+entriesAnswer t b = andThen (verdict t) λ p. planEntries p b
 
 -- "Entries (bridge): into a lent list of words; the words written."
 unfoldable pub entriesOutcome : List ℕ → ℕ → List ℕ → Outcome ℕ × List ℕ

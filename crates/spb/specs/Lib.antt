@@ -1,3 +1,3 @@
--- What the calls and the exported functions give, from the verdict.
-pub mod CheckLaws
-pub mod ExportedLaws
+-- The answers of the calls, from the examination of the table.
+pub mod Examined
+pub mod CallLaws

@@ -1,8 +1,9 @@
 // The functions for the C screens, over numbers and byte slices (01, "Calls"). include/spb.h declares them.
+use path::path::path_cost_in_table;
 use verdict::examine::Examined;
 use verdict::examine::examine;
 ghost use mathlib.Core.Path.{_≡_};
-ghost use Rattle.rule.specs.Exported.{exportedCheck};
+ghost use Rattle.rule.specs.Exported.{exportedCheck, exportedPathCost};
 
 // "Exported check gives 0 or the refusal number."
 #[no_mangle]
@@ -18,5 +19,22 @@ pub extern "C" fn spb_check(table: &[u8]) -> u32
             kind: _,
             word: _,
         } => number,
+    }
+}
+
+// "Exported path cost gives the cost as a 64-bit number, or 4,294,967,296 plus the refusal number; it takes no list and never gives 13."
+#[no_mangle]
+pub extern "C" fn spb_path_cost(table: &[u8], vid: u32, from: u32, to: u32) -> u64
+    ensures { λ r. ⌜ r ≡ exportedPathCost (now (table .entry)) vid from to ⌝ }
+{
+    let mut links = [0u32; 1536];
+    let examined = examine(table, &mut links);
+    match examined {
+        Examined::Accepted(s) => path_cost_in_table(table, s, &links, vid, from, to),
+        Examined::Refused {
+            number,
+            kind: _,
+            word: _,
+        } => 4294967296 + number as u64,
     }
 }

@@ -1,3 +1,6 @@
-// The library's face: the calls, and the functions exported to C.
-pub mod calls;
+// The library's face: the calls of document 01 ("Calls"), each of which takes a table and examines it itself, and the functions exported
+// to C.
+pub mod check;
 pub mod exported;
+pub mod paths;
+pub mod trees;

@@ -19,8 +19,8 @@ use Rattle.index.specs.Index.{Indexed}
 use Rattle.table.specs.declared.shape.Shape.{Shape}
 use Rattle.table.specs.Positions.{halfLinksFrom, vidsFrom, membersFrom, wordsRead, planAt, readingAt}
 use Rattle.table.specs.PositionLaws.{no-records}
-use Rattle.verdict.specs.HalfLinks.{portKey, numberKey, Keyed}
-use Rattle.verdict.specs.HalfLinkLaws.{keyed-none}
+use Rattle.faults.specs.HalfLinks.{portKey, numberKey, Keyed}
+use Rattle.faults.specs.HalfLinkLaws.{keyed-none}
 use Rattle.verdict.specs.Steps.{stepValues, Indexes, Stepped, Kept}
 use Rattle.verdict.specs.declared.step.Step.{Step}
 use Rattle.verdict.specs.declared.examine.Examined.{Examined}

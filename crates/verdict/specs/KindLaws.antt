@@ -1,22 +1,22 @@
 -- The record after those read by its kind: its row of the table of record kinds, an unknown kind, or no record. Assumes nothing.
-use Prim.Native.Nat.{ℕ, zero, suc, _+_, _*_, _/_, _≤_, _<_}
+use Prim.Native.Nat.{ℕ, suc, _*_, _/_, _≤_, _<_}
 use native.Mathlib.Omega.{arith}
 use mathlib.Core.Path.{_≡_, refl, sym, ap, _∙_}
-use mathlib.Core.List.{List, [], _∷_}
-use mathlib.Core.Option.{Option, none, some}
+use mathlib.Core.List.{List, _∷_}
+use mathlib.Core.Option.{none, some}
 use lib.ListN.{length, getD, drop}
 use lib.Seq.{drop-cons, drop-length}
 use borrow.Author.Tests.{ne-eqb}
 use Rattle.graph.specs.Lists.{filter}
 use Rattle.rule.specs.declared.answer.RecordKind.{RecordKind}
-use Rattle.rule.specs.Words.{word, wordsOf, bits}
+use Rattle.rule.specs.Words.{word, wordsOf}
 use Rattle.rule.specs.Records.{Layout, layoutOf, bridgeLayout, halfLinkLayout, vidLayout, memberLayout, endLayout}
 use Rattle.rule.specs.Outcome.{refused}
 use Rattle.rule.specs.Check.{stops, readAs, readFrom, stepOf}
 use Rattle.table.specs.declared.shape.Shape.{Shape}
 use Rattle.table.specs.WordLaws.{count-of-words}
 use Rattle.table.specs.Positions.{wordsRead, readingAt}
-use Rattle.verdict.specs.Steps.{stepValues, Stepped, stepAs}
+use Rattle.verdict.specs.Steps.{Stepped, stepAs}
 use Rattle.verdict.specs.declared.step.Step.{Step}
 
 pub bridge-kind : layoutOf 1 ≡ some bridgeLayout

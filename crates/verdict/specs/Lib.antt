@@ -1,8 +1,4 @@
--- What the functions of the check compute, and the laws that link them to the verdict.
-pub mod HalfLinks
-pub mod HalfLinkLaws
-pub mod Faults
-pub mod FaultLaws
+-- What reading one record and examining a table come to, and the laws that link them to the verdict.
 pub mod Steps
 pub mod StepLaws
 pub mod KindLaws

@@ -4,7 +4,7 @@ use Prim.Native.Nat.{ℕ, zero, suc, _+_, _*_, _-_, _≤_, _<_}
 use native.Mathlib.Omega.{arith}
 use mathlib.Core.Path.{_≡_, refl, sym, ap, subst, _∙_}
 use mathlib.Core.List.{List, [], _∷_, _++_}
-use mathlib.Core.Option.{Option, none, some}
+use mathlib.Core.Option.{none, some}
 use mathlib.Core.Logic.{_⊎_, inl, inr}
 use mathlib.Core.Bool.{Bool, true, false, cond}
 use lib.Dec.{eqb, leb, ltb}
@@ -12,21 +12,21 @@ use lib.ListN.{length, drop, length-drop}
 use borrow.Author.Tests.{lt-ltb, le-ltb, ltb-false, leb-false}
 use Rattle.graph.specs.ListLaws.{is-false}
 use Rattle.rule.specs.declared.answer.RecordKind.{RecordKind}
-use Rattle.rule.specs.Records.{Bridge, HalfLink, Vid, Member, Record, bridge, halfLink, vid, member, end, bridgeOf, halfLinkOf, vidOf, memberOf, Layout, bridgeLayout, halfLinkLayout, vidLayout, memberLayout, endLayout}
+use Rattle.rule.specs.Records.{Bridge, HalfLink, Vid, Member, end, bridgeOf, halfLinkOf, vidOf, memberOf, Layout, bridgeLayout, halfLinkLayout, vidLayout, memberLayout, endLayout}
 use Rattle.rule.specs.Words.{wordsOf}
-use Rattle.rule.specs.Outcome.{answered, refused}
+use Rattle.rule.specs.Outcome.{refused}
 use Rattle.rule.specs.Answers.{kindNumber}
 use Rattle.rule.specs.Plan.{Plan, alike}
 use Rattle.rule.specs.Accepted.{NoFault, no-fault}
-use Rattle.rule.specs.Check.{faults, kindConcerned, goesOn, stops, judged, readAs, Step as check·Step}
+use Rattle.rule.specs.Check.{faults, kindConcerned, goesOn, stops, judged}
 use Rattle.table.specs.declared.shape.Shape.{Shape}
 use Rattle.table.specs.Positions.{recordAt, recordsAt, halfLinksFrom, vidsFrom, membersFrom, wordsRead, lastKind, planAt, readingAt}
 use Rattle.table.specs.WordLaws.{count-of-words}
 use Rattle.table.specs.PositionLaws.{how-many, one-more, none-anywhere}
-use Rattle.verdict.specs.Faults.{numbered, faultAt}
+use Rattle.faults.specs.Faults.{numbered, faultAt}
 use Rattle.index.specs.Index.{Entered}
-use Rattle.verdict.specs.HalfLinks.{portKey, numberKey}
-use Rattle.verdict.specs.HalfLinkLaws.{keyed-more, keyed-none}
+use Rattle.faults.specs.HalfLinks.{portKey, numberKey}
+use Rattle.faults.specs.HalfLinkLaws.{keyed-more, keyed-none}
 use Rattle.verdict.specs.Steps.{concerned, stepValues, Indexes, Stepped, stepAs, Stands, Still, Kept}
 use Rattle.verdict.specs.declared.step.Step.{Step}
 

@@ -2,7 +2,7 @@
 use Prim.Native.Nat.{ℕ, _≤_}
 use mathlib.Core.Path.{_≡_}
 use mathlib.Core.List.{List}
-use mathlib.Core.Option.{Option, some}
+use mathlib.Core.Option.{some}
 use mathlib.Core.Logic.{_⊎_}
 use mathlib.Core.Bool.{cond}
 use lib.Dec.{eqb}
@@ -14,7 +14,7 @@ use Rattle.rule.specs.Answers.{kindNumber}
 use Rattle.rule.specs.Check.{goesOn, stops, readAs, Step as check·Step}
 use Rattle.table.specs.declared.shape.Shape.{Shape}
 use Rattle.table.specs.Positions.{halfLinksFrom, wordsRead, planAt, readingAt}
-use Rattle.verdict.specs.HalfLinks.{portKey, numberKey, Keyed}
+use Rattle.faults.specs.HalfLinks.{portKey, numberKey, Keyed}
 use Rattle.verdict.specs.declared.step.Step.{Step}
 
 -- "for 2 kind is none".

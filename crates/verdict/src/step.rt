@@ -1,10 +1,10 @@
 // One record read: it is taken, or it ends the table, or it is refused with its lowest fault (01, "Refusals in checking order").
-use crate::faults::bridge_fault;
-use crate::faults::end_fault;
-use crate::faults::half_link_fault;
-use crate::faults::member_fault;
-use crate::faults::vid_fault;
-use crate::half_link::port_key;
+use faults::half_link::port_key;
+use faults::lowest::bridge_fault;
+use faults::lowest::end_fault;
+use faults::lowest::half_link_fault;
+use faults::lowest::member_fault;
+use faults::lowest::vid_fault;
 use index::entry::enter;
 use rule::answer::RecordKind;
 use table::half_link::half_link_at;

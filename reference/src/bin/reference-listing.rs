@@ -6,19 +6,13 @@ use std::io::{self, Read, Write};
 
 use reference::arguments::{Arguments, Usage};
 use reference::listing::listing;
-use reference::rules::{Misreading, Rules};
 
 const USAGE: Usage =
     Usage { text: "reference-listing [--misread NAME] < table", values: &["misread"], flags: &[] };
 
 fn main() -> io::Result<()> {
     let arguments = Arguments::of_process(&USAGE);
-    let rules = arguments.text("misread").map_or(Rules::AS_WRITTEN, |name| {
-        let named = Misreading::ALL.iter().find(|misreading| format!("{misreading:?}") == name);
-        let unknown = || arguments.refuse(&format!("--misread: no misreading '{name}'"));
-        Rules::with(*named.unwrap_or_else(unknown))
-    });
     let mut table = Vec::new();
     io::stdin().read_to_end(&mut table)?;
-    io::stdout().write_all(listing(rules, &table).as_bytes())
+    io::stdout().write_all(listing(arguments.rules(), &table).as_bytes())
 }

@@ -2,6 +2,7 @@
 
 pub mod damage;
 pub mod edits;
+pub mod every;
 pub mod shapes;
 pub mod stream;
 pub mod valid;

@@ -42,14 +42,17 @@ slice-aggregate-tree-over-lists-3 c = search needs
 slice-aggregate-tree-over-lists-4 : tie.Need-slice-aggregate-tree-over-lists-4
 slice-aggregate-tree-over-lists-4 c = search needs
 
+slice-aggregate-tree-over-lists-5 : tie.Need-slice-aggregate-tree-over-lists-5
+slice-aggregate-tree-over-lists-5 c = search needs
+
 tree-over-lists-requires : tie.Need-tree-over-lists-requires
-tree-over-lists-requires c κs = ((record { plan = _; lists = lists-of-table (c .before .before .before .before .before .before .before .before .before .before .before .before .before .before .before .before .before .before .before .before .before .before .pre .0) (c .before .before .before .before .before .before .before .before .before .before .before .before .before .neighbours-of .ensures) (c .before .before .before .before .before .before .write-identifiers .ensures) (omega (arith, few-bridges (c .before .before .before .before .before .before .before .before .before .before .before .before .before .before .before .before .before .before .before .before .before .before .pre .0))) (omega arith) (omega arith) (omega (arith, few-bridges (c .before .before .before .before .before .before .before .before .before .before .before .before .before .before .before .before .before .before .before .before .before .before .pre .0))) }, omega arith), ((c .before .before .before .before .before .before .before .before .before .before .before .before .before .before .before .before .before .before .before .before .before .before .pre .1), (c .before .before .before .before .before .before .before .before .before .before .before .before .before .before .before .before .before .before .before .before .before .before .pre .2), (c .before .before .before .before .before .before .before .before .before .before .before .before .before .before .before .before .before .before .before .before .before .before .pre .3), (c .before .before .before .before .before .before .before .before .before .before .before .before .before .before .before .before .before .before .before .before .before .before .pre .4)))
+tree-over-lists-requires c κs = ((record { plan = _; lists = lists-of-table (c .before .before .before .before .before .before .before .before .before .before .before .before .before .before .before .before .before .before .before .before .before .before .before .pre .0) (c .before .before .before .before .before .before .before .before .before .before .before .before .before .before .neighbours-of .ensures) (c .before .before .before .before .before .before .before .write-identifiers .ensures) (omega (arith, few-bridges (c .before .before .before .before .before .before .before .before .before .before .before .before .before .before .before .before .before .before .before .before .before .before .before .pre .0))) (omega arith) (omega arith) (omega (arith, few-bridges (c .before .before .before .before .before .before .before .before .before .before .before .before .before .before .before .before .before .before .before .before .before .before .before .pre .0))) }, omega arith), ((c .before .before .before .before .before .before .before .before .before .before .before .before .before .before .before .before .before .before .before .before .before .before .before .pre .1), (c .before .before .before .before .before .before .before .before .before .before .before .before .before .before .before .before .before .before .before .before .before .before .before .pre .2), (c .before .before .before .before .before .before .before .before .before .before .before .before .before .before .before .before .before .before .before .before .before .before .before .pre .3), (c .before .before .before .before .before .before .before .before .before .before .before .before .before .before .before .before .before .before .before .before .before .before .before .pre .4), omega arith))
 
 same-length : tie.Need-same-length
 same-length c = search needs
 
 returns : tie.Need-returns
-returns c = (c .before .before .tree-over-lists .ensures .of-plan) _ (lists-of-table (c .before .before .before .before .before .before .before .before .before .before .before .before .before .before .before .before .before .before .before .before .before .before .before .before .before .pre .0) (c .before .before .before .before .before .before .before .before .before .before .before .before .before .before .before .before .neighbours-of .ensures) (c .before .before .before .before .before .before .before .before .before .write-identifiers .ensures) (omega (arith, few-bridges (c .before .before .before .before .before .before .before .before .before .before .before .before .before .before .before .before .before .before .before .before .before .before .before .before .before .pre .0))) (omega arith) (omega arith) (omega (arith, few-bridges (c .before .before .before .before .before .before .before .before .before .before .before .before .before .before .before .before .before .before .before .before .before .before .before .before .before .pre .0))))
+returns c = (c .before .before .before .tree-over-lists .ensures .of-plan) _ (lists-of-table (c .before .before .before .before .before .before .before .before .before .before .before .before .before .before .before .before .before .before .before .before .before .before .before .before .before .before .before .pre .0) (c .before .before .before .before .before .before .before .before .before .before .before .before .before .before .before .before .before .before .neighbours-of .ensures) (c .before .before .before .before .before .before .before .before .before .before .before .write-identifiers .ensures) (omega (arith, few-bridges (c .before .before .before .before .before .before .before .before .before .before .before .before .before .before .before .before .before .before .before .before .before .before .before .before .before .before .before .pre .0))) (omega arith) (omega arith) (omega (arith, few-bridges (c .before .before .before .before .before .before .before .before .before .before .before .before .before .before .before .before .before .before .before .before .before .before .before .before .before .before .before .pre .0))))
 
 pub tree-of-table-spec : {M : Type 1} → statement M
 tree-of-table-spec =
@@ -67,6 +70,7 @@ tree-of-table-spec =
     slice-aggregate-tree-over-lists-2
     slice-aggregate-tree-over-lists-3
     slice-aggregate-tree-over-lists-4
+    slice-aggregate-tree-over-lists-5
     tree-over-lists-requires
     same-length
     returns)

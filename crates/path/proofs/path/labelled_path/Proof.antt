@@ -14,8 +14,11 @@ mul-cost c = search needs
 shared-slice-read-cost : tie.Need-shared-slice-read-cost
 shared-slice-read-cost c = search needs
 
+refused-requires : tie.Need-refused-requires
+refused-requires c κs = search needs
+
 returns : tie.Need-returns
-returns c = no-path-labelled (c .before .before .before .before .args .labels .now) (c .before .before .before .before .args .from) (c .before .before .before .before .args .list .now) (c .if1 .taken)
+returns c = no-path-labelled (c .before .before .before .before .before .args .labels .now) (c .before .before .before .before .before .args .from) (c .before .before .before .before .before .args .list .now) _ (c .refused .ensures) (c .before .if1 .taken)
 
 add-hops : tie.Need-add-hops
 add-hops c = search needs
@@ -32,8 +35,11 @@ cast-count c = omega (arith, (c .before .before .before .before .before .pre .1 
 add-count : tie.Need-add-count
 add-count c = omega (arith, (c .before .before .before .before .before .pre .1 .few) (c .before .if1 .left))
 
+refused-requires-2 : tie.Need-refused-requires-2
+refused-requires-2 c κs = search needs
+
 returns-2 : tie.Need-returns-2
-returns-2 c = list-too-short (c .before .before .before .before .before .before .args .labels .now) (c .before .before .before .before .before .before .args .from) (c .before .before .before .before .before .before .args .list .now) (c .before .before .if1 .left) (c .if2 .taken)
+returns-2 c = list-too-short (c .before .before .before .before .before .before .before .args .labels .now) (c .before .before .before .before .before .before .before .args .from) (c .before .before .before .before .before .before .before .args .list .now) (c .before .before .before .if1 .left) _ (c .refused2 .ensures) (c .before .if2 .taken)
 
 write-path-requires : tie.Need-write-path-requires
 write-path-requires c κs = ((c .before .before .before .before .before .before .before .pre .0), (c .before .before .before .before .before .before .before .pre .1 .inside) (c .before .before .before .if1 .left), omega (arith, (c .before .if2 .left)))
@@ -51,12 +57,14 @@ labelled-path-spec =
     add-cost
     mul-cost
     shared-slice-read-cost
+    refused-requires
     returns
     add-hops
     mul-hops
     shared-slice-read-hops
     cast-count
     add-count
+    refused-requires-2
     returns-2
     write-path-requires
     same-length

@@ -15,8 +15,11 @@ slice-aggregate-named-tree c = search needs
 named-tree-requires : tie.Need-named-tree-requires
 named-tree-requires c κs = search needs
 
+refused-requires : tie.Need-refused-requires
+refused-requires c κs = search needs
+
 returns : tie.Need-returns
-returns c = nothing-named (planAt (wordsOf (c .before .before .before .before .before .before .before .args .table .now)) (c .before .before .before .before .before .before .before .args .s)) (c .before .before .before .before .before .before .before .pre .laws) (c .before .before .before .before .before .before .before .args .vid) (c .before .before .before .before .before .before .before .args .from) (c .before .before .before .before .before .before .before .args .to) (c .before .before .named-tree .ensures) (c .before .before .before .before .before .before .before .args .list .now) (c .if1 .taken)
+returns c = nothing-named (planAt (wordsOf (c .before .before .before .before .before .before .before .before .args .table .now)) (c .before .before .before .before .before .before .before .before .args .s)) (c .before .before .before .before .before .before .before .before .pre .laws) (c .before .before .before .before .before .before .before .before .args .vid) (c .before .before .before .before .before .before .before .before .args .from) (c .before .before .before .before .before .before .before .before .args .to) (c .before .before .before .named-tree .ensures) _ (c .refused .ensures) (c .before .before .before .before .before .before .before .before .args .list .now) (c .before .if1 .taken)
 
 slice-aggregate-labelled-path : tie.Need-slice-aggregate-labelled-path
 slice-aggregate-labelled-path c = search needs
@@ -36,6 +39,7 @@ path-in-table-spec =
     (tie.spec
     slice-aggregate-named-tree
     named-tree-requires
+    refused-requires
     returns
     slice-aggregate-labelled-path
     labelled-path-requires

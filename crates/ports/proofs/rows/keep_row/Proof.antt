@@ -32,6 +32,9 @@ returns c = (((c .before .before .before .before .before .before .before .before
 slice-aggregate-tree-over-lists : tie.Need-slice-aggregate-tree-over-lists
 slice-aggregate-tree-over-lists c = search needs
 
+slice-aggregate-tree-over-lists-2 : tie.Need-slice-aggregate-tree-over-lists-2
+slice-aggregate-tree-over-lists-2 c = search needs
+
 tree-over-lists-requires : tie.Need-tree-over-lists-requires
 tree-over-lists-requires c κs = search needs
 
@@ -54,16 +57,16 @@ slice-aggregate-leaving-row : tie.Need-slice-aggregate-leaving-row
 slice-aggregate-leaving-row c = search needs
 
 leaving-row-requires : tie.Need-leaving-row-requires
-leaving-row-requires c κs = (tree-walkable ((c .before .before .before .before .before .before .before .before .before .before .before .before .before .pre .0 .0 .lists)) ((c .before .before .before .before .before .before .before .before .before .before .before .before .before .args .index)) ((c .before .before .before .before .before .before .before .before .before .before .before .before .before .args .a)) ((c .before .before .before .tree-over-lists .ensures .of-plan) ((c .before .before .before .before .before .before .before .before .before .before .before .before .before .pre .0 .0 .plan)) ((c .before .before .before .before .before .before .before .before .before .before .before .before .before .pre .0 .0 .lists))), search needs, (c .before .before .before .before .before .before .before .before .before .before .before .before .before .pre .0 .2), simp length-set (omega (arith, (c .before .before .before .before .before .before .before .before .before .before .before .before .before .pre .1 .4 .size), (c .before .before .before .before .before .before .before .before .before .before .before .before .before .pre .1 .3), (c .before .before .before .before .before .before .before .before .before .before .before .before .before .pre .0 .0 .lists .represents .most))))
+leaving-row-requires c κs = (tree-walkable ((c .before .before .before .before .before .before .before .before .before .before .before .before .before .before .before .pre .0 .0 .lists)) ((c .before .before .before .before .before .before .before .before .before .before .before .before .before .before .before .args .index)) ((c .before .before .before .before .before .before .before .before .before .before .before .before .before .before .before .args .a)) ((c .before .before .before .before .tree-over-lists .ensures .of-plan) ((c .before .before .before .before .before .before .before .before .before .before .before .before .before .before .before .pre .0 .0 .plan)) ((c .before .before .before .before .before .before .before .before .before .before .before .before .before .before .before .pre .0 .0 .lists))), search needs, (c .before .before .before .before .before .before .before .before .before .before .before .before .before .before .before .pre .0 .2), simp length-set (omega (arith, (c .before .before .before .before .before .before .before .before .before .before .before .before .before .before .before .pre .1 .4 .size), (c .before .before .before .before .before .before .before .before .before .before .before .before .before .before .before .pre .1 .3), (c .before .before .before .before .before .before .before .before .before .before .before .before .before .before .before .pre .0 .0 .lists .represents .most))))
 
 add-result : tie.Need-add-result
 add-result c = search needs
 
 same-length : tie.Need-same-length
-same-length c = rows-length ((c .before .before .before .before .before .before .before .before .before .before .before .before .before .before .before .before .pre .1 .4)) ((c .before .before .before .before .before .before .before .before .before .before .before .before .before .before .before .before .pre .0 .0 .lists .represents .most)) ((c .before .before .before .before .before .before .before .before .before .before .before .before .before .before .before .before .pre .1 .3)) ((c .before .before .before .before .before .before .before .before .before .before .before .before .before .before .before .before .args .index)) ((c .before .before .before .before .before .before .before .before .before .before .before .before .before .before .before .before .args .a)) ((c .before .before .before .before .before .before .before .before .before .before .before .before .before .before .before .before .pre .1 .0)) ((c .before .before .before .before .before .before .before .before .before .before .before .before .before .before .before .before .pre .1 .1)) ((c .before .before .before .before .before .before .before .before .before .before .before .before .before .before .before .before .pre .1 .2)) ((c .before .before .before .before .before .before .tree-over-lists .ensures)) _ _ ((c .before .before .leaving-row .ensures))
+same-length c = rows-length ((c .before .before .before .before .before .before .before .before .before .before .before .before .before .before .before .before .before .before .pre .1 .4)) ((c .before .before .before .before .before .before .before .before .before .before .before .before .before .before .before .before .before .before .pre .0 .0 .lists .represents .most)) ((c .before .before .before .before .before .before .before .before .before .before .before .before .before .before .before .before .before .before .pre .1 .3)) ((c .before .before .before .before .before .before .before .before .before .before .before .before .before .before .before .before .before .before .args .index)) ((c .before .before .before .before .before .before .before .before .before .before .before .before .before .before .before .before .before .before .args .a)) ((c .before .before .before .before .before .before .before .before .before .before .before .before .before .before .before .before .before .before .pre .1 .0)) ((c .before .before .before .before .before .before .before .before .before .before .before .before .before .before .before .before .before .before .pre .1 .1)) ((c .before .before .before .before .before .before .before .before .before .before .before .before .before .before .before .before .before .before .pre .1 .2)) ((c .before .before .before .before .before .before .before .tree-over-lists .ensures)) _ _ ((c .before .before .leaving-row .ensures))
 
 returns-2 : tie.Need-returns-2
-returns-2 c = (row-added ((c .before .before .before .before .before .before .before .before .before .before .before .before .before .before .before .before .pre .1 .4)) ((c .before .before .before .before .before .before .before .before .before .before .before .before .before .before .before .before .pre .0 .0 .lists .represents .most)) ((c .before .before .before .before .before .before .before .before .before .before .before .before .before .before .before .before .pre .1 .3)) ((c .before .before .before .before .before .before .before .before .before .before .before .before .before .before .before .before .args .index)) ((c .before .before .before .before .before .before .before .before .before .before .before .before .before .before .before .before .args .a)) ((c .before .before .before .before .before .before .before .before .before .before .before .before .before .before .before .before .pre .1 .0)) ((c .before .before .before .before .before .before .before .before .before .before .before .before .before .before .before .before .pre .1 .1)) ((c .before .before .before .before .before .before .before .before .before .before .before .before .before .before .before .before .pre .1 .2)) ((c .before .before .before .before .before .before .tree-over-lists .ensures)) _ _ ((c .before .before .leaving-row .ensures)), (row-kept ((c .before .before .before .before .before .before .before .before .before .before .before .before .before .before .before .before .pre .1 .4)) ((c .before .before .before .before .before .before .before .before .before .before .before .before .before .before .before .before .pre .0 .0 .lists .represents .most)) ((c .before .before .before .before .before .before .before .before .before .before .before .before .before .before .before .before .pre .1 .3)) ((c .before .before .before .before .before .before .before .before .before .before .before .before .before .before .before .before .args .index)) ((c .before .before .before .before .before .before .before .before .before .before .before .before .before .before .before .before .args .a)) ((c .before .before .before .before .before .before .before .before .before .before .before .before .before .before .before .before .pre .1 .0)) ((c .before .before .before .before .before .before .before .before .before .before .before .before .before .before .before .before .pre .1 .1)) ((c .before .before .before .before .before .before .before .before .before .before .before .before .before .before .before .before .pre .1 .2)) ((c .before .before .before .before .before .before .tree-over-lists .ensures)) _ _ ((c .before .before .leaving-row .ensures)), row-there ((c .before .before .before .before .before .before .before .before .before .before .before .before .before .before .before .before .pre .1 .4)) ((c .before .before .before .before .before .before .before .before .before .before .before .before .before .before .before .before .pre .0 .0 .lists .represents .most)) ((c .before .before .before .before .before .before .before .before .before .before .before .before .before .before .before .before .pre .1 .3)) ((c .before .before .before .before .before .before .before .before .before .before .before .before .before .before .before .before .args .index)) ((c .before .before .before .before .before .before .before .before .before .before .before .before .before .before .before .before .args .a)) ((c .before .before .before .before .before .before .before .before .before .before .before .before .before .before .before .before .pre .1 .0)) ((c .before .before .before .before .before .before .before .before .before .before .before .before .before .before .before .before .pre .1 .1)) ((c .before .before .before .before .before .before .before .before .before .before .before .before .before .before .before .before .pre .1 .2)) ((c .before .before .before .before .before .before .tree-over-lists .ensures)) _ _ ((c .before .before .leaving-row .ensures)), omega arith))
+returns-2 c = (row-added ((c .before .before .before .before .before .before .before .before .before .before .before .before .before .before .before .before .before .before .pre .1 .4)) ((c .before .before .before .before .before .before .before .before .before .before .before .before .before .before .before .before .before .before .pre .0 .0 .lists .represents .most)) ((c .before .before .before .before .before .before .before .before .before .before .before .before .before .before .before .before .before .before .pre .1 .3)) ((c .before .before .before .before .before .before .before .before .before .before .before .before .before .before .before .before .before .before .args .index)) ((c .before .before .before .before .before .before .before .before .before .before .before .before .before .before .before .before .before .before .args .a)) ((c .before .before .before .before .before .before .before .before .before .before .before .before .before .before .before .before .before .before .pre .1 .0)) ((c .before .before .before .before .before .before .before .before .before .before .before .before .before .before .before .before .before .before .pre .1 .1)) ((c .before .before .before .before .before .before .before .before .before .before .before .before .before .before .before .before .before .before .pre .1 .2)) ((c .before .before .before .before .before .before .before .tree-over-lists .ensures)) _ _ ((c .before .before .leaving-row .ensures)), (row-kept ((c .before .before .before .before .before .before .before .before .before .before .before .before .before .before .before .before .before .before .pre .1 .4)) ((c .before .before .before .before .before .before .before .before .before .before .before .before .before .before .before .before .before .before .pre .0 .0 .lists .represents .most)) ((c .before .before .before .before .before .before .before .before .before .before .before .before .before .before .before .before .before .before .pre .1 .3)) ((c .before .before .before .before .before .before .before .before .before .before .before .before .before .before .before .before .before .before .args .index)) ((c .before .before .before .before .before .before .before .before .before .before .before .before .before .before .before .before .before .before .args .a)) ((c .before .before .before .before .before .before .before .before .before .before .before .before .before .before .before .before .before .before .pre .1 .0)) ((c .before .before .before .before .before .before .before .before .before .before .before .before .before .before .before .before .before .before .pre .1 .1)) ((c .before .before .before .before .before .before .before .before .before .before .before .before .before .before .before .before .before .before .pre .1 .2)) ((c .before .before .before .before .before .before .before .tree-over-lists .ensures)) _ _ ((c .before .before .leaving-row .ensures)), row-there ((c .before .before .before .before .before .before .before .before .before .before .before .before .before .before .before .before .before .before .pre .1 .4)) ((c .before .before .before .before .before .before .before .before .before .before .before .before .before .before .before .before .before .before .pre .0 .0 .lists .represents .most)) ((c .before .before .before .before .before .before .before .before .before .before .before .before .before .before .before .before .before .before .pre .1 .3)) ((c .before .before .before .before .before .before .before .before .before .before .before .before .before .before .before .before .before .before .args .index)) ((c .before .before .before .before .before .before .before .before .before .before .before .before .before .before .before .before .before .before .args .a)) ((c .before .before .before .before .before .before .before .before .before .before .before .before .before .before .before .before .before .before .pre .1 .0)) ((c .before .before .before .before .before .before .before .before .before .before .before .before .before .before .before .before .before .before .pre .1 .1)) ((c .before .before .before .before .before .before .before .before .before .before .before .before .before .before .before .before .before .before .pre .1 .2)) ((c .before .before .before .before .before .before .before .tree-over-lists .ensures)) _ _ ((c .before .before .leaving-row .ensures)), omega arith))
 
 pub keep-row-spec : {M : Type 1} → statement M
 keep-row-spec =
@@ -76,6 +79,7 @@ keep-row-spec =
     slice-read-if1
     returns
     slice-aggregate-tree-over-lists
+    slice-aggregate-tree-over-lists-2
     tree-over-lists-requires
     mul-place
     add-place

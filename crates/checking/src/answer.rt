@@ -1,0 +1,16 @@
+// A table's check as one line.
+use spb::check::check;
+use text::check::write_check;
+ghost use Prim.Native.Nat.{_≤_};
+ghost use lib.ListN.{length};
+ghost use Rattle.rule.specs.Calls.{checkOutcome};
+ghost use Rattle.text.specs.Text.{WrittenAt};
+ghost use Rattle.text.specs.CheckText.{checkText};
+
+// The line at the front of the lent bytes, and its length.
+pub fn write_answer(table: &[u8], out: &mut [u8]) -> usize
+    requires { ⌜ 62 ≤ length (now out) ⌝ }
+    ensures { λ r. ⌜ WrittenAt 0 (now (out .entry)) (now (out .exit)) (checkText (checkOutcome (now (table .entry)))) r × (r ≤ 62) ⌝ }
+{
+    write_check(check(table), out, 0)
+}

@@ -1,0 +1,95 @@
+-- `faults::lowest::end_fault` finds the lowest fault of a record of kind 15: those that it shows by itself, then those left. Assumes nothing.
+use native.Mathlib.Omega.{arith}
+use mathlib.Core.Path.{refl, sym, ap, _∙_}
+use mathlib.Core.Bool.{true, false}
+use lib.ListN.{length, drop}
+use Rattle.rule.specs.Words.{wordsOf}
+use Rattle.table.specs.Positions.{wordsRead, readingAt}
+use Rattle.table.specs.Readers.{cut, whole, endRead}
+use Rattle.faults.specs.FaultLaws.{judged-at, own-fault, found-fault, fault-left, left-over}
+use Prim.Native.Nat.{ℕ, _+_, _/_}
+use lib.Dec.{ltb}
+use borrow.Author.Tests.{lt-ltb, le-ltb, eq-eqb, ne-eqb}
+use Rattle.rule.specs.Records.{end, endLayout}
+use Rattle.table.specs.declared.end.EndRead.{EndRead}
+use Rattle.faults.specs.FaultLaws.{words-follow}
+use borrow.Author.Needs.{needs}
+use Rattle.faults.proofs.lowest.end_fault.Statement.{statement}
+use Rattle.faults.proofs.lowest.end_fault.Tie as tie
+
+words-read-requires : tie.Need-words-read-requires
+words-read-requires c κs = search needs
+
+mul-at : tie.Need-mul-at
+mul-at c = search needs
+
+last-kind-requires : tie.Need-last-kind-requires
+last-kind-requires c κs = search needs
+
+sub-read-end : tie.Need-sub-read-end
+sub-read-end c = search needs
+
+part-read-end-start : tie.Need-part-read-end-start
+part-read-end-start c = search needs
+
+part-read-end-end : tie.Need-part-read-end-end
+part-read-end-end c = search needs
+
+read-end-requires : tie.Need-read-end-requires
+read-end-requires c κs = search needs
+
+enum-told : tie.Need-enum-told
+enum-told c = search needs
+
+own-fault-requires : tie.Need-own-fault-requires
+own-fault-requires c κs = search needs
+
+enum-known-read : tie.Need-enum-known-read
+enum-known-read c = search needs
+
+own-fault-requires-2 : tie.Need-own-fault-requires-2
+own-fault-requires-2 c κs = search needs
+
+returns : tie.Need-returns
+returns c = own-fault (judged-at endLayout (c .before .before .before .before .before .before .before .before .before .before .args .table .now) (c .before .before .before .before .before .before .before .before .before .before .args .s) _ _ (whole (end (c .before .before .before .read .given .0 .0))) _ _ _ (omega (arith, c .before .before .before .before .before .before .before .before .words-read .ensures)) (c .before .before .before .before .before .read-end .ensures) (ap (λ (x : EndRead). endRead x) (c .before .before .before .read .given .1)) (c .before .before .before .before .before .before .before .last-kind .ensures) (refl) (c .before .own-fault2 .ensures)) (c .if1 .taken)
+
+cast-if2 : tie.Need-cast-if2
+cast-if2 c = search needs
+
+returns-2 : tie.Need-returns-2
+returns-2 c = left-over (readingAt (wordsOf (c .before .before .before .before .before .before .before .before .before .before .before .args .table .now)) (c .before .before .before .before .before .before .before .before .before .before .before .args .s)) (end (c .before .before .before .before .read .given .0 .0)) (length (drop (wordsRead (c .before .before .before .before .before .before .before .before .before .before .before .args .s)) (wordsOf (c .before .before .before .before .before .before .before .before .before .before .before .args .table .now)))) true false false false _ (simp (ne-eqb _ _ (λ z. c .if2 .taken (z ∙ sym (c .before .before .before .before .before .before .before .before .before .words-read .ensures))))) refl refl refl refl ∙ fault-left (judged-at endLayout (c .before .before .before .before .before .before .before .before .before .before .before .args .table .now) (c .before .before .before .before .before .before .before .before .before .before .before .args .s) _ _ (whole (end (c .before .before .before .before .read .given .0 .0))) _ _ _ (omega (arith, c .before .before .before .before .before .before .before .before .before .words-read .ensures)) (c .before .before .before .before .before .before .read-end .ensures) (ap (λ (x : EndRead). endRead x) (c .before .before .before .before .read .given .1)) (c .before .before .before .before .before .before .before .before .last-kind .ensures) (refl) (c .before .before .own-fault2 .ensures)) (end (c .before .before .before .before .read .given .0 .0)) refl (c .before .if1 .left)
+
+add-if3 : tie.Need-add-if3
+add-if3 c = search needs
+
+returns-3 : tie.Need-returns-3
+returns-3 c = left-over (readingAt (wordsOf (c .before .before .before .before .before .before .before .before .before .before .before .before .args .table .now)) (c .before .before .before .before .before .before .before .before .before .before .before .before .args .s)) (end (c .before .before .before .before .before .read .given .0 .0)) (length (drop (wordsRead (c .before .before .before .before .before .before .before .before .before .before .before .before .args .s)) (wordsOf (c .before .before .before .before .before .before .before .before .before .before .before .before .args .table .now)))) false false false false true (simp (eq-eqb _ _ (c .before .if2 .left ∙ c .before .before .before .before .before .before .before .before .before .before .words-read .ensures))) refl refl refl (words-follow (c .before .before .before .before .before .before .before .before .before .before .before .before .args .table .now) (c .before .before .before .before .before .before .before .before .before .before .before .before .args .s) true (lt-ltb (wordsRead (c .before .before .before .before .before .before .before .before .before .before .before .before .args .s) + 1) (length (c .before .before .before .before .before .before .before .before .before .before .before .before .args .table .now) / 4) (omega (arith, c .before .before .before .before .before .before .before .before .before .before .words-read .ensures)))) ∙ fault-left (judged-at endLayout (c .before .before .before .before .before .before .before .before .before .before .before .before .args .table .now) (c .before .before .before .before .before .before .before .before .before .before .before .before .args .s) _ _ (whole (end (c .before .before .before .before .before .read .given .0 .0))) _ _ _ (omega (arith, c .before .before .before .before .before .before .before .before .before .before .words-read .ensures)) (c .before .before .before .before .before .before .before .read-end .ensures) (ap (λ (x : EndRead). endRead x) (c .before .before .before .before .before .read .given .1)) (c .before .before .before .before .before .before .before .before .before .last-kind .ensures) (refl) (c .before .before .before .own-fault2 .ensures)) (end (c .before .before .before .before .before .read .given .0 .0)) refl (c .before .before .if1 .left)
+
+returns-4 : tie.Need-returns-4
+returns-4 c = found-fault (judged-at endLayout (c .before .before .before .before .before .before .before .before .args .table .now) (c .before .before .before .before .before .before .before .before .args .s) _ _ cut _ _ _ (omega (arith, c .before .before .before .before .before .before .words-read .ensures)) (c .before .before .before .read-end .ensures) (ap (λ (x : EndRead). endRead x) (c .before .enum-told .given .1)) (c .before .before .before .before .before .last-kind .ensures) (refl) (c .own-fault .ensures)) (λ z. absurd (omega arith))
+
+returns-5 : tie.Need-returns-5
+returns-5 c = left-over (readingAt (wordsOf (c .before .before .before .before .before .before .before .before .before .before .before .before .args .table .now)) (c .before .before .before .before .before .before .before .before .before .before .before .before .args .s)) (end (c .before .before .before .before .before .read .given .0 .0)) (length (drop (wordsRead (c .before .before .before .before .before .before .before .before .before .before .before .before .args .s)) (wordsOf (c .before .before .before .before .before .before .before .before .before .before .before .before .args .table .now)))) false false false false false (simp (eq-eqb _ _ (c .before .if2 .left ∙ c .before .before .before .before .before .before .before .before .before .before .words-read .ensures))) refl refl refl (words-follow (c .before .before .before .before .before .before .before .before .before .before .before .before .args .table .now) (c .before .before .before .before .before .before .before .before .before .before .before .before .args .s) false (le-ltb (wordsRead (c .before .before .before .before .before .before .before .before .before .before .before .before .args .s) + 1) (length (c .before .before .before .before .before .before .before .before .before .before .before .before .args .table .now) / 4) (omega (arith, c .before .before .before .before .before .before .before .before .before .before .words-read .ensures)))) ∙ fault-left (judged-at endLayout (c .before .before .before .before .before .before .before .before .before .before .before .before .args .table .now) (c .before .before .before .before .before .before .before .before .before .before .before .before .args .s) _ _ (whole (end (c .before .before .before .before .before .read .given .0 .0))) _ _ _ (omega (arith, c .before .before .before .before .before .before .before .before .before .before .words-read .ensures)) (c .before .before .before .before .before .before .before .read-end .ensures) (ap (λ (x : EndRead). endRead x) (c .before .before .before .before .before .read .given .1)) (c .before .before .before .before .before .before .before .before .before .last-kind .ensures) (refl) (c .before .before .before .own-fault2 .ensures)) (end (c .before .before .before .before .before .read .given .0 .0)) refl (c .before .before .if1 .left)
+
+pub end-fault-spec : {M : Type 1} → statement M
+end-fault-spec =
+    tie.close
+    (tie.spec
+    words-read-requires
+    mul-at
+    last-kind-requires
+    sub-read-end
+    part-read-end-start
+    part-read-end-end
+    read-end-requires
+    enum-told
+    own-fault-requires
+    enum-known-read
+    own-fault-requires-2
+    returns
+    cast-if2
+    returns-2
+    add-if3
+    returns-3
+    returns-4
+    returns-5)

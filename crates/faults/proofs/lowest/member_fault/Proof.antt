@@ -1,0 +1,138 @@
+-- `faults::lowest::member_fault` finds the lowest fault of a record of kind 4: those that it shows by itself, then those left. Assumes nothing.
+use native.Mathlib.Omega.{arith}
+use mathlib.Core.Path.{refl, sym, ap, _∙_}
+use mathlib.Core.Bool.{true, false}
+use lib.ListN.{length, drop}
+use Rattle.rule.specs.Words.{wordsOf}
+use Rattle.table.specs.Positions.{recordsAt, vidsFrom, membersFrom, wordsRead, readingAt}
+use Rattle.table.specs.PositionLaws.{how-many}
+use Rattle.table.specs.Readers.{cut, zeroBit, outOfRange, whole, memberRead, memberValues}
+use Rattle.faults.specs.FaultLaws.{judged-at, own-fault, found-fault, fault-left, left-over}
+use Prim.Native.Nat.{ℕ}
+use borrow.Author.Tests.{lt-ltb, le-ltb, not-true, not-false}
+use Rattle.graph.specs.Lists.{any}
+use Rattle.rule.specs.Records.{member, vidOf, memberOf, memberLayout}
+use Rattle.rule.specs.Plan.{hasVid}
+use Rattle.rule.specs.Check.{repeatsMember}
+use Rattle.table.specs.declared.member.MemberRead.{MemberRead}
+use Rattle.faults.specs.FaultLaws.{unknown-member}
+use borrow.Author.Needs.{needs}
+use Rattle.faults.proofs.lowest.member_fault.Statement.{statement}
+use Rattle.faults.proofs.lowest.member_fault.Tie as tie
+
+words-read-requires : tie.Need-words-read-requires
+words-read-requires c κs = search needs
+
+mul-at : tie.Need-mul-at
+mul-at c = search needs
+
+last-kind-requires : tie.Need-last-kind-requires
+last-kind-requires c κs = search needs
+
+sub-read-member : tie.Need-sub-read-member
+sub-read-member c = search needs
+
+part-read-member-start : tie.Need-part-read-member-start
+part-read-member-start c = search needs
+
+part-read-member-end : tie.Need-part-read-member-end
+part-read-member-end c = search needs
+
+read-member-requires : tie.Need-read-member-requires
+read-member-requires c κs = search needs
+
+enum-told : tie.Need-enum-told
+enum-told c = search needs
+
+own-fault-requires : tie.Need-own-fault-requires
+own-fault-requires c κs = search needs
+
+enum-told-2 : tie.Need-enum-told-2
+enum-told-2 c = search needs
+
+own-fault-requires-2 : tie.Need-own-fault-requires-2
+own-fault-requires-2 c κs = search needs
+
+enum-told-3 : tie.Need-enum-told-3
+enum-told-3 c = search needs
+
+own-fault-requires-3 : tie.Need-own-fault-requires-3
+own-fault-requires-3 c κs = search needs
+
+enum-known-read : tie.Need-enum-known-read
+enum-known-read c = search needs
+
+own-fault-requires-4 : tie.Need-own-fault-requires-4
+own-fault-requires-4 c κs = search needs
+
+returns : tie.Need-returns
+returns c = own-fault (judged-at memberLayout (c .before .before .before .before .before .before .before .before .before .before .args .table .now) (c .before .before .before .before .before .before .before .before .before .before .args .s) _ _ (whole (member (memberValues (c .before .before .before .read .given .0 .0)))) _ _ _ (omega (arith, c .before .before .before .before .before .before .before .before .words-read .ensures)) (c .before .before .before .before .before .read-member .ensures) (ap (λ (x : MemberRead). memberRead x) (c .before .before .before .read .given .1)) (c .before .before .before .before .before .before .before .last-kind .ensures) (sym (how-many memberOf 2 (membersFrom (c .before .before .before .before .before .before .before .before .before .before .args .s)) (wordsOf (c .before .before .before .before .before .before .before .before .before .before .args .table .now)) ((c .before .before .before .before .before .before .before .before .before .before .args .s) .members))) (c .before .own-fault4 .ensures)) (c .if1 .taken)
+
+cast-if2 : tie.Need-cast-if2
+cast-if2 c = search needs
+
+returns-2 : tie.Need-returns-2
+returns-2 c = left-over (readingAt (wordsOf (c .before .before .before .before .before .before .before .before .before .before .before .before .before .args .table .now)) (c .before .before .before .before .before .before .before .before .before .before .before .before .before .args .s)) (member (memberValues (c .before .before .before .before .before .before .read .given .0 .0))) (length (drop (wordsRead (c .before .before .before .before .before .before .before .before .before .before .before .before .before .args .s)) (wordsOf (c .before .before .before .before .before .before .before .before .before .before .before .before .before .args .table .now)))) false true _ false false refl (unknown-member (wordsOf (c .before .before .before .before .before .before .before .before .before .before .before .before .before .args .table .now)) (c .before .before .before .before .before .before .before .before .before .before .before .before .before .args .s) (memberValues (c .before .before .before .before .before .before .read .given .0 .0)) ∙ simp (le-ltb _ _ (c .if2 .taken))) refl refl refl ∙ fault-left (judged-at memberLayout (c .before .before .before .before .before .before .before .before .before .before .before .before .before .args .table .now) (c .before .before .before .before .before .before .before .before .before .before .before .before .before .args .s) _ _ (whole (member (memberValues (c .before .before .before .before .before .before .read .given .0 .0)))) _ _ _ (omega (arith, c .before .before .before .before .before .before .before .before .before .before .before .words-read .ensures)) (c .before .before .before .before .before .before .before .before .read-member .ensures) (ap (λ (x : MemberRead). memberRead x) (c .before .before .before .before .before .before .read .given .1)) (c .before .before .before .before .before .before .before .before .before .before .last-kind .ensures) (sym (how-many memberOf 2 (membersFrom (c .before .before .before .before .before .before .before .before .before .before .before .before .before .args .s)) (wordsOf (c .before .before .before .before .before .before .before .before .before .before .before .before .before .args .table .now)) ((c .before .before .before .before .before .before .before .before .before .before .before .before .before .args .s) .members))) (c .before .before .before .before .own-fault4 .ensures)) (member (memberValues (c .before .before .before .before .before .before .read .given .0 .0))) refl (c .before .before .before .if1 .left)
+
+vids-from-requires : tie.Need-vids-from-requires
+vids-from-requires c κs = search needs
+
+is-vid-known-requires : tie.Need-is-vid-known-requires
+is-vid-known-requires c κs = search needs
+
+returns-3 : tie.Need-returns-3
+returns-3 c = left-over (readingAt (wordsOf (c .before .before .before .before .before .before .before .before .before .before .before .before .before .before .before .before .args .table .now)) (c .before .before .before .before .before .before .before .before .before .before .before .before .before .before .before .before .args .s)) (member (memberValues (c .before .before .before .before .before .before .before .before .before .read .given .0 .0))) (length (drop (wordsRead (c .before .before .before .before .before .before .before .before .before .before .before .before .before .before .before .before .args .s)) (wordsOf (c .before .before .before .before .before .before .before .before .before .before .before .before .before .before .before .before .args .table .now)))) false true _ false false refl (unknown-member (wordsOf (c .before .before .before .before .before .before .before .before .before .before .before .before .before .before .before .before .args .table .now)) (c .before .before .before .before .before .before .before .before .before .before .before .before .before .before .before .before .args .s) (memberValues (c .before .before .before .before .before .before .before .before .before .read .given .0 .0)) ∙ simp (lt-ltb _ _ (c .before .before .before .if2 .left), sym (c .before .is-vid-known .ensures ∙ ap (λ (n : ℕ). any (hasVid (c .before .before .before .before .before .before .before .before .before .read .given .0 .0 .vid)) (recordsAt vidOf 1 n (wordsOf (c .before .before .before .before .before .before .before .before .before .before .before .before .before .before .before .before .args .table .now)) (c .before .before .before .before .before .before .before .before .before .before .before .before .before .before .before .before .args .s .vids))) (c .before .before .vids-from .ensures)) ∙ not-true _ (c .if3 .taken))) refl refl refl ∙ fault-left (judged-at memberLayout (c .before .before .before .before .before .before .before .before .before .before .before .before .before .before .before .before .args .table .now) (c .before .before .before .before .before .before .before .before .before .before .before .before .before .before .before .before .args .s) _ _ (whole (member (memberValues (c .before .before .before .before .before .before .before .before .before .read .given .0 .0)))) _ _ _ (omega (arith, c .before .before .before .before .before .before .before .before .before .before .before .before .before .before .words-read .ensures)) (c .before .before .before .before .before .before .before .before .before .before .before .read-member .ensures) (ap (λ (x : MemberRead). memberRead x) (c .before .before .before .before .before .before .before .before .before .read .given .1)) (c .before .before .before .before .before .before .before .before .before .before .before .before .before .last-kind .ensures) (sym (how-many memberOf 2 (membersFrom (c .before .before .before .before .before .before .before .before .before .before .before .before .before .before .before .before .args .s)) (wordsOf (c .before .before .before .before .before .before .before .before .before .before .before .before .before .before .before .before .args .table .now)) ((c .before .before .before .before .before .before .before .before .before .before .before .before .before .before .before .before .args .s) .members))) (c .before .before .before .before .before .before .before .own-fault4 .ensures)) (member (memberValues (c .before .before .before .before .before .before .before .before .before .read .given .0 .0))) refl (c .before .before .before .before .before .before .if1 .left)
+
+members-from-requires : tie.Need-members-from-requires
+members-from-requires c κs = search needs
+
+is-member-repeated-requires : tie.Need-is-member-repeated-requires
+is-member-repeated-requires c κs = search needs
+
+returns-4 : tie.Need-returns-4
+returns-4 c = left-over (readingAt (wordsOf (c .before .before .before .before .before .before .before .before .before .before .before .before .before .before .before .before .before .before .before .args .table .now)) (c .before .before .before .before .before .before .before .before .before .before .before .before .before .before .before .before .before .before .before .args .s)) (member (memberValues (c .before .before .before .before .before .before .before .before .before .before .before .before .read .given .0 .0))) (length (drop (wordsRead (c .before .before .before .before .before .before .before .before .before .before .before .before .before .before .before .before .before .before .before .args .s)) (wordsOf (c .before .before .before .before .before .before .before .before .before .before .before .before .before .before .before .before .before .before .before .args .table .now)))) false false true false false refl (unknown-member (wordsOf (c .before .before .before .before .before .before .before .before .before .before .before .before .before .before .before .before .before .before .before .args .table .now)) (c .before .before .before .before .before .before .before .before .before .before .before .before .before .before .before .before .before .before .before .args .s) (memberValues (c .before .before .before .before .before .before .before .before .before .before .before .before .read .given .0 .0)) ∙ simp (lt-ltb _ _ (c .before .before .before .before .before .before .if2 .left), sym (c .before .before .before .before .is-vid-known .ensures ∙ ap (λ (n : ℕ). any (hasVid (c .before .before .before .before .before .before .before .before .before .before .before .before .read .given .0 .0 .vid)) (recordsAt vidOf 1 n (wordsOf (c .before .before .before .before .before .before .before .before .before .before .before .before .before .before .before .before .before .before .before .args .table .now)) (c .before .before .before .before .before .before .before .before .before .before .before .before .before .before .before .before .before .before .before .args .s .vids))) (c .before .before .before .before .before .vids-from .ensures)) ∙ not-false _ (c .before .before .before .if3 .left))) (sym (c .before .is-member-repeated .ensures ∙ ap (λ (n : ℕ). any (repeatsMember (memberValues (c .before .before .before .before .before .before .before .before .before .before .before .before .read .given .0 .0))) (recordsAt memberOf 2 n (wordsOf (c .before .before .before .before .before .before .before .before .before .before .before .before .before .before .before .before .before .before .before .args .table .now)) (c .before .before .before .before .before .before .before .before .before .before .before .before .before .before .before .before .before .before .before .args .s .members))) (c .before .before .members-from .ensures)) ∙ c .if4 .taken) refl refl ∙ fault-left (judged-at memberLayout (c .before .before .before .before .before .before .before .before .before .before .before .before .before .before .before .before .before .before .before .args .table .now) (c .before .before .before .before .before .before .before .before .before .before .before .before .before .before .before .before .before .before .before .args .s) _ _ (whole (member (memberValues (c .before .before .before .before .before .before .before .before .before .before .before .before .read .given .0 .0)))) _ _ _ (omega (arith, c .before .before .before .before .before .before .before .before .before .before .before .before .before .before .before .before .before .words-read .ensures)) (c .before .before .before .before .before .before .before .before .before .before .before .before .before .before .read-member .ensures) (ap (λ (x : MemberRead). memberRead x) (c .before .before .before .before .before .before .before .before .before .before .before .before .read .given .1)) (c .before .before .before .before .before .before .before .before .before .before .before .before .before .before .before .before .last-kind .ensures) (sym (how-many memberOf 2 (membersFrom (c .before .before .before .before .before .before .before .before .before .before .before .before .before .before .before .before .before .before .before .args .s)) (wordsOf (c .before .before .before .before .before .before .before .before .before .before .before .before .before .before .before .before .before .before .before .args .table .now)) ((c .before .before .before .before .before .before .before .before .before .before .before .before .before .before .before .before .before .before .before .args .s) .members))) (c .before .before .before .before .before .before .before .before .before .before .own-fault4 .ensures)) (member (memberValues (c .before .before .before .before .before .before .before .before .before .before .before .before .read .given .0 .0))) refl (c .before .before .before .before .before .before .before .before .before .if1 .left)
+
+returns-5 : tie.Need-returns-5
+returns-5 c = found-fault (judged-at memberLayout (c .before .before .before .before .before .before .before .before .args .table .now) (c .before .before .before .before .before .before .before .before .args .s) _ _ cut _ _ _ (omega (arith, c .before .before .before .before .before .before .words-read .ensures)) (c .before .before .before .read-member .ensures) (ap (λ (x : MemberRead). memberRead x) (c .before .enum-told .given .1)) (c .before .before .before .before .before .last-kind .ensures) (sym (how-many memberOf 2 (membersFrom (c .before .before .before .before .before .before .before .before .args .s)) (wordsOf (c .before .before .before .before .before .before .before .before .args .table .now)) ((c .before .before .before .before .before .before .before .before .args .s) .members))) (c .own-fault .ensures)) (λ z. absurd (omega arith))
+
+returns-6 : tie.Need-returns-6
+returns-6 c = found-fault (judged-at memberLayout (c .before .before .before .before .before .before .before .before .args .table .now) (c .before .before .before .before .before .before .before .before .args .s) _ _ zeroBit _ _ _ (omega (arith, c .before .before .before .before .before .before .words-read .ensures)) (c .before .before .before .read-member .ensures) (ap (λ (x : MemberRead). memberRead x) (c .before .enum-told2 .given .1)) (c .before .before .before .before .before .last-kind .ensures) (sym (how-many memberOf 2 (membersFrom (c .before .before .before .before .before .before .before .before .args .s)) (wordsOf (c .before .before .before .before .before .before .before .before .args .table .now)) ((c .before .before .before .before .before .before .before .before .args .s) .members))) (c .own-fault2 .ensures)) (λ z. absurd (omega arith))
+
+returns-7 : tie.Need-returns-7
+returns-7 c = found-fault (judged-at memberLayout (c .before .before .before .before .before .before .before .before .args .table .now) (c .before .before .before .before .before .before .before .before .args .s) _ _ outOfRange _ _ _ (omega (arith, c .before .before .before .before .before .before .words-read .ensures)) (c .before .before .before .read-member .ensures) (ap (λ (x : MemberRead). memberRead x) (c .before .enum-told3 .given .1)) (c .before .before .before .before .before .last-kind .ensures) (sym (how-many memberOf 2 (membersFrom (c .before .before .before .before .before .before .before .before .args .s)) (wordsOf (c .before .before .before .before .before .before .before .before .args .table .now)) ((c .before .before .before .before .before .before .before .before .args .s) .members))) (c .own-fault3 .ensures)) (λ z. absurd (omega arith))
+
+returns-8 : tie.Need-returns-8
+returns-8 c = left-over (readingAt (wordsOf (c .before .before .before .before .before .before .before .before .before .before .before .before .before .before .before .before .before .before .before .args .table .now)) (c .before .before .before .before .before .before .before .before .before .before .before .before .before .before .before .before .before .before .before .args .s)) (member (memberValues (c .before .before .before .before .before .before .before .before .before .before .before .before .read .given .0 .0))) (length (drop (wordsRead (c .before .before .before .before .before .before .before .before .before .before .before .before .before .before .before .before .before .before .before .args .s)) (wordsOf (c .before .before .before .before .before .before .before .before .before .before .before .before .before .before .before .before .before .before .before .args .table .now)))) false false false false false refl (unknown-member (wordsOf (c .before .before .before .before .before .before .before .before .before .before .before .before .before .before .before .before .before .before .before .args .table .now)) (c .before .before .before .before .before .before .before .before .before .before .before .before .before .before .before .before .before .before .before .args .s) (memberValues (c .before .before .before .before .before .before .before .before .before .before .before .before .read .given .0 .0)) ∙ simp (lt-ltb _ _ (c .before .before .before .before .before .before .if2 .left), sym (c .before .before .before .before .is-vid-known .ensures ∙ ap (λ (n : ℕ). any (hasVid (c .before .before .before .before .before .before .before .before .before .before .before .before .read .given .0 .0 .vid)) (recordsAt vidOf 1 n (wordsOf (c .before .before .before .before .before .before .before .before .before .before .before .before .before .before .before .before .before .before .before .args .table .now)) (c .before .before .before .before .before .before .before .before .before .before .before .before .before .before .before .before .before .before .before .args .s .vids))) (c .before .before .before .before .before .vids-from .ensures)) ∙ not-false _ (c .before .before .before .if3 .left))) (sym (c .before .is-member-repeated .ensures ∙ ap (λ (n : ℕ). any (repeatsMember (memberValues (c .before .before .before .before .before .before .before .before .before .before .before .before .read .given .0 .0))) (recordsAt memberOf 2 n (wordsOf (c .before .before .before .before .before .before .before .before .before .before .before .before .before .before .before .before .before .before .before .args .table .now)) (c .before .before .before .before .before .before .before .before .before .before .before .before .before .before .before .before .before .before .before .args .s .members))) (c .before .before .members-from .ensures)) ∙ c .if4 .left) refl refl ∙ fault-left (judged-at memberLayout (c .before .before .before .before .before .before .before .before .before .before .before .before .before .before .before .before .before .before .before .args .table .now) (c .before .before .before .before .before .before .before .before .before .before .before .before .before .before .before .before .before .before .before .args .s) _ _ (whole (member (memberValues (c .before .before .before .before .before .before .before .before .before .before .before .before .read .given .0 .0)))) _ _ _ (omega (arith, c .before .before .before .before .before .before .before .before .before .before .before .before .before .before .before .before .before .words-read .ensures)) (c .before .before .before .before .before .before .before .before .before .before .before .before .before .before .read-member .ensures) (ap (λ (x : MemberRead). memberRead x) (c .before .before .before .before .before .before .before .before .before .before .before .before .read .given .1)) (c .before .before .before .before .before .before .before .before .before .before .before .before .before .before .before .before .last-kind .ensures) (sym (how-many memberOf 2 (membersFrom (c .before .before .before .before .before .before .before .before .before .before .before .before .before .before .before .before .before .before .before .args .s)) (wordsOf (c .before .before .before .before .before .before .before .before .before .before .before .before .before .before .before .before .before .before .before .args .table .now)) ((c .before .before .before .before .before .before .before .before .before .before .before .before .before .before .before .before .before .before .before .args .s) .members))) (c .before .before .before .before .before .before .before .before .before .before .own-fault4 .ensures)) (member (memberValues (c .before .before .before .before .before .before .before .before .before .before .before .before .read .given .0 .0))) refl (c .before .before .before .before .before .before .before .before .before .if1 .left)
+
+pub member-fault-spec : {M : Type 1} → statement M
+member-fault-spec =
+    tie.close
+    (tie.spec
+    words-read-requires
+    mul-at
+    last-kind-requires
+    sub-read-member
+    part-read-member-start
+    part-read-member-end
+    read-member-requires
+    enum-told
+    own-fault-requires
+    enum-told-2
+    own-fault-requires-2
+    enum-told-3
+    own-fault-requires-3
+    enum-known-read
+    own-fault-requires-4
+    returns
+    cast-if2
+    returns-2
+    vids-from-requires
+    is-vid-known-requires
+    returns-3
+    members-from-requires
+    is-member-repeated-requires
+    returns-4
+    returns-5
+    returns-6
+    returns-7
+    returns-8)

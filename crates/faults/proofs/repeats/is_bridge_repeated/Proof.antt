@@ -1,0 +1,63 @@
+-- `faults::repeats::is_bridge_repeated` searches the bridges one after the other. Assumes nothing.
+use Prim.Native.Nat.{_-_, _+_, _*_}
+use native.Mathlib.Omega.{arith}
+use mathlib.Core.Path.{refl}
+use borrow.Author.Tests.{eq-eqb, ne-eqb}
+use Rattle.graph.specs.Searching.{search-starts}
+use Rattle.rule.specs.Words.{wordsOf}
+use Rattle.rule.specs.Records.{bridgeOf}
+use Rattle.rule.specs.Check.{repeatsBridge}
+use Rattle.table.specs.Readers.{bridgeValues}
+use Rattle.table.specs.PositionLaws.{SearchingRecords, record-passed, record-found, no-record-found}
+use borrow.Author.Needs.{needs}
+use Rattle.faults.proofs.repeats.is_bridge_repeated.Statement.{statement}
+use Rattle.faults.proofs.repeats.is_bridge_repeated.Tie as tie
+
+abbrev Inv-loop : tie.InvT-loop
+Inv-loop table bridges b i₀ i = SearchingRecords bridgeOf 3 0 (wordsOf table) (repeatsBridge (bridgeValues b)) bridges i
+
+abbrev μ-loop : tie.MeasureT-loop
+μ-loop table bridges b i₀ i = bridges - i
+
+loop-holds : tie.Need-loop-holds Inv-loop μ-loop
+loop-holds c = search-starts _ _
+
+mul-bridge-at : tie.Need-mul-bridge-at Inv-loop μ-loop
+mul-bridge-at c = search needs
+
+bridge-at-requires : tie.Need-bridge-at-requires Inv-loop μ-loop
+bridge-at-requires c κs = search needs
+
+repeats-bridge-requires : tie.Need-repeats-bridge-requires Inv-loop μ-loop
+repeats-bridge-requires c κs = search needs
+
+returns : tie.Need-returns Inv-loop μ-loop
+returns c = record-found bridgeOf 3 0 (wordsOf (c .before .before .before .before .before .before .args .table .now)) (repeatsBridge (bridgeValues (c .before .before .before .before .before .before .args .b))) (c .before .before .before .before .loop .inv) (3 * c .before .before .before .before .loop .i) (bridgeValues (c .before .before .bridge-at .result)) (c .before .repeats-bridge .result) (c .before .before .before .loop-test .taken) (omega arith) (c .before .before .bridge-at .ensures) (c .before .repeats-bridge .ensures) (c .if1 .taken)
+
+add-i : tie.Need-add-i Inv-loop μ-loop
+add-i c = search needs
+
+loop-less : tie.Need-loop-less Inv-loop μ-loop
+loop-less c = search needs
+
+loop-again : tie.Need-loop-again Inv-loop μ-loop
+loop-again c = record-passed bridgeOf 3 0 (wordsOf (c .before .before .before .before .before .before .args .table .now)) (repeatsBridge (bridgeValues (c .before .before .before .before .before .before .args .b))) (c .before .before .before .before .loop .inv) (3 * c .before .before .before .before .loop .i) (bridgeValues (c .before .before .bridge-at .result)) (c .before .repeats-bridge .result) (c .before .before .before .loop-test .taken) (omega arith) (c .before .before .bridge-at .ensures) (c .before .repeats-bridge .ensures) (c .if1 .left)
+
+returns-2 : tie.Need-returns-2 Inv-loop μ-loop
+returns-2 c = no-record-found bridgeOf 3 0 (wordsOf (c .before .before .before .args .table .now)) (repeatsBridge (bridgeValues (c .before .before .before .args .b))) (c .before .loop .inv) (c .loop-test .left)
+
+pub is-bridge-repeated-spec : {M : Type 1} → statement M
+is-bridge-repeated-spec =
+    tie.close
+    (tie.spec
+    Inv-loop
+    μ-loop
+    loop-holds
+    mul-bridge-at
+    bridge-at-requires
+    repeats-bridge-requires
+    returns
+    add-i
+    loop-less
+    loop-again
+    returns-2)

@@ -1,0 +1,186 @@
+// The lowest fault of a record, by its kind (01, "Refusals in checking order", 2 to 10), or 0.
+use crate::half_link::is_port_repeated;
+use crate::half_link::is_wrong_link;
+use crate::half_link::names_unknown;
+use crate::repeats::is_bridge_repeated;
+use crate::repeats::is_member_repeated;
+use crate::repeats::is_vid_known;
+use table::bridge::BridgeRead;
+use table::bridge::read_bridge;
+use table::end::EndRead;
+use table::end::read_end;
+use table::half_link::HalfLinkRead;
+use table::half_link::read_half_link;
+use table::member::MemberRead;
+use table::member::read_member;
+use table::shape::Shape;
+use table::vid::VidRead;
+use table::vid::read_vid;
+ghost use mathlib.Core.Path.{_≡_};
+ghost use Prim.Native.Nat.{_*_, _≤_};
+ghost use lib.ListN.{length};
+ghost use Rattle.rule.specs.Words.{wordsOf};
+ghost use Rattle.rule.specs.Records.{bridgeLayout, halfLinkLayout, vidLayout, memberLayout, endLayout};
+ghost use Rattle.table.specs.Positions.{halfLinksFrom, wordsRead};
+ghost use Rattle.faults.specs.HalfLinks.{portKey, numberKey, Keyed};
+ghost use Rattle.faults.specs.Faults.{numbered, ownFault, faultAt};
+
+// The lowest of the faults 2 to 6 that a record shows by itself, after a record of the kind `last` and `count` records of its own
+// kind: `found` is what its reader found, 3, 4, 6 or nothing.
+fn own_fault(last: u32, kind: u32, found: u32, count: usize, limit: usize) -> u32
+    ensures { λ r. ⌜ r ≡ ownFault last kind found count limit ⌝ }
+{
+    if kind < last {
+        return 2;
+    }
+    if found == 3 {
+        return 3;
+    }
+    if found == 4 {
+        return 4;
+    }
+    if limit <= count {
+        return 5;
+    }
+    found
+}
+
+// Of the bridge record after those of `s`.
+pub fn bridge_fault(table: &[u8], s: Shape) -> u32
+    requires { ⌜ (4 * wordsRead s ≤ length (now table)) × (length (now table) ≤ 7492) ⌝ }
+    ensures { λ r. ⌜ numbered r ≡ faultAt (wordsOf (now (table .entry))) s bridgeLayout ⌝ }
+{
+    let at = 4 * s.words_read();
+    let last = s.last_kind();
+    let read = read_bridge(&table[at..]);
+    match read {
+        BridgeRead::Cut => own_fault(last, 1, 3, s.bridges, 64),
+        BridgeRead::ZeroBit => own_fault(last, 1, 4, s.bridges, 64),
+        BridgeRead::OutOfRange => own_fault(last, 1, 6, s.bridges, 64),
+        BridgeRead::Record(b) => {
+            let own = own_fault(last, 1, 0, s.bridges, 64);
+            if own != 0 {
+                return own;
+            }
+            if is_bridge_repeated(table, s.bridges, b) {
+                return 8;
+            }
+            0
+        }
+    }
+}
+
+// Of the half-link record after those of `s`, whose half-links are in the two indexes.
+pub fn half_link_fault(table: &[u8], s: Shape, ports: &[u32], links: &[u32]) -> u32
+    requires { ⌜ (4 * wordsRead s ≤ length (now table)) × (length (now table) ≤ 7492) ⌝ }
+    requires { ⌜ Keyed portKey (now ports) (wordsOf (now table)) (halfLinksFrom s) (s .«half_links») ⌝ }
+    requires { ⌜ Keyed numberKey (now links) (wordsOf (now table)) (halfLinksFrom s) (s .«half_links») ⌝ }
+    ensures { λ r. ⌜ numbered r ≡ faultAt (wordsOf (now (table .entry))) s halfLinkLayout ⌝ }
+{
+    let at = 4 * s.words_read();
+    let last = s.last_kind();
+    let read = read_half_link(&table[at..]);
+    match read {
+        HalfLinkRead::Cut => own_fault(last, 2, 3, s.half_links, 512),
+        HalfLinkRead::ZeroBit => own_fault(last, 2, 4, s.half_links, 512),
+        HalfLinkRead::OutOfRange => own_fault(last, 2, 6, s.half_links, 512),
+        HalfLinkRead::Record(h) => {
+            let own = own_fault(last, 2, 0, s.half_links, 512);
+            if own != 0 {
+                return own;
+            }
+            if names_unknown(s.bridges, h.near, h.far) {
+                return 7;
+            }
+            if is_port_repeated(ports, s.half_links, h.near, h.port) {
+                return 8;
+            }
+            if is_wrong_link(table, s.half_links_from(), s.half_links, links, h) {
+                return 9;
+            }
+            0
+        }
+    }
+}
+
+// Of the VID record after those of `s`.
+pub fn vid_fault(table: &[u8], s: Shape) -> u32
+    requires { ⌜ (4 * wordsRead s ≤ length (now table)) × (length (now table) ≤ 7492) ⌝ }
+    ensures { λ r. ⌜ numbered r ≡ faultAt (wordsOf (now (table .entry))) s vidLayout ⌝ }
+{
+    let at = 4 * s.words_read();
+    let last = s.last_kind();
+    let read = read_vid(&table[at..]);
+    match read {
+        VidRead::Cut => own_fault(last, 3, 3, s.vids, 16),
+        VidRead::OutOfRange => own_fault(last, 3, 6, s.vids, 16),
+        VidRead::Record(v) => {
+            let own = own_fault(last, 3, 0, s.vids, 16);
+            if own != 0 {
+                return own;
+            }
+            if is_vid_known(table, s.vids_from(), s.vids, v.vid) {
+                return 8;
+            }
+            0
+        }
+    }
+}
+
+// Of the member record after those of `s`.
+pub fn member_fault(table: &[u8], s: Shape) -> u32
+    requires { ⌜ (4 * wordsRead s ≤ length (now table)) × (length (now table) ≤ 7492) ⌝ }
+    ensures { λ r. ⌜ numbered r ≡ faultAt (wordsOf (now (table .entry))) s memberLayout ⌝ }
+{
+    let at = 4 * s.words_read();
+    let last = s.last_kind();
+    let read = read_member(&table[at..]);
+    match read {
+        MemberRead::Cut => own_fault(last, 4, 3, s.members, 64),
+        MemberRead::ZeroBit => own_fault(last, 4, 4, s.members, 64),
+        MemberRead::OutOfRange => own_fault(last, 4, 6, s.members, 64),
+        MemberRead::Record(m) => {
+            let own = own_fault(last, 4, 0, s.members, 64);
+            if own != 0 {
+                return own;
+            }
+            if s.bridges <= m.bridge as usize {
+                return 7;
+            }
+            if !is_vid_known(table, s.vids_from(), s.vids, m.vid) {
+                return 7;
+            }
+            if is_member_repeated(table, s.members_from(), s.members, m) {
+                return 8;
+            }
+            0
+        }
+    }
+}
+
+// Of the end record after those of `s`. It is never one too many: a second one would stand after it and is not read.
+pub fn end_fault(table: &[u8], s: Shape) -> u32
+    requires { ⌜ (4 * wordsRead s ≤ length (now table)) × (length (now table) ≤ 7492) ⌝ }
+    ensures { λ r. ⌜ numbered r ≡ faultAt (wordsOf (now (table .entry))) s endLayout ⌝ }
+{
+    let before = s.words_read();
+    let at = 4 * before;
+    let last = s.last_kind();
+    let read = read_end(&table[at..]);
+    match read {
+        EndRead::Cut => own_fault(last, 15, 3, 0, 1),
+        EndRead::Record { count } => {
+            let own = own_fault(last, 15, 0, 0, 1);
+            if own != 0 {
+                return own;
+            }
+            if count as usize != before {
+                return 6;
+            }
+            if before + 1 < table.len() / 4 {
+                return 10;
+            }
+            0
+        }
+    }
+}

@@ -1,0 +1,58 @@
+// Prints the figures of document 01 that are not starred ("64 bridges pass, 65 give 5", and the like for the other limits), each
+// through the real call on a table that is made here. A line: what is tried, and what the check says of it, as `checking` writes it.
+// Only writing assumes anything: that C's write keeps its contract.
+mod plan;
+
+use crate::plan::write_table;
+use spb::check::check;
+use table::shape::Shape;
+use text::check::write_check;
+use text::fields::write_word;
+ghost use Prim.Native.Nat.{_≤_};
+ghost use lib.ListN.{length};
+
+// What the check says of a table, after the name.
+fn print_check(name: &[u8], table: &[u8])
+    requires { ⌜ length (now name) ≤ 66 ⌝ }
+{
+    let mut line = [0u8; 128];
+    let after_name = write_word(name, &mut line, 0);
+    let end = write_check(check(table), &mut line, after_name);
+    io::write_all(1, &line[..end]);
+}
+
+// The table with so many records of each kind, and `more` words 0 after its end record.
+fn print_limit(
+    name: &[u8],
+    bridges: usize,
+    half_links: usize,
+    vids: usize,
+    members: usize,
+    more: usize,
+)
+    requires { ⌜ (length (now name) ≤ 66) × (bridges ≤ 65) × («half_links» ≤ 513) × (vids ≤ 17) × (members ≤ 65) × (more ≤ 1) ⌝ }
+{
+    let s = Shape {
+        bridges: bridges,
+        half_links: half_links,
+        vids: vids,
+        members: members,
+    };
+    let mut table = [0u8; 8192];
+    write_table(s, &mut table);
+    let bytes = 4 * (s.words_read() + 1 + more);
+    print_check(name, &table[..bytes]);
+}
+
+fn main() {
+    print_limit(b"64 bridges: ", 64, 0, 0, 0, 0);
+    print_limit(b"65 bridges: ", 65, 0, 0, 0, 0);
+    print_limit(b"512 half-links: ", 64, 512, 0, 0, 0);
+    print_limit(b"513 half-links: ", 64, 513, 0, 0, 0);
+    print_limit(b"16 VIDs: ", 0, 0, 16, 0, 0);
+    print_limit(b"17 VIDs: ", 0, 0, 17, 0, 0);
+    print_limit(b"64 members: ", 64, 0, 1, 64, 0);
+    print_limit(b"65 members: ", 64, 0, 1, 65, 0);
+    print_limit(b"7492 bytes: ", 64, 512, 16, 64, 0);
+    print_limit(b"7496 bytes: ", 64, 512, 16, 64, 1);
+}

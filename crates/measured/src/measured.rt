@@ -1,0 +1,131 @@
+// The path call, the tree call and the search for trees alone, as functions for the benchmark.
+use links::neighbours::neighbours_of;
+use network::plan_tree::tree_over_lists;
+use network::records::write_identifiers;
+use rule::answer::PathAnswer;
+use rule::answer::TreeAnswer;
+use spb::paths::path;
+use spb::trees::tree;
+use table::shape::Shape;
+use verdict::examine::Examined;
+use verdict::examine::examine;
+ghost use Prim.Native.Nat.{_≤_};
+ghost use lib.ListN.{length};
+ghost use Rattle.links.specs.Mates.{Checked};
+ghost use Rattle.network.specs.PlanLists.{Listed};
+
+// One path call: the cost, or the refusal number.
+#[no_mangle]
+pub extern "C" fn measured_path(table: &[u8], vid: u32, from: u32, to: u32) -> u32 {
+    let mut list = [0u32; 64];
+    match path(table, vid, from, to, &mut list) {
+        PathAnswer::Given { cost, hops: _ } => cost.0,
+        PathAnswer::Refused {
+            number,
+            kind: _,
+            word: _,
+        } => number,
+    }
+}
+
+// One tree call: the number of bridges, or the refusal number.
+#[no_mangle]
+pub extern "C" fn measured_tree(table: &[u8], vid: u32, from: u32) -> u32 {
+    let mut costs = [0u32; 64];
+    let mut hops = [0u32; 64];
+    let mut lasts = [0u32; 64];
+    match tree(table, vid, from, &mut costs, &mut hops, &mut lasts) {
+        TreeAnswer::Given { bridges } => bridges,
+        TreeAnswer::Refused {
+            number,
+            kind: _,
+            word: _,
+        } => number,
+    }
+}
+
+// Makes the trees of the first `count` bridges over the lists of a plan.
+fn make_trees(
+    starts: &[u32],
+    neighbours: &[u32],
+    costs: &[u32],
+    identifiers: &[u64],
+    n: usize,
+    count: usize,
+    labels: &mut [u32],
+    rows: &mut [u64],
+)
+    requires { ⌜ Listed n (now starts) (now neighbours) (now costs) (now identifiers) × (length (now identifiers) ≤ 64) × (count ≤ n) × (320 ≤ length (now labels)) × (4096 ≤ length (now rows)) ⌝ }
+{
+    let mut root = 0;
+    while root < count {
+        tree_over_lists(
+            starts,
+            neighbours,
+            costs,
+            identifiers,
+            1,
+            labels,
+            rows,
+            n,
+            root,
+        );
+        root += 1;
+    }
+}
+
+// Makes the lists of a table that passed the check, and the trees of its first `count` bridges. Gives the last tree's cost of bridge 0.
+fn trees_of_table(table: &[u8], s: Shape, links: &[u32], count: usize) -> u32
+    requires { ⌜ Checked (now table) (now links) s × (count ≤ s .bridges) ⌝ }
+{
+    let mut pairs = [0u64; 4096];
+    let mut starts = [0u32; 65];
+    let mut neighbours = [0u32; 512];
+    let mut costs = [0u32; 512];
+    let mut ports = [0u32; 512];
+    let mut identifiers = [0u64; 64];
+    let mut labels = [0u32; 320];
+    let mut rows = [0u64; 4096];
+    neighbours_of(
+        table,
+        s,
+        links,
+        &mut pairs,
+        &mut starts,
+        &mut neighbours,
+        &mut costs,
+        &mut ports,
+    );
+    write_identifiers(table, s, &mut identifiers);
+    make_trees(
+        &starts,
+        &neighbours,
+        &costs,
+        &identifiers,
+        s.bridges,
+        count,
+        &mut labels,
+        &mut rows,
+    );
+    labels[64]
+}
+
+// One check, the lists of the table once, and the trees of its first `count` bridges.
+#[no_mangle]
+pub extern "C" fn measured_trees(table: &[u8], count: u32) -> u32 {
+    let mut links = [0u32; 1536];
+    let examined = examine(table, &mut links);
+    match examined {
+        Examined::Accepted(s) => {
+            if s.bridges < count as usize {
+                return 0;
+            }
+            trees_of_table(table, s, &links, count as usize)
+        }
+        Examined::Refused {
+            number,
+            kind: _,
+            word: _,
+        } => number,
+    }
+}

@@ -1,0 +1,44 @@
+-- `spb::check::check` gives the counts of an accepted table, or the refusal of the verdict. Assumes nothing.
+use Rattle.index.specs.IndexLaws.{no-keys-yet}
+use Rattle.spb.specs.Examined.{accepted-checked}
+use Rattle.spb.specs.CallLaws.{check-accepted, check-refused}
+use borrow.Author.Needs.{needs}
+use Rattle.spb.proofs.check.check.Statement.{statement}
+use Rattle.spb.proofs.check.check.Tie as tie
+
+slice-aggregate-examine : tie.Need-slice-aggregate-examine
+slice-aggregate-examine c = search needs
+
+examine-requires : tie.Need-examine-requires
+examine-requires c κs = no-keys-yet
+
+enum-known-examined : tie.Need-enum-known-examined
+enum-known-examined c = search needs
+
+slice-aggregate-counts : tie.Need-slice-aggregate-counts
+slice-aggregate-counts c = search needs
+
+counts-requires : tie.Need-counts-requires
+counts-requires c κs = accepted-checked (c .before .before .before .before .before .before .before .before .args .table .now) (c .before .before .before .before .before .examine .result) (c .before .before .before .before .before .examine .ensures .0) _ _ (c .before .before .examined .given .1) (c .before .before .before .before .before .examine .ensures .1)
+
+enum-known-examined-2 : tie.Need-enum-known-examined-2
+enum-known-examined-2 c = search needs
+
+returns : tie.Need-returns
+returns c = check-accepted (c .before .before .before .before .before .before .before .before .before .args .table .now) (c .before .before .before .before .before .before .examine .result) (c .before .before .before .before .before .before .examine .ensures .0) _ (c .before .before .before .examined .given .1) (c .counts .result) (c .counts .ensures)
+
+returns-2 : tie.Need-returns-2
+returns-2 c = check-refused (c .before .before .before .before .before .before .before .args .table .now) (c .before .before .before .before .examine .result) (c .before .before .before .before .examine .ensures .0) _ _ _ (c .before .examined2 .given .1)
+
+pub check-spec : {M : Type 1} → statement M
+check-spec =
+    tie.close
+    (tie.spec
+    slice-aggregate-examine
+    examine-requires
+    enum-known-examined
+    slice-aggregate-counts
+    counts-requires
+    enum-known-examined-2
+    returns
+    returns-2)

@@ -1,0 +1,56 @@
+-- `spb::trees::tree` asks the places of an accepted table, or passes the refusal of the verdict on. Assumes nothing.
+use borrow.Author.Needs.{needs}
+use Rattle.index.specs.IndexLaws.{no-keys-yet}
+use Rattle.spb.specs.Examined.{accepted-checked}
+use Rattle.spb.specs.CallLaws.{tree-accepted, tree-refused}
+use Rattle.spb.proofs.trees.tree.Statement.{statement}
+use Rattle.spb.proofs.trees.tree.Tie as tie
+
+slice-aggregate-examine : tie.Need-slice-aggregate-examine
+slice-aggregate-examine c = search needs
+
+examine-requires : tie.Need-examine-requires
+examine-requires c κs = no-keys-yet
+
+enum-known-examined : tie.Need-enum-known-examined
+enum-known-examined c = search needs
+
+slice-aggregate-tree-in-table : tie.Need-slice-aggregate-tree-in-table
+slice-aggregate-tree-in-table c = search needs
+
+tree-in-table-requires : tie.Need-tree-in-table-requires
+tree-in-table-requires c κs = accepted-checked (c .before .before .before .before .before .before .before .before .before .before .before .before .before .before .args .table .now) (c .before .before .before .before .before .before .before .before .examine .result) (c .before .before .before .before .before .before .before .before .examine .ensures .0) _ _ (c .before .before .before .before .before .examined .given .1) (c .before .before .before .before .before .before .before .before .examine .ensures .1)
+
+enum-known-examined-2 : tie.Need-enum-known-examined-2
+enum-known-examined-2 c = search needs
+
+same-length : tie.Need-same-length
+same-length c = search needs
+
+same-length-2 : tie.Need-same-length-2
+same-length-2 c = search needs
+
+same-length-3 : tie.Need-same-length-3
+same-length-3 c = search needs
+
+returns : tie.Need-returns
+returns c = tree-accepted (c .before .before .before .before .before .before .before .before .before .before .before .before .before .before .before .before .before .before .before .before .before .args .table .now) (c .before .before .before .before .before .before .before .before .before .before .before .before .before .before .before .examine .result) (c .before .before .before .before .before .before .before .before .before .before .before .before .before .before .before .examine .ensures .0) _ (c .before .before .before .before .before .before .before .before .before .before .before .before .examined .given .1) (c .before .before .before .before .before .before .before .before .before .before .before .before .before .before .before .before .before .before .before .before .before .args .vid) (c .before .before .before .before .before .before .before .before .before .before .before .before .before .before .before .before .before .before .before .before .before .args .from) (c .before .before .before .before .before .before .before .before .before .before .before .before .before .before .before .before .before .before .before .before .before .args .costs .now) (c .before .before .before .before .before .before .before .before .before .before .before .before .before .before .before .before .before .before .before .before .before .args .hops .now) (c .before .before .before .before .before .before .before .before .before .before .before .before .before .before .before .before .before .before .before .before .before .args .lasts .now) _ (c .before .before .before .before .before .before .tree-in-table .ensures)
+
+returns-2 : tie.Need-returns-2
+returns-2 c = tree-refused (c .before .before .before .before .before .before .before .before .before .before .args .table .now) (c .before .before .before .before .examine .result) (c .before .before .before .before .examine .ensures .0) _ _ _ (c .before .examined2 .given .1) (c .before .before .before .before .before .before .before .before .before .before .args .vid) (c .before .before .before .before .before .before .before .before .before .before .args .from) (c .before .before .before .before .before .before .before .before .before .before .args .costs .now) (c .before .before .before .before .before .before .before .before .before .before .args .hops .now) (c .before .before .before .before .before .before .before .before .before .before .args .lasts .now)
+
+pub tree-spec : {M : Type 1} → statement M
+tree-spec =
+    tie.close
+    (tie.spec
+    slice-aggregate-examine
+    examine-requires
+    enum-known-examined
+    slice-aggregate-tree-in-table
+    tree-in-table-requires
+    enum-known-examined-2
+    same-length
+    same-length-2
+    same-length-3
+    returns
+    returns-2)

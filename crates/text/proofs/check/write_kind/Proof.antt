@@ -1,0 +1,115 @@
+-- `text::check::write_kind` writes the field of each kind. Assumes nothing.
+use mathlib.Core.Path.{sym, ap}
+use Rattle.rule.specs.declared.answer.RecordKind.{RecordKind}
+use Rattle.rule.specs.Answers.{kindNumber}
+use Rattle.text.specs.TextLaws.{written-as}
+use Rattle.text.specs.CheckText.{kindField}
+use borrow.Author.Needs.{needs}
+use native.Mathlib.Omega.{arith}
+use Rattle.text.proofs.check.write_kind.Statement.{statement}
+use Rattle.text.proofs.check.write_kind.Tie as tie
+
+enum-told : tie.Need-enum-told
+enum-told c = search needs
+
+slice-aggregate-write-word : tie.Need-slice-aggregate-write-word
+slice-aggregate-write-word c = search needs
+
+write-word-requires : tie.Need-write-word-requires
+write-word-requires c κs = search needs
+
+enum-told-2 : tie.Need-enum-told-2
+enum-told-2 c = search needs
+
+write-field-requires : tie.Need-write-field-requires
+write-field-requires c κs = search needs
+
+enum-told-3 : tie.Need-enum-told-3
+enum-told-3 c = search needs
+
+write-field-requires-2 : tie.Need-write-field-requires-2
+write-field-requires-2 c κs = search needs
+
+enum-told-4 : tie.Need-enum-told-4
+enum-told-4 c = search needs
+
+write-field-requires-3 : tie.Need-write-field-requires-3
+write-field-requires-3 c κs = search needs
+
+enum-told-5 : tie.Need-enum-told-5
+enum-told-5 c = search needs
+
+write-field-requires-4 : tie.Need-write-field-requires-4
+write-field-requires-4 c κs = search needs
+
+enum-told-6 : tie.Need-enum-told-6
+enum-told-6 c = search needs
+
+write-field-requires-5 : tie.Need-write-field-requires-5
+write-field-requires-5 c κs = search needs
+
+same-length : tie.Need-same-length
+same-length c = search needs
+
+returns : tie.Need-returns
+returns c = (written-as ((c .before .before .write-word .ensures)) _ (sym (ap (λ (k : RecordKind). kindField (kindNumber k)) ((c .before .before .before .before .before .enum-told .given .1)))), omega (arith, (c .before .before .write-word .ensures .next-is)))
+
+same-length-2 : tie.Need-same-length-2
+same-length-2 c = search needs
+
+returns-2 : tie.Need-returns-2
+returns-2 c = (written-as ((c .before .before .write-field .ensures .0)) _ (sym (ap (λ (k : RecordKind). kindField (kindNumber k)) ((c .before .before .before .before .enum-told2 .given .1)))), (c .before .before .write-field .ensures .1))
+
+same-length-3 : tie.Need-same-length-3
+same-length-3 c = search needs
+
+returns-3 : tie.Need-returns-3
+returns-3 c = (written-as ((c .before .before .write-field2 .ensures .0)) _ (sym (ap (λ (k : RecordKind). kindField (kindNumber k)) ((c .before .before .before .before .enum-told3 .given .1)))), (c .before .before .write-field2 .ensures .1))
+
+same-length-4 : tie.Need-same-length-4
+same-length-4 c = search needs
+
+returns-4 : tie.Need-returns-4
+returns-4 c = (written-as ((c .before .before .write-field3 .ensures .0)) _ (sym (ap (λ (k : RecordKind). kindField (kindNumber k)) ((c .before .before .before .before .enum-told4 .given .1)))), (c .before .before .write-field3 .ensures .1))
+
+same-length-5 : tie.Need-same-length-5
+same-length-5 c = search needs
+
+returns-5 : tie.Need-returns-5
+returns-5 c = (written-as ((c .before .before .write-field4 .ensures .0)) _ (sym (ap (λ (k : RecordKind). kindField (kindNumber k)) ((c .before .before .before .before .enum-told5 .given .1)))), (c .before .before .write-field4 .ensures .1))
+
+same-length-6 : tie.Need-same-length-6
+same-length-6 c = search needs
+
+returns-6 : tie.Need-returns-6
+returns-6 c = (written-as ((c .before .before .write-field5 .ensures .0)) _ (sym (ap (λ (k : RecordKind). kindField (kindNumber k)) ((c .before .before .before .before .enum-told6 .given .1)))), (c .before .before .write-field5 .ensures .1))
+
+pub write-kind-spec : {M : Type 1} → statement M
+write-kind-spec =
+    tie.close
+    (tie.spec
+    enum-told
+    slice-aggregate-write-word
+    write-word-requires
+    enum-told-2
+    write-field-requires
+    enum-told-3
+    write-field-requires-2
+    enum-told-4
+    write-field-requires-3
+    enum-told-5
+    write-field-requires-4
+    enum-told-6
+    write-field-requires-5
+    same-length
+    returns
+    same-length-2
+    returns-2
+    same-length-3
+    returns-3
+    same-length-4
+    returns-4
+    same-length-5
+    returns-5
+    same-length-6
+    returns-6)

@@ -1,0 +1,61 @@
+-- `text::digits::write_address` writes the twelve digits from the last to the first. Assumes nothing.
+use Rattle.text.specs.DigitLaws.{Spelling, spelling-starts, spelling-goes-on, spelling-ends, address-written}
+use borrow.Author.Needs.{needs}
+use native.Mathlib.Omega.{arith}
+use mathlib.Core.Path.{refl}
+use Rattle.text.proofs.digits.write_address.Statement.{statement}
+use Rattle.text.proofs.digits.write_address.Tie as tie
+use Rattle.text.proofs.digits.hexadecimal_digit.Reads as hexadecimal-digit-reads
+
+abbrev Inv-loop : tie.InvT-loop
+Inv-loop a out₀ at rest₀ left₀ out rest left = Spelling 16 a 12 out₀ at out rest left
+
+abbrev μ-loop : tie.MeasureT-loop
+μ-loop a out₀ at rest₀ left₀ out rest left = left
+
+loop-holds : tie.Need-loop-holds Inv-loop μ-loop
+loop-holds c = spelling-starts _ _ _ _ _
+
+sub-left : tie.Need-sub-left Inv-loop μ-loop
+sub-left c = search needs
+
+hexadecimal-digit-requires : tie.Need-hexadecimal-digit-requires Inv-loop μ-loop
+hexadecimal-digit-requires c κs = search needs
+
+add-out : tie.Need-add-out Inv-loop μ-loop
+add-out c = search needs
+
+slice-write-out : tie.Need-slice-write-out Inv-loop μ-loop
+slice-write-out c = search needs
+
+loop-less : tie.Need-loop-less Inv-loop μ-loop
+loop-less c = search needs
+
+loop-again : tie.Need-loop-again Inv-loop μ-loop
+loop-again c = spelling-goes-on 16 _ _ _ _ ((c .before .before .before .before .pre)) ((c .before .before .loop .inv)) _ _ _ (omega arith) ((c .hexadecimal-digit .ensures)) refl
+
+add-result : tie.Need-add-result Inv-loop μ-loop
+add-result c = search needs
+
+same-length : tie.Need-same-length Inv-loop μ-loop
+same-length c = (c .before .loop .inv .same-length)
+
+returns : tie.Need-returns Inv-loop μ-loop
+returns c = address-written _ _ (spelling-ends 16 _ _ _ _ ((c .before .loop .inv)) ((c .loop-test .left))) refl
+
+pub write-address-spec : {M : Type 1} → statement M
+write-address-spec =
+    tie.close
+    (tie.spec
+    Inv-loop
+    μ-loop
+    loop-holds
+    sub-left
+    hexadecimal-digit-requires
+    add-out
+    slice-write-out
+    loop-less
+    loop-again
+    add-result
+    same-length
+    returns)

@@ -1,0 +1,29 @@
+-- `text::digits::write_decimal` writes as many digits as the number has places. Assumes nothing.
+use Rattle.text.specs.DigitLaws.{decimal-written}
+use borrow.Author.Needs.{needs}
+use mathlib.Core.Path.{refl}
+use borrow.Author.Needs.{needs}
+use Rattle.text.proofs.digits.write_decimal.Statement.{statement}
+use Rattle.text.proofs.digits.write_decimal.Tie as tie
+use Rattle.text.proofs.digits.decimal_places.Reads as decimal-places-reads
+use Rattle.text.proofs.digits.write_last_digits.Reads as write-last-digits-reads
+
+decimal-places-requires : tie.Need-decimal-places-requires
+decimal-places-requires c κs = search needs
+
+write-last-digits-requires : tie.Need-write-last-digits-requires
+write-last-digits-requires c κs = search needs
+
+add-result : tie.Need-add-result
+add-result c = search needs
+
+same-length : tie.Need-same-length
+same-length c = search needs
+
+returns : tie.Need-returns
+returns c = decimal-written _ _ _ ((c .before .before .before .before .decimal-places .ensures .0)) ((c .before .before .write-last-digits .ensures)) refl
+
+pub write-decimal-spec : {M : Type 1} → statement M
+write-decimal-spec =
+    tie.close
+    (tie.spec decimal-places-requires write-last-digits-requires add-result same-length returns)

@@ -1,0 +1,57 @@
+-- `text::digits::write_last_digits` writes the digits from the last to the first. Assumes nothing.
+use Rattle.text.specs.DigitLaws.{Spelling, spelling-starts, spelling-goes-on, spelling-ends}
+use borrow.Author.Needs.{needs}
+use native.Mathlib.Omega.{arith}
+use mathlib.Core.Path.{refl}
+use Rattle.text.proofs.digits.write_last_digits.Statement.{statement}
+use Rattle.text.proofs.digits.write_last_digits.Tie as tie
+use Rattle.text.proofs.digits.decimal_digit.Reads as decimal-digit-reads
+
+abbrev Inv-loop : tie.InvT-loop
+Inv-loop n count out₀ at rest₀ left₀ out rest left = Spelling 10 n count out₀ at out rest left
+
+abbrev μ-loop : tie.MeasureT-loop
+μ-loop n count out₀ at rest₀ left₀ out rest left = left
+
+loop-holds : tie.Need-loop-holds Inv-loop μ-loop
+loop-holds c = spelling-starts _ _ _ _ _
+
+sub-left : tie.Need-sub-left Inv-loop μ-loop
+sub-left c = search needs
+
+decimal-digit-requires : tie.Need-decimal-digit-requires Inv-loop μ-loop
+decimal-digit-requires c κs = search needs
+
+add-out : tie.Need-add-out Inv-loop μ-loop
+add-out c = search needs
+
+slice-write-out : tie.Need-slice-write-out Inv-loop μ-loop
+slice-write-out c = search needs
+
+loop-less : tie.Need-loop-less Inv-loop μ-loop
+loop-less c = search needs
+
+loop-again : tie.Need-loop-again Inv-loop μ-loop
+loop-again c = spelling-goes-on 10 _ _ _ _ ((c .before .before .before .before .pre)) ((c .before .before .loop .inv)) _ _ _ (omega arith) ((c .decimal-digit .ensures)) refl
+
+same-length : tie.Need-same-length Inv-loop μ-loop
+same-length c = (c .before .loop .inv .same-length)
+
+returns : tie.Need-returns Inv-loop μ-loop
+returns c = spelling-ends 10 _ _ _ _ ((c .before .loop .inv)) ((c .loop-test .left))
+
+pub write-last-digits-spec : {M : Type 1} → statement M
+write-last-digits-spec =
+    tie.close
+    (tie.spec
+    Inv-loop
+    μ-loop
+    loop-holds
+    sub-left
+    decimal-digit-requires
+    add-out
+    slice-write-out
+    loop-less
+    loop-again
+    same-length
+    returns)

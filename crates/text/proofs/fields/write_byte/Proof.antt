@@ -1,0 +1,21 @@
+-- `text::fields::write_byte` writes one byte. Assumes nothing.
+use Rattle.text.specs.TextLaws.{nothing-written, written-byte}
+use borrow.Author.Needs.{needs}
+use native.Mathlib.Omega.{arith}
+use Rattle.text.proofs.fields.write_byte.Statement.{statement}
+use Rattle.text.proofs.fields.write_byte.Tie as tie
+
+slice-write-out : tie.Need-slice-write-out
+slice-write-out c = search needs
+
+add-result : tie.Need-add-result
+add-result c = search needs
+
+same-length : tie.Need-same-length
+same-length c = search needs
+
+returns : tie.Need-returns
+returns c = written-byte (nothing-written _ _) _ (omega (arith, (c .pre)))
+
+pub write-byte-spec : {M : Type 1} → statement M
+write-byte-spec = tie.close (tie.spec slice-write-out add-result same-length returns)

@@ -1,0 +1,61 @@
+-- `text::fields::write_word` copies byte after byte. Assumes nothing.
+use Prim.Native.Nat.{_-_}
+use lib.ListN.{length}
+use Rattle.text.specs.TextLaws.{Copying, copying-starts, copying-goes-on, copying-ends}
+use borrow.Author.Needs.{needs}
+use mathlib.Core.Path.{refl}
+use Rattle.text.proofs.fields.write_word.Statement.{statement}
+use Rattle.text.proofs.fields.write_word.Tie as tie
+
+abbrev Inv-loop : tie.InvT-loop
+Inv-loop word out₀ at i₀ out i = Copying word out₀ at out i
+
+abbrev μ-loop : tie.MeasureT-loop
+μ-loop word out₀ at i₀ out i = length word - i
+
+loop-holds : tie.Need-loop-holds Inv-loop μ-loop
+loop-holds c = copying-starts _ _ _
+
+shared-slice-read-out : tie.Need-shared-slice-read-out Inv-loop μ-loop
+shared-slice-read-out c = search needs
+
+add-out : tie.Need-add-out Inv-loop μ-loop
+add-out c = search needs
+
+slice-write-out : tie.Need-slice-write-out Inv-loop μ-loop
+slice-write-out c = search needs
+
+add-i : tie.Need-add-i Inv-loop μ-loop
+add-i c = search needs
+
+loop-less : tie.Need-loop-less Inv-loop μ-loop
+loop-less c = search needs
+
+loop-again : tie.Need-loop-again Inv-loop μ-loop
+loop-again c = copying-goes-on ((c .before .before .loop .inv)) ((c .before .before .before .pre)) ((c .before .loop-test .taken))
+
+add-result : tie.Need-add-result Inv-loop μ-loop
+add-result c = search needs
+
+same-length : tie.Need-same-length Inv-loop μ-loop
+same-length c = (c .before .loop .inv .same-length)
+
+returns : tie.Need-returns Inv-loop μ-loop
+returns c = copying-ends ((c .before .loop .inv)) _ ((c .loop-test .left)) refl
+
+pub write-word-spec : {M : Type 1} → statement M
+write-word-spec =
+    tie.close
+    (tie.spec
+    Inv-loop
+    μ-loop
+    loop-holds
+    shared-slice-read-out
+    add-out
+    slice-write-out
+    add-i
+    loop-less
+    loop-again
+    add-result
+    same-length
+    returns)

@@ -1,0 +1,53 @@
+-- Numbers, fields and lines as text (01, "Listing program"): bytes of ASCII.
+-- Assumes nothing.
+use Prim.Native.Nat.{ℕ, zero, suc, _+_, _/_, _%_}
+use mathlib.Core.Path.{_≡_}
+use mathlib.Core.List.{List, [], _∷_, _++_, flatMap}
+use mathlib.Core.Bool.{cond}
+use lib.Dec.{ltb}
+use lib.ListN.{length}
+use Rattle.graph.specs.Lists.{spliced}
+
+abbrev pub space : ℕ
+space = 32
+
+abbrev pub newline : ℕ
+newline = 10
+
+-- A digit below 16: `0` to `9`, then `a` to `f`.
+abbrev pub digit : ℕ → ℕ
+digit d = cond (ltb d 10) (48 + d) (87 + d)
+
+-- The last `k` digits of `n` to a base, the highest first.
+unfoldable pub digits : ℕ → ℕ → ℕ → List ℕ
+digits base zero n = []
+digits base (suc k) n = digits base k (n / base) ++ (digit (n % base) ∷ [])
+
+-- How many decimal digits a number has: one, and one more for each time that it can be divided by 10, `more` at most.
+unfoldable pub places : ℕ → ℕ → ℕ
+places zero n = 1
+places (suc more) n = cond (ltb n 10) 1 (suc (places more (n / 10)))
+
+-- "Fields are decimal": a number of 32 bits has 10 digits at most.
+unfoldable pub decimal : ℕ → List ℕ
+decimal n = digits 10 (places 9 n) n
+
+-- "addresses, which have 12 lower-case digits".
+abbrev pub address : ℕ → List ℕ
+address a = digits 16 12 a
+
+abbrev pub field : ℕ → List ℕ
+field n = space ∷ decimal n
+
+-- Fields are separated by single spaces.
+abbrev pub fields : List ℕ → List ℕ
+fields ns = flatMap field ns
+
+-- A line: a word, its fields, the newline.
+abbrev pub line : List ℕ → List ℕ → List ℕ
+line w ns = w ++ (fields ns ++ (newline ∷ []))
+
+-- The text was written from the place `at` on, and `next` is the place after it; every other place is as before.
+pub record WrittenAt (at : ℕ) (before after text : List ℕ) (next : ℕ) : Type 0 where
+  pub next-is : next ≡ at + length text
+  pub contents : after ≡ spliced before at text

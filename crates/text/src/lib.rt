@@ -1,0 +1,4 @@
+// Numbers, fields and lines as text, written into lent bytes (01, "Listing program").
+pub mod check;
+pub mod digits;
+pub mod fields;

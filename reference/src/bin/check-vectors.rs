@@ -1,0 +1,65 @@
+//! The stored case of the program `checking`: the worked example of document 01,
+//! an empty table, the table of one word, and for each refusal number and kind
+//! one damaged table. Holds a folder's `stdin` and `stdout` to it, or
+//! writes them with `--write`.
+
+use std::collections::BTreeMap;
+use std::path::Path;
+use std::process::ExitCode;
+use std::{fs, io};
+
+use reference::arguments::{Arguments, Usage};
+use reference::check::read;
+use reference::check_line::{check_line, framed};
+use reference::generate::damage::{edited_once, over_limit, truncations, words_after_end, Damaged};
+use reference::generate::valid::{plan as seeded_plan, Size};
+use reference::random::Random;
+use reference::rules::Rules;
+use reference::words::{bytes_of, from_text};
+
+const USAGE: Usage =
+    Usage { text: "check-vectors --folder NAME [--write]", values: &["folder"], flags: &["write"] };
+
+fn main() -> io::Result<ExitCode> {
+    let arguments = Arguments::of_process(&USAGE);
+    let folder = Path::new(arguments.required("folder"));
+    let tables = tables();
+    let input: Vec<u8> = tables.iter().flat_map(|table| framed(table)).collect();
+    let lines: String = tables.iter().map(|table| check_line(Rules::AS_WRITTEN, table)).collect();
+    let mut differs = false;
+    for (name, contents) in [("stdin", input), ("stdout", lines.into_bytes())] {
+        let file = folder.join(name);
+        if arguments.has("write") {
+            fs::write(&file, &contents)?;
+        } else if fs::read(&file)? != contents {
+            println!("check-vectors: {} is not what is made here", file.display());
+            differs = true;
+        }
+    }
+    println!("check-vectors: {} tables", tables.len());
+    Ok(if differs { ExitCode::FAILURE } else { ExitCode::SUCCESS })
+}
+
+fn tables() -> Vec<Vec<u8>> {
+    let worked = from_text(include_str!("../../../examples/two-bridges.hex")).expect("hexadecimal text");
+    let plan = read(Rules::AS_WRITTEN, &worked).expect("the worked example is accepted");
+    let mut random = Random::new(1);
+    let mut damaged = edited_once(&plan);
+    damaged.extend(truncations(&plan));
+    damaged.extend((0..9).map(|_| words_after_end(&plan, &mut random)));
+    damaged.extend(edited_once(&seeded_plan(Size { bridges: 3, vids: 2, members: 2 }, &mut random)));
+    damaged.extend(over_limit(&mut random));
+    let mut tables = vec![worked, Vec::new(), bytes_of(&[0xF000_0000])];
+    tables.extend(one_for_each(damaged).into_values().map(|damaged| damaged.table));
+    tables
+}
+
+/// The first of the damaged tables for each refusal number and kind.
+fn one_for_each(damaged: Vec<Damaged>) -> BTreeMap<(u32, u32), Damaged> {
+    let mut each = BTreeMap::new();
+    for table in damaged {
+        let kind = table.refusal.kind.map_or(0, |kind| kind as u32);
+        each.entry((table.refusal.number, kind)).or_insert(table);
+    }
+    each
+}

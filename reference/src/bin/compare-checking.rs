@@ -1,0 +1,155 @@
+//! Compares what the program `checking` says of tables with the reference:
+//! number, kind and word of each refusal, and the five counts. With `--exported`
+//! the program is `exported/exact.c` and gives exported check's number alone.
+//! After the tables of the seed come every truncation and every single-word
+//! damage of several, and with `--longest` every truncation of the longest.
+//! `--misread NAME` compares with a misreading, to show that it is noticed.
+
+use std::io::{self, BufRead, BufReader, Write};
+use std::process::{Child, ChildStdout, Command, ExitCode, Stdio};
+
+use reference::arguments::{Arguments, Usage};
+use reference::check_line::{check_line, framed};
+use reference::comparing::{absent, Difference, Run};
+use reference::generate::every::{every_truncation, every_word_damage};
+use reference::generate::valid::{fullest, plan, Size};
+use reference::path::exported_check;
+use reference::random::Random;
+use reference::rules::Rules;
+use reference::words::to_text;
+
+const USAGE: Usage = Usage {
+    text: "compare-checking --program FILE [--under COMMAND] [--seed N] [--first N] [--count N] [--damaged N] [--longest] [--exported] [--misread NAME] [--require]",
+    values: &["program", "under", "seed", "first", "count", "damaged", "misread"],
+    flags: &["longest", "exported", "require"],
+};
+
+fn main() -> ExitCode {
+    let arguments = Arguments::of_process(&USAGE);
+    let program = arguments.required("program");
+    if let Some(code) = absent(program, arguments.has("require")) {
+        return code;
+    }
+    let run = Run::of(&arguments);
+    let mut checking = match Checking::start(program, &arguments) {
+        Ok(checking) => checking,
+        Err(why) => arguments.refuse(&format!("{program} does not start: {why}")),
+    };
+    let seeded = run.compare("compare-checking", &mut |case| checking.compare(&case.table));
+    if seeded != ExitCode::SUCCESS {
+        return seeded;
+    }
+    let damaged = damage_all(&mut checking, &run, arguments.number("damaged", 8), arguments.has("longest"));
+    match damaged.and_then(|tables| checking.end().map(|()| tables)) {
+        Ok(tables) => {
+            println!("compare-checking: all {tables} truncated and damaged tables agree");
+            ExitCode::SUCCESS
+        }
+        Err(report) => {
+            println!("{report}");
+            ExitCode::FAILURE
+        }
+    }
+}
+
+/// Every truncation and every single-word damage of so many tables of a seed, and
+/// every truncation of the longest where it is asked for; how many tables that
+/// were, or what differs.
+fn damage_all(checking: &mut Checking, run: &Run, count: u64, longest: bool) -> Result<u64, String> {
+    let mut tables = 0;
+    let mut compare = |of: &str, made: &mut dyn Iterator<Item = (String, Vec<u8>)>| {
+        for (name, table) in made {
+            tables += 1;
+            let place = format!("{name} of {of}, seed {}", run.seed);
+            checking.compare(&table).map_err(|difference| report(&place, &table, &difference))?;
+        }
+        Ok::<(), String>(())
+    };
+    for number in 0..count {
+        let mut random = Random::for_case(run.seed, number);
+        let size = Size { bridges: 2 + number as usize, vids: 2, members: 3 };
+        let table = plan(size, &mut random).bytes();
+        compare(&format!("damaged table {number}"), &mut every_truncation(&table))?;
+        compare(&format!("damaged table {number}"), &mut every_word_damage(&table))?;
+    }
+    if longest {
+        let table = fullest(&mut Random::new(run.seed)).bytes();
+        compare("the longest table", &mut every_truncation(&table))?;
+    }
+    Ok(tables)
+}
+
+fn report(place: &str, table: &[u8], difference: &Difference) -> String {
+    let Difference { reference, tried } = difference;
+    format!(
+        "compare-checking: FAILED at {place}\ntable, {} bytes:\n{}reference:\n{reference}\ntried:\n{tried}",
+        table.len(),
+        to_text(table)
+    )
+}
+
+/// The program, asked table by table, and the rules that it is compared with.
+struct Checking {
+    child: Child,
+    lines: BufReader<ChildStdout>,
+    rules: Rules,
+    exported: bool,
+}
+
+impl Checking {
+    /// Starts the program, under another command where one is given.
+    fn start(program: &str, arguments: &Arguments) -> io::Result<Checking> {
+        let mut words: Vec<&str> = arguments.text("under").unwrap_or("").split_whitespace().collect();
+        words.push(program);
+        let mut command = Command::new(words[0]);
+        command.args(&words[1..]).stdin(Stdio::piped()).stdout(Stdio::piped());
+        let mut child = command.spawn()?;
+        let lines = BufReader::new(child.stdout.take().expect("the output is piped"));
+        Ok(Checking { child, lines, rules: arguments.rules(), exported: arguments.has("exported") })
+    }
+
+    fn expected(&self, table: &[u8]) -> String {
+        if self.exported {
+            format!("{}\n", exported_check(self.rules, table))
+        } else {
+            check_line(self.rules, table)
+        }
+    }
+
+    fn compare(&mut self, table: &[u8]) -> Result<(), Difference> {
+        let reference = self.expected(table);
+        let tried = self.ask(table).unwrap_or_else(|why| format!("no answer: {why}"));
+        if tried == reference {
+            return Ok(());
+        }
+        Err(Difference { reference, tried })
+    }
+
+    fn ask(&mut self, table: &[u8]) -> io::Result<String> {
+        let input = self.child.stdin.as_mut().expect("the input is piped");
+        input.write_all(&framed(table))?;
+        input.flush()?;
+        let mut line = String::new();
+        self.lines.read_line(&mut line)?;
+        Ok(line)
+    }
+
+    /// Closes the input and waits: the program is to end with success.
+    fn end(&mut self) -> Result<(), String> {
+        drop(self.child.stdin.take());
+        match self.child.wait() {
+            Ok(status) if status.success() => Ok(()),
+            Ok(status) => Err(format!("compare-checking: FAILED, the program ended with {status}")),
+            Err(why) => Err(format!("compare-checking: FAILED, {why}")),
+        }
+    }
+}
+
+impl Drop for Checking {
+    /// No program is left behind.
+    fn drop(&mut self) {
+        if let Err(why) = self.end() {
+            eprintln!("{why}");
+        }
+    }
+}
