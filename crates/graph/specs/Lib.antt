@@ -8,6 +8,7 @@ pub mod Members
 pub mod ListLaws
 pub mod Searching
 pub mod Splices
+pub mod Appending
 pub mod OrderLaws
 pub mod Notions
 pub mod Ranks

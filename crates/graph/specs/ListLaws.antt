@@ -8,8 +8,8 @@ use mathlib.Core.Option.{Option, none, some}
 use mathlib.Core.Logic.{_⊎_, inl, inr}
 use mathlib.Core.Bool.{Bool, true, false, cond, not, _&&_, _||_}
 use lib.Dec.{T, leb, eqb, leb→le, nleb→lt, eqb→eq, eqb-refl}
-use lib.ListN.{length, getD, getElem?, drop, length-append}
-use lib.Seq.{drop-cons}
+use lib.ListN.{length, getD, getElem?, drop, length-append, length-map}
+use lib.Seq.{drop-cons, ext-getD}
 use Rattle.graph.specs.Lists.{rising, consIf, filter, any, lowerOf, lowestBy}
 use Rattle.graph.specs.Members.{In, Distinct, Pairwise, lastOf, HasPart, total, along, times}
 
@@ -705,3 +705,94 @@ module _ {A B : Type 0} where
 
   pub length-flatMap-most : (f : A → List B) (n : ℕ) (xs : List A) → ((x : A) → In x xs → length (f x) ≤ n) → length (flatMap f xs) ≤ length xs * n
   length-flatMap-most f n xs h = omega (arith, length-flatMap f xs, total-bounded (λ x. length (f x)) n xs h)
+
+-- What lists give, made of other lists
+
+module _ {A B : Type 0} where
+  pub flatMap-append : (f : A → List B) (xs ys : List A) → flatMap f (xs ++ ys) ≡ flatMap f xs ++ flatMap f ys
+  unfolding flatMap
+  flatMap-append f [] ys = refl
+  flatMap-append f (x ∷ xs) ys =
+      ap (λ (t : List B). f x ++ t) (flatMap-append f xs ys) ∙ sym (append-assoc (f x) (flatMap f xs) (flatMap f ys))
+
+  pub flatMap-same : (f g : A → List B) (xs : List A) → ((x : A) → In x xs → f x ≡ g x) → flatMap f xs ≡ flatMap g xs
+  unfolding flatMap
+  flatMap-same f g [] h = refl
+  flatMap-same f g (x ∷ xs) h =
+      ap (λ (t : List B). t ++ flatMap f xs) (h x (inl refl)) ∙ ap (λ (t : List B). g x ++ t) (flatMap-same f g xs (λ y k. h y (inr k)))
+
+  -- Those that pass a test give, the others give nothing.
+  pub flatMap-filter : (f : A → List B) (test : A → Bool) (xs : List A) → flatMap f (filter test xs) ≡ flatMap (λ x. cond (test x) (f x) []) xs
+  unfolding flatMap filter
+  flatMap-filter f test [] = refl
+  flatMap-filter f test (x ∷ xs) = go (test x) ∙ ap (λ (t : List B). cond (test x) (f x) [] ++ t) (flatMap-filter f test xs)
+    where
+      go : (b : Bool) → flatMap f (consIf b x (filter test xs)) ≡ cond b (f x) [] ++ flatMap f (filter test xs)
+      go true = refl
+      go false = refl
+
+  pub flatMap-one : (f : A → B) (xs : List A) → flatMap (λ x. f x ∷ []) xs ≡ map f xs
+  unfolding flatMap
+  flatMap-one f [] = refl
+  flatMap-one f (x ∷ xs) = ap (λ (t : List B). f x ∷ t) (flatMap-one f xs)
+
+module _ {A B C : Type 0} where
+  pub flatMap-map : (f : B → List C) (g : A → B) (xs : List A) → flatMap f (map g xs) ≡ flatMap (λ x. f (g x)) xs
+  unfolding flatMap
+  flatMap-map f g [] = refl
+  flatMap-map f g (x ∷ xs) = ap (λ (t : List C). f (g x) ++ t) (flatMap-map f g xs)
+
+  pub flatMap-flatMap : (f : B → List C) (g : A → List B) (xs : List A) → flatMap f (flatMap g xs) ≡ flatMap (λ x. flatMap f (g x)) xs
+  unfolding flatMap
+  flatMap-flatMap f g [] = refl
+  flatMap-flatMap f g (x ∷ xs) = flatMap-append f (g x) (flatMap g xs) ∙ ap (λ (t : List C). flatMap f (g x) ++ t) (flatMap-flatMap f g xs)
+
+module _ {A : Type 0} where
+  -- A list by its places.
+  pub by-places : (xs : List A) (d : A) → map (λ i. getD xs i d) (rising 0 (length xs)) ≡ xs
+  by-places xs d = ext-getD d (map (λ i. getD xs i d) (rising 0 (length xs))) xs same-length
+      (λ i l. map-at (λ i. getD xs i d) (rising 0 (length xs)) i 0 d (omega (arith, length-map (rising 0 (length xs)) (λ i. getD xs i d)))
+      ∙ ap (λ (k : ℕ). getD xs k d) (rising-at 0 (length xs) i 0 (omega (arith, same-length)) ∙ omega arith))
+    where
+      same-length : length (map (λ i. getD xs i d) (rising 0 (length xs))) ≡ length xs
+      same-length = length-map (rising 0 (length xs)) (λ i. getD xs i d) ∙ length-rising 0 (length xs)
+
+  pub pairwise-filter : (R : A → A → Type 0) (test : A → Bool) (xs : List A) → Pairwise R xs → Pairwise R (filter test xs)
+  unfolding filter
+  pairwise-filter R test [] P = tt
+  pairwise-filter R test (x ∷ xs) P = go (test x) (pairwise-filter R test xs (P .1))
+    where
+      go : (b : Bool) → Pairwise R (filter test xs) → Pairwise R (consIf b x (filter test xs))
+      go true Q = (λ y k. P .0 y (filter-in test y xs k .0), Q)
+      go false Q = Q
+
+-- Lists of rising numbers
+
+pub pairwise-rising : (k n : ℕ) → Pairwise (λ x y. x < y) (rising k n)
+unfolding rising
+pairwise-rising k zero = tt
+pairwise-rising k (suc n) = (λ y i. omega (arith, rising-in (suc k) n y i .0), pairwise-rising (suc k) n)
+
+-- Two lists of rising numbers with the same numbers are equal.
+pub rising-same : (xs ys : List ℕ) → Pairwise (λ x y. x < y) xs → Pairwise (λ x y. x < y) ys → ((a : ℕ) → In a xs → In a ys)
+    → ((a : ℕ) → In a ys → In a xs) → xs ≡ ys
+rising-same [] [] P Q f g = refl
+rising-same [] (y ∷ ys) P Q f g = absurd (g y (inl refl))
+rising-same (x ∷ xs) [] P Q f g = absurd (f x (inl refl))
+rising-same (x ∷ xs) (y ∷ ys) P Q f g =
+    let e : x ≡ y = heads (f x (inl refl)) (g y (inl refl))
+    in ap (λ (k : ℕ). k ∷ xs) e
+    ∙ ap (λ (t : List ℕ). y ∷ t) (rising-same xs ys (P .1) (Q .1) (λ a k. later a k (f a (inr k)) e) (λ a k. earlier a k (g a (inr k)) e))
+  where
+    heads : In x (y ∷ ys) → In y (x ∷ xs) → x ≡ y
+    heads (inl e) k = e
+    heads (inr h) (inl e) = sym e
+    heads (inr h) (inr k) = absurd (omega (arith, Q .0 x h, P .0 y k))
+
+    later : (a : ℕ) → In a xs → In a (y ∷ ys) → x ≡ y → In a ys
+    later a k (inl h) e = absurd (omega (arith, P .0 a k))
+    later a k (inr h) e = h
+
+    earlier : (a : ℕ) → In a ys → In a (x ∷ xs) → x ≡ y → In a xs
+    earlier a k (inl h) e = absurd (omega (arith, Q .0 a k))
+    earlier a k (inr h) e = h

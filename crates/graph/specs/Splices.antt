@@ -5,7 +5,7 @@ use native.Mathlib.Omega.{arith}
 use mathlib.Core.Path.{_≡_, refl, sym, ap, _∙_, subst}
 use mathlib.Core.List.{List, [], _∷_, _++_, append-assoc}
 use lib.ListN.{length, getD, take, drop, set, length-append, length-take, length-drop, take-append-drop}
-use lib.Seq.{length-take-le, take-suc, take-append-le, drop-append-le, drop-append-add, take-append-seam, drop-drop, drop-at, take-at, set-at}
+use lib.Seq.{length-take-le, take-suc, take-append-le, drop-append-le, drop-append-add, take-append-seam, drop-drop, drop-at, take-at, set-at, getD-take, getD-drop}
 use Rattle.graph.specs.Lists.{spliced}
 use Rattle.graph.specs.ListLaws.{drop-next}
 
@@ -76,6 +76,18 @@ module _ {A : Type 0} (xs : List A) (at : ℕ) where
 
       split : i ≡ length (take at xs ++ part) + (i - (at + length part))
       split = omega (arith, length-front part l)
+
+  -- Place by place.
+  pub place-before : (part : List A) (i : ℕ) (d : A) → i < at → at ≤ length xs → getD (spliced xs at part) i d ≡ getD xs i d
+  place-before part i d h l =
+      sym (getD-take at (spliced xs at part) i d h) ∙ ap (λ (t : List A). getD t i d) (before-spliced part 0 at (omega arith) l)
+      ∙ getD-take at xs i d h
+
+  pub place-within : (part : List A) (j : ℕ) (d : A) → j < length part → at ≤ length xs → getD (spliced xs at part) (at + j) d ≡ getD part j d
+  place-within part j d h l =
+      sym (getD-drop at (spliced xs at part) j d)
+      ∙ sym (getD-take (length part) (drop at (spliced xs at part)) j d h)
+      ∙ ap (λ (t : List A). getD t j d) (spliced-part part l)
 
   -- A part written right after another: both are written.
   pub spliced-twice :

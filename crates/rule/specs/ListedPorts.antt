@@ -60,7 +60,7 @@ entered-other c w (x ∷ y ∷ t) d (inr h) g = entered-other c w (y ∷ t) (d .
 
 module _ (hs : List HalfLink) where
   -- "passes this bridge and leaves it there": the port is that of the link that the hop from there takes.
-  leaving-says : (c port : ℕ) (q : List ℕ) → leavingPort hs c q ≡ some port
+  pub leaving-says : (c port : ℕ) (q : List ℕ) → leavingPort hs c q ≡ some port
       → (w : ℕ) × (l : Link) × Leaves c w q × (hopLink hs c w ≡ some l) × (port ≡ l .here .port)
   unfolding leavingPort
   leaving-says c port [] e = absurd (none-not-some e)

@@ -1,0 +1,61 @@
+-- `entries::list::copy` copies word after word. Assumes nothing.
+use native.Mathlib.Omega.{arith}
+use Prim.Native.Nat.{_-_}
+use lib.ListN.{length}
+use Rattle.entries.specs.Whole.{Copying, copying-starts, copying-length, copying-room, copying-goes-on, copying-ends}
+use borrow.Author.Needs.{needs}
+use Rattle.entries.proofs.list.copy.Statement.{statement}
+use Rattle.entries.proofs.list.copy.Tie as tie
+
+abbrev Inv-loop : tie.InvT-loop
+Inv-loop words list₀ i₀ list i = Copying words list₀ list i
+
+abbrev μ-loop : tie.MeasureT-loop
+μ-loop words list₀ i₀ list i = length words - i
+
+loop-holds : tie.Need-loop-holds Inv-loop μ-loop
+loop-holds c = copying-starts _ _ ((c .pre))
+
+mul-list : tie.Need-mul-list Inv-loop μ-loop
+mul-list c = search needs
+
+shared-slice-read-list : tie.Need-shared-slice-read-list Inv-loop μ-loop
+shared-slice-read-list c = search needs
+
+mul-list-2 : tie.Need-mul-list-2 Inv-loop μ-loop
+mul-list-2 c = search needs
+
+slice-write-list : tie.Need-slice-write-list Inv-loop μ-loop
+slice-write-list c = copying-room ((c .before .before .loop .inv)) ((c .before .loop-test .taken))
+
+add-i : tie.Need-add-i Inv-loop μ-loop
+add-i c = search needs
+
+loop-less : tie.Need-loop-less Inv-loop μ-loop
+loop-less c = search needs
+
+loop-again : tie.Need-loop-again Inv-loop μ-loop
+loop-again c = copying-goes-on ((c .before .before .loop .inv)) ((c .before .loop-test .taken))
+
+same-length : tie.Need-same-length Inv-loop μ-loop
+same-length c = copying-length ((c .before .loop .inv))
+
+returns : tie.Need-returns Inv-loop μ-loop
+returns c = copying-ends ((c .before .loop .inv)) ((c .loop-test .left))
+
+pub copy-spec : {M : Type 1} → statement M
+copy-spec =
+    tie.close
+    (tie.spec
+    Inv-loop
+    μ-loop
+    loop-holds
+    mul-list
+    shared-slice-read-list
+    mul-list-2
+    slice-write-list
+    add-i
+    loop-less
+    loop-again
+    same-length
+    returns)

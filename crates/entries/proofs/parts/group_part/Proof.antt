@@ -1,0 +1,54 @@
+-- `entries::parts::group_part` writes the entries member after member. Assumes nothing.
+use native.Mathlib.Omega.{arith}
+use Prim.Native.Nat.{_-_}
+use Rattle.rule.specs.Words.{wordsOf}
+use Rattle.table.specs.Readers.{vidValues}
+use Rattle.graph.specs.Appending.{Appending, appending-starts, appending-room, appending-goes-on, appending-length, appending-ends}
+use Rattle.entries.specs.Parts.{memberPart, groupPart}
+use borrow.Author.Needs.{needs}
+use Rattle.entries.proofs.parts.group_part.Statement.{statement}
+use Rattle.entries.proofs.parts.group_part.Tie as tie
+use Rattle.entries.proofs.parts.member_words.Reads as member-words-reads
+
+abbrev Inv-loop : tie.InvT-loop
+Inv-loop table s rows ports v words₀ at end₀ j₀ words end j = Appending (memberPart (wordsOf table) s rows ports (vidValues v)) (s .members) words₀ at j words end
+
+abbrev μ-loop : tie.MeasureT-loop
+μ-loop table s rows ports v words₀ at end₀ j₀ words end j = s .members - j
+
+loop-holds : tie.Need-loop-holds Inv-loop μ-loop
+unfolding groupPart
+loop-holds c = appending-starts _ _ _ _ ((c .before .before .before .before .pre .1))
+
+member-words-requires : tie.Need-member-words-requires Inv-loop μ-loop
+member-words-requires c κs = (((c .before .before .before .before .before .before .before .before .pre .0 .0), (c .before .before .before .before .before .before .before .before .pre .0 .1), (c .before .before .before .before .before .before .before .before .pre .0 .2), (c .before .before .before .before .before .before .before .before .pre .0 .3), (c .before .before .before .before .before .before .before .before .pre .0 .4), (c .before .if1 .taken)), appending-room ((c .before .before .before .loop .inv)) ((c .before .if1 .taken)))
+
+add-j : tie.Need-add-j Inv-loop μ-loop
+add-j c = search needs
+
+loop-less : tie.Need-loop-less Inv-loop μ-loop
+loop-less c = search needs
+
+loop-again : tie.Need-loop-again Inv-loop μ-loop
+loop-again c = appending-goes-on ((c .before .before .before .before .before .before .loop .inv)) ((c .before .before .before .before .if1 .taken)) ((c .before .before .member-words .ensures))
+
+same-length : tie.Need-same-length Inv-loop μ-loop
+same-length c = appending-length ((c .before .before .loop .inv))
+
+returns : tie.Need-returns Inv-loop μ-loop
+unfolding groupPart
+returns c = appending-ends ((c .before .before .loop .inv)) ((c .if1 .left))
+
+pub group-part-spec : {M : Type 1} → statement M
+group-part-spec =
+    tie.close
+    (tie.spec
+    Inv-loop
+    μ-loop
+    loop-holds
+    member-words-requires
+    add-j
+    loop-less
+    loop-again
+    same-length
+    returns)

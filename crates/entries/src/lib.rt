@@ -1,0 +1,4 @@
+// Filtering entries of a bridge (01, "Entries"): the rows that they need, the parts of its list, and the list of a table.
+pub mod list;
+pub mod needed;
+pub mod parts;

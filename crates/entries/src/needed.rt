@@ -1,0 +1,170 @@
+// The rows that the entries of a bridge need: one tree for each different ECT index and bridge among the bridge itself and the
+// transmitting members.
+use network::records::index_of;
+use ports::rows::keep_row;
+use table::shape::Shape;
+use words::records::member;
+use words::records::vid;
+ghost use Prim.Native.Nat.{_+_, _≤_, _<_};
+ghost use Rattle.rule.specs.Words.{wordsOf};
+ghost use Rattle.ports.specs.Rows.{HasRow, RowsHeld, Kept};
+ghost use Rattle.words.specs.Words.{vidNumber};
+ghost use Rattle.entries.specs.Needed.{Lists, TransmitterRow, OwnRows, MemberRows, RowsReady};
+
+// Keeps the row of the bridge's own paths for the VID number `k`.
+fn keep_own_row(
+    table: &[u8],
+    s: Shape,
+    starts: &[u32],
+    neighbours: &[u32],
+    costs: &[u32],
+    identifiers: &[u64],
+    hops: &[u16],
+    b: usize,
+    k: usize,
+    rows: &mut [u16],
+    count: usize,
+) -> usize
+    requires { ⌜ Lists (now table) s (now starts) (now neighbours) (now costs) (now identifiers) (now hops) b × (k < s .vids) × (count < 80) ⌝ }
+    requires { ⌜ RowsHeld (s .bridges) (now starts) (now neighbours) (now costs) (now identifiers) (now hops) b count (now rows) ⌝ }
+    ensures { λ r. ⌜ RowsHeld (s .bridges) (now (starts .entry)) (now (neighbours .entry)) (now (costs .entry)) (now (identifiers .entry)) (now (hops .entry)) b r (now (rows .exit)) ⌝ }
+    ensures { λ r. ⌜ Kept (now (rows .entry)) (now (rows .exit)) × HasRow (now (rows .exit)) (vidNumber (wordsOf (now (table .entry))) s k .index) b × (r ≤ count + 1) ⌝ }
+{
+    let index = vid(table, s, k).index;
+    keep_row(
+        starts,
+        neighbours,
+        costs,
+        identifiers,
+        hops,
+        s.bridges,
+        b as u32,
+        index,
+        b,
+        rows,
+        count,
+    )
+}
+
+// Keeps the row of the paths from the member number `j`, where it transmits.
+fn keep_member_row(
+    table: &[u8],
+    s: Shape,
+    starts: &[u32],
+    neighbours: &[u32],
+    costs: &[u32],
+    identifiers: &[u64],
+    hops: &[u16],
+    b: usize,
+    j: usize,
+    rows: &mut [u16],
+    count: usize,
+) -> usize
+    requires { ⌜ Lists (now table) s (now starts) (now neighbours) (now costs) (now identifiers) (now hops) b × (j < s .members) × (count < 80) ⌝ }
+    requires { ⌜ RowsHeld (s .bridges) (now starts) (now neighbours) (now costs) (now identifiers) (now hops) b count (now rows) ⌝ }
+    ensures { λ r. ⌜ RowsHeld (s .bridges) (now (starts .entry)) (now (neighbours .entry)) (now (costs .entry)) (now (identifiers .entry)) (now (hops .entry)) b r (now (rows .exit)) ⌝ }
+    ensures { λ r. ⌜ Kept (now (rows .entry)) (now (rows .exit)) × TransmitterRow (now (table .entry)) s (now (rows .exit)) j × (r ≤ count + 1) ⌝ }
+{
+    let m = member(table, s, j);
+    if !m.transmits {
+        return count;
+    }
+    let index = index_of(table, s, m.vid);
+    keep_row(
+        starts,
+        neighbours,
+        costs,
+        identifiers,
+        hops,
+        s.bridges,
+        b as u32,
+        index,
+        m.bridge as usize,
+        rows,
+        count,
+    )
+}
+
+// Keeps the rows of the bridge's own paths, and gives how many are kept.
+fn keep_own_rows(
+    table: &[u8],
+    s: Shape,
+    starts: &[u32],
+    neighbours: &[u32],
+    costs: &[u32],
+    identifiers: &[u64],
+    hops: &[u16],
+    b: usize,
+    rows: &mut [u16],
+) -> usize
+    requires { ⌜ Lists (now table) s (now starts) (now neighbours) (now costs) (now identifiers) (now hops) b ⌝ }
+    requires { ⌜ RowsHeld (s .bridges) (now starts) (now neighbours) (now costs) (now identifiers) (now hops) b 0 (now rows) ⌝ }
+    ensures { λ r. ⌜ RowsHeld (s .bridges) (now (starts .entry)) (now (neighbours .entry)) (now (costs .entry)) (now (identifiers .entry)) (now (hops .entry)) b r (now (rows .exit)) ⌝ }
+    ensures { λ r. ⌜ Kept (now (rows .entry)) (now (rows .exit)) × OwnRows (now (table .entry)) s b (now (rows .exit)) (s .vids) × (r ≤ s .vids) ⌝ }
+{
+    let mut count = 0;
+    let mut k = 0;
+    while k < s.vids {
+        count = keep_own_row(
+            table,
+            s,
+            starts,
+            neighbours,
+            costs,
+            identifiers,
+            hops,
+            b,
+            k,
+            rows,
+            count,
+        );
+        k += 1;
+    }
+    count
+}
+
+// Keeps all rows that the entries of the bridge `b` need.
+pub fn keep_rows(
+    table: &[u8],
+    s: Shape,
+    starts: &[u32],
+    neighbours: &[u32],
+    costs: &[u32],
+    identifiers: &[u64],
+    hops: &[u16],
+    b: usize,
+    rows: &mut [u16],
+)
+    requires { ⌜ Lists (now table) s (now starts) (now neighbours) (now costs) (now identifiers) (now hops) b ⌝ }
+    requires { ⌜ RowsHeld (s .bridges) (now starts) (now neighbours) (now costs) (now identifiers) (now hops) b 0 (now rows) ⌝ }
+    ensures { λ _. ⌜ RowsReady (now (table .entry)) s b (now (rows .exit)) ⌝ }
+{
+    let mut count = keep_own_rows(
+        table,
+        s,
+        starts,
+        neighbours,
+        costs,
+        identifiers,
+        hops,
+        b,
+        rows,
+    );
+    let mut j = 0;
+    while j < s.members {
+        count = keep_member_row(
+            table,
+            s,
+            starts,
+            neighbours,
+            costs,
+            identifiers,
+            hops,
+            b,
+            j,
+            rows,
+            count,
+        );
+        j += 1;
+    }
+}
