@@ -14,6 +14,7 @@ use Rattle.rule.specs.Words.{wordsOf}
 use Rattle.rule.specs.Plan.{Plan, knownBridge}
 use Rattle.rule.specs.PlanLaws.{PlanLaws}
 use Rattle.rule.specs.Outcome.{Outcome, answered, refusedAs, Written, overwritten, lentTo}
+use Rattle.rule.specs.Calls.{planEntries}
 use Rattle.rule.specs.Entries.{entryListOf}
 use Rattle.rule.specs.ListBound.{few-words}
 use Rattle.table.specs.declared.shape.Shape.{Shape}
@@ -33,10 +34,6 @@ use Rattle.entries.specs.Parts.{wholeList, whole-is, front-is}
 -- The answer with these words.
 abbrev pub listAnswer : List ℕ → Outcome (Written ℕ)
 listAnswer words = answered (record { values = length words; words = words })
-
--- What the entries call answers of an accepted plan, whatever list is lent.
-unfoldable pub planEntries : Plan → ℕ → Outcome (Written ℕ)
-planEntries p b = cond (knownBridge p b) (listAnswer (entryListOf p b)) (refusedAs 11)
 
 -- The neighbour lists, with their ports, and the identifiers of the table's plan.
 pub record PlanOf (t : List ℕ) (s : Shape) (starts neighbours costs ports identifiers : List ℕ) : Type 0 where
@@ -145,11 +142,9 @@ module _ (words list : List ℕ) where
 -- A bridge that the table has, and one that it lacks.
 module _ {t links : List ℕ} {s : Shape} (C : Checked t links s) (bridge : ℕ) where
   pub lacks-bridge : s .bridges ≤ bridge → (list : List ℕ) → _≡_ {A = Outcome ℕ × List ℕ} (refusedAs 11, list) (lentTo list (planEntries (planAt (wordsOf t) s) bridge))
-  unfolding planEntries
   lacks-bridge l list = rw (le-ltb bridge (length (planAt (wordsOf t) s .bridges)) (omega (arith, bridges-are (record { whole = C .whole; bounded = C .bounded; laws = C .laws }))))
 
   pub has-bridge : bridge < s .bridges → planEntries (planAt (wordsOf t) s) bridge ≡ listAnswer (entryListOf (planAt (wordsOf t) s) bridge)
-  unfolding planEntries
   has-bridge l = rw (lt-ltb bridge (length (planAt (wordsOf t) s .bridges)) (omega (arith, bridges-are (record { whole = C .whole; bounded = C .bounded; laws = C .laws }))))
 
   -- The list made has at most 14,931 words.
@@ -167,6 +162,5 @@ module _ {t links : List ℕ} {s : Shape} (C : Checked t links s) (bridge : ℕ)
 -- A caller who lends 14,931 words never gets 13.
 pub never-thirteen : (p : Plan) → PlanLaws p → (b : ℕ) → b < length (p .bridges) → (list : List ℕ) → 14931 ≤ length list
     → lentTo list (planEntries p b) ≡ (answered (length (entryListOf p b)), overwritten (entryListOf p b) list)
-unfolding planEntries
 never-thirteen p L b known list l =
     rw (lt-ltb b (length (p .bridges)) known, le-leb (length (entryListOf p b)) (length list) (omega (arith, few-words p L b known))) refl

@@ -18,10 +18,11 @@ ghost use Rattle.graph.specs.Appending.{Appended};
 ghost use Rattle.rule.specs.Words.{wordsOf};
 ghost use Rattle.rule.specs.Outcome.{Outcome, lentTo};
 ghost use Rattle.rule.specs.Answers.{entriesValues};
+ghost use Rattle.rule.specs.Calls.{planEntries};
 ghost use Rattle.rule.specs.Entries.{entryListOf};
 ghost use Rattle.table.specs.Positions.{planAt};
 ghost use Rattle.links.specs.Mates.{Checked};
-ghost use Rattle.entries.specs.Whole.{PlanOf, listAnswer, planEntries};
+ghost use Rattle.entries.specs.Whole.{PlanOf, listAnswer};
 
 // The words of the bridge's list, over the lists of a plan, written to the front of a lent list; gives how many there are.
 pub fn list_over_lists(

@@ -177,8 +177,16 @@ pub fn print_paths() {
     write_words(&FEWER, &mut fewer);
     print_path(b"2 hops into 3 places: ", &fewer, &mut [0u32; 3]);
     print_path(b"2 hops into 2 places: ", &fewer, &mut [0u32; 2]);
-    print_path(b"28.5, 9 15 22 before 7 8 9 10 22: ", &fewer, &mut [0u32; 3]);
+    print_path(
+        b"28.5, 9 15 22 before 7 8 9 10 22: ",
+        &fewer,
+        &mut [0u32; 3],
+    );
     let mut lower = [0u8; 188];
     write_words(&LOWER, &mut lower);
-    print_path(b"28.5, 9 15 22 99 before 9 15 22 100: ", &lower, &mut [0u32; 4]);
+    print_path(
+        b"28.5, 9 15 22 99 before 9 15 22 100: ",
+        &lower,
+        &mut [0u32; 4],
+    );
 }

@@ -9,7 +9,7 @@ use Rattle.rule.specs.Words.{wordsOf}
 use Rattle.rule.specs.Outcome.{Outcome, answered, refused, Written, lentTo}
 use Rattle.rule.specs.Answers.{CostAndHops, kindNumber}
 use Rattle.rule.specs.Check.{verdict}
-use Rattle.rule.specs.Calls.{Place, countsOf, checkOutcome, planPath, pathAnswer, pathOutcome, planPlaces, lentToThree, treeOutcome}
+use Rattle.rule.specs.Calls.{Place, countsOf, checkOutcome, planPath, pathAnswer, pathOutcome, planPlaces, lentToThree, treeOutcome, planEntries, entriesAnswer, entriesOutcome}
 use Rattle.rule.specs.Exported.{checkNumber, exportedCheck, costNumber, exportedPathCost}
 use Rattle.table.specs.declared.shape.Shape.{Shape}
 use Rattle.table.specs.Positions.{planAt}
@@ -56,6 +56,11 @@ module _ (t : List ℕ) (r : Examined) (e : examinedValues (wordsOf t) r ≡ ver
     tree-accepted vid a costs hopCounts lasts o g =
         g ∙ ap (lentToThree costs hopCounts lasts) (asked t r e (λ p. planPlaces p vid a) s f)
 
+    pub entries-accepted : (b : ℕ) (list : List ℕ) (o : Outcome ℕ × List ℕ)
+        → o ≡ lentTo list (planEntries (planAt (wordsOf t) s) b) → o ≡ entriesOutcome t b list
+    unfolding entriesOutcome entriesAnswer
+    entries-accepted b list o g = g ∙ ap (lentTo list) (asked t r e (λ p. planEntries p b) s f)
+
   module _ (number at : ℕ) (kind : RecordKind) (f : r ≡ Examined.Refused number kind at) where
     pub check-refused : refused number (kindNumber kind) at ≡ checkOutcome t
     unfolding checkOutcome
@@ -80,3 +85,8 @@ module _ (t : List ℕ) (r : Examined) (e : examinedValues (wordsOf t) r ≡ ver
     unfolding treeOutcome
     tree-refused vid a costs hopCounts lasts =
         ap (lentToThree costs hopCounts lasts) (not-asked t r e (λ p. planPlaces p vid a) number at kind f)
+
+    pub entries-refused : (b : ℕ) (list : List ℕ)
+        → _≡_ {A = Outcome ℕ × List ℕ} (refused number (kindNumber kind) at, list) (entriesOutcome t b list)
+    unfolding entriesOutcome entriesAnswer
+    entries-refused b list = ap (lentTo list) (not-asked t r e (λ p. planEntries p b) number at kind f)
