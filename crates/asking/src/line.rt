@@ -37,6 +37,7 @@ fn write_given_tree(bridges: u32, out: &mut [u8], at: usize) -> usize
     write_field(bridges, out, after_word)
 }
 
+// The answer of a path.
 fn write_path_answer(answer: PathAnswer, out: &mut [u8], at: usize) -> usize
     requires { ⌜ at + 40 ≤ length (now out) ⌝ }
     ensures { λ r. ⌜ WrittenAt at (now (out .entry)) (now (out .exit)) (pathAnswerText (pathValues answer)) r × (r ≤ at + 40) ⌝ }
@@ -47,6 +48,7 @@ fn write_path_answer(answer: PathAnswer, out: &mut [u8], at: usize) -> usize
     }
 }
 
+// The answer of a tree.
 fn write_tree_answer(answer: TreeAnswer, out: &mut [u8], at: usize) -> usize
     requires { ⌜ at + 40 ≤ length (now out) ⌝ }
     ensures { λ r. ⌜ WrittenAt at (now (out .entry)) (now (out .exit)) (treeAnswerText (treeValues answer)) r × (r ≤ at + 40) ⌝ }

@@ -9,10 +9,10 @@
 // proved. Only reading and writing assume anything: that C's read and write keep their contracts.
 mod lent;
 mod line;
+mod question;
 
-use crate::lent::set_untouched;
-use crate::line::write_path;
-use crate::line::write_tree;
+use crate::question::write_asked_path;
+use crate::question::write_asked_tree;
 use table::words::word_at;
 ghost use Prim.Native.Nat.{_≤_};
 ghost use lib.ListN.{length as List·length};
@@ -29,10 +29,8 @@ fn read_bytes(length: usize, bytes: &mut [u8]) -> bool
 fn answer_path(table: &[u8], vid: u32, from: u32, to: u32, places: usize) -> bool
     requires { ⌜ places ≤ 80 ⌝ }
 {
-    let mut list = [0u32; 80];
-    set_untouched(&mut list);
     let mut line = [0u8; 1024];
-    let written = write_path(table, vid, from, to, &mut list[..places], &mut line);
+    let written = write_asked_path(table, vid, from, to, places, &mut line);
     io::write_all(1, &line[..written])
 }
 
@@ -47,20 +45,14 @@ fn answer_tree(
 ) -> bool
     requires { ⌜ («cost_places» ≤ 80) × («hop_places» ≤ 80) × («last_places» ≤ 80) ⌝ }
 {
-    let mut costs = [0u32; 80];
-    set_untouched(&mut costs);
-    let mut hops = [0u32; 80];
-    set_untouched(&mut hops);
-    let mut lasts = [0u32; 80];
-    set_untouched(&mut lasts);
     let mut line = [0u8; 4096];
-    let written = write_tree(
+    let written = write_asked_tree(
         table,
         vid,
         from,
-        &mut costs[..cost_places],
-        &mut hops[..hop_places],
-        &mut lasts[..last_places],
+        cost_places,
+        hop_places,
+        last_places,
         &mut line,
     );
     io::write_all(1, &line[..written])

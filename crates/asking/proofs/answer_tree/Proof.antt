@@ -1,57 +1,21 @@
--- `asking::answer_tree` lends and writes parts that lie within its arrays. Assumes nothing.
+-- `asking::answer_tree` writes the bytes of the line, which lie within its array. Assumes nothing.
 use borrow.Author.Needs.{needs}
 use lib.ListN.{length-take}
 use native.Mathlib.Omega.{arith}
 use Rattle.asking.proofs.answer_tree.Statement.{statement}
 use Rattle.asking.proofs.answer_tree.Tie as tie
 
-slice-aggregate-set-untouched : tie.Need-slice-aggregate-set-untouched
-slice-aggregate-set-untouched c = search needs
+slice-aggregate-write-asked-tree : tie.Need-slice-aggregate-write-asked-tree
+slice-aggregate-write-asked-tree c = search needs
 
-set-untouched-requires : tie.Need-set-untouched-requires
-set-untouched-requires c κs = search needs
-
-slice-aggregate-set-untouched-2 : tie.Need-slice-aggregate-set-untouched-2
-slice-aggregate-set-untouched-2 c = search needs
-
-set-untouched-requires-2 : tie.Need-set-untouched-requires-2
-set-untouched-requires-2 c κs = search needs
-
-slice-aggregate-set-untouched-3 : tie.Need-slice-aggregate-set-untouched-3
-slice-aggregate-set-untouched-3 c = search needs
-
-set-untouched-requires-3 : tie.Need-set-untouched-requires-3
-set-untouched-requires-3 c κs = search needs
-
-array-borrow-prefix-costs : tie.Need-array-borrow-prefix-costs
-array-borrow-prefix-costs c = search needs
-
-slice-aggregate-write-tree : tie.Need-slice-aggregate-write-tree
-slice-aggregate-write-tree c = simp length-take (omega (arith, (c .before .before .before .before .before .before .before .before .before .before .before .pre .0)))
-
-array-borrow-prefix-hops : tie.Need-array-borrow-prefix-hops
-array-borrow-prefix-hops c = search needs
-
-slice-aggregate-write-tree-2 : tie.Need-slice-aggregate-write-tree-2
-slice-aggregate-write-tree-2 c = simp length-take (omega (arith, (c .before .before .before .before .before .before .before .before .before .before .before .before .pre .1)))
-
-array-borrow-prefix-lasts : tie.Need-array-borrow-prefix-lasts
-array-borrow-prefix-lasts c = search needs
-
-slice-aggregate-write-tree-3 : tie.Need-slice-aggregate-write-tree-3
-slice-aggregate-write-tree-3 c = simp length-take (omega (arith, (c .before .before .before .before .before .before .before .before .before .before .before .before .before .pre .2)))
-
-slice-aggregate-write-tree-4 : tie.Need-slice-aggregate-write-tree-4
-slice-aggregate-write-tree-4 c = search needs
-
-write-tree-requires : tie.Need-write-tree-requires
-write-tree-requires c κs = simp length-take (omega (arith, (c .before .before .before .before .before .before .before .before .before .before .before .before .before .before .pre .0), (c .before .before .before .before .before .before .before .before .before .before .before .before .before .before .pre .1), (c .before .before .before .before .before .before .before .before .before .before .before .before .before .before .pre .2)))
+write-asked-tree-requires : tie.Need-write-asked-tree-requires
+write-asked-tree-requires c κs = search needs
 
 array-share-prefix-line : tie.Need-array-share-prefix-line
 array-share-prefix-line c = search needs
 
 slice-aggregate-write-all : tie.Need-slice-aggregate-write-all
-slice-aggregate-write-all c = simp length-take (omega (arith, (c .before .before .before .before .before .write-tree .ensures .1)))
+slice-aggregate-write-all c = simp length-take (omega (arith, (c .before .before .write-asked-tree .ensures .1)))
 
 write-all-requires : tie.Need-write-all-requires
 write-all-requires c κs = search needs
@@ -63,20 +27,8 @@ pub answer-tree-spec : {M : Type 1} → statement M
 answer-tree-spec =
     tie.close
     (tie.spec
-    slice-aggregate-set-untouched
-    set-untouched-requires
-    slice-aggregate-set-untouched-2
-    set-untouched-requires-2
-    slice-aggregate-set-untouched-3
-    set-untouched-requires-3
-    array-borrow-prefix-costs
-    slice-aggregate-write-tree
-    array-borrow-prefix-hops
-    slice-aggregate-write-tree-2
-    array-borrow-prefix-lasts
-    slice-aggregate-write-tree-3
-    slice-aggregate-write-tree-4
-    write-tree-requires
+    slice-aggregate-write-asked-tree
+    write-asked-tree-requires
     array-share-prefix-line
     slice-aggregate-write-all
     write-all-requires
