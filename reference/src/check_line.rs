@@ -11,14 +11,17 @@ pub fn check_line(rules: Rules, table: &[u8]) -> String {
         Ok(Counts { bridges, half_links, usable_links, vids, members }) => {
             format!("counts {bridges} {half_links} {usable_links} {vids} {members}\n")
         }
-        Err(Refusal { number, kind, word }) => {
-            let kind = kind.map_or("none".to_string(), |kind| (kind as u32).to_string());
-            format!("refused {number} {kind} {word}\n")
-        }
+        Err(refusal) => format!("{}\n", refused(refusal)),
     }
 }
 
-/// A table as `checking` reads it: its length as a word, high byte first, and its bytes.
+/// `refused` with number, kind and word.
+pub fn refused(Refusal { number, kind, word }: Refusal) -> String {
+    let kind = kind.map_or("none".to_string(), |kind| (kind as u32).to_string());
+    format!("refused {number} {kind} {word}")
+}
+
+/// A table as `checking` and `asking` read it: its length as a word, high byte first, and its bytes.
 pub fn framed(table: &[u8]) -> Vec<u8> {
     let mut bytes = (table.len() as u32).to_be_bytes().to_vec();
     bytes.extend(table);

@@ -3,6 +3,7 @@
 
 use std::path::Path;
 use std::process::ExitCode;
+use std::{fs, io};
 
 use crate::arguments::Arguments;
 use crate::generate::stream::{case, Case};
@@ -64,6 +65,22 @@ pub fn absent(program: &str, required: bool) -> Option<ExitCode> {
     }
     println!("not built yet: {program}");
     Some(if required { ExitCode::FAILURE } else { ExitCode::SUCCESS })
+}
+
+/// Holds the stored case of a program, its `stdin` and `stdout`, to what is made
+/// here, or writes it.
+pub fn stored(name: &str, folder: &Path, write: bool, input: &[u8], lines: &str) -> io::Result<ExitCode> {
+    let mut code = ExitCode::SUCCESS;
+    for (file, contents) in [("stdin", input), ("stdout", lines.as_bytes())] {
+        let file = folder.join(file);
+        if write {
+            fs::write(&file, contents)?;
+        } else if fs::read(&file)? != contents {
+            println!("{name}: {} is not what is made here", file.display());
+            code = ExitCode::FAILURE;
+        }
+    }
+    Ok(code)
 }
 
 /// The first line that differs, and a few lines of both texts from there.

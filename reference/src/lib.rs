@@ -6,6 +6,7 @@
 //! and the tests over all of them (`properties`).
 
 pub mod arguments;
+pub mod asking;
 pub mod check;
 pub mod check_line;
 pub mod checked;
@@ -19,6 +20,7 @@ pub mod links;
 pub mod listing;
 pub mod lookup;
 pub mod path;
+pub mod program;
 pub mod properties;
 pub mod random;
 pub mod rank;

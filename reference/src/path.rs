@@ -23,11 +23,19 @@ pub fn path(
     (vid, from, to): (u32, u32, u32),
     lent: &mut [u32],
 ) -> Result<PathAnswer, Refusal> {
-    let checked = Checked::new(rules, table)?;
-    let path = named_path(&checked, vid, from, to)?;
+    path_in(&Checked::new(rules, table)?, (vid, from, to), lent)
+}
+
+/// The path call of a table that was checked.
+pub fn path_in(
+    checked: &Checked,
+    (vid, from, to): (u32, u32, u32),
+    lent: &mut [u32],
+) -> Result<PathAnswer, Refusal> {
+    let path = named_path(checked, vid, from, to)?;
     let bridges: Vec<u32> = path.bridges.iter().map(|&bridge| bridge as u32).collect();
-    lent::write(rules, &bridges, lent)?;
-    Ok(PathAnswer { cost: given_cost(&checked, &path), hops: path.hops() })
+    lent::write(checked.rules, &bridges, lent)?;
+    Ok(PathAnswer { cost: given_cost(checked, &path), hops: path.hops() })
 }
 
 /// The chosen path of a VID between two bridges that a call names: 11, then 12.

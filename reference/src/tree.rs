@@ -21,7 +21,12 @@ pub struct TreeLists<'a> {
 
 /// The number of bridges written to each list.
 pub fn tree(rules: Rules, table: &[u8], vid: u32, bridge: u32, lists: TreeLists) -> Result<usize, Refusal> {
-    let checked = Checked::new(rules, table)?;
+    tree_in(&Checked::new(rules, table)?, vid, bridge, lists)
+}
+
+/// The tree call of a table that was checked.
+pub fn tree_in(checked: &Checked, vid: u32, bridge: u32, lists: TreeLists) -> Result<usize, Refusal> {
+    let rules = checked.rules;
     let index = checked.index_of(vid)?;
     let from = checked.bridge(bridge)?;
     let paths = checked.paths_from(index, from);

@@ -23,11 +23,15 @@ abbrev pub kindField : Option ℕ → List ℕ
 kindField none = noneField
 kindField (some k) = field k
 
+-- `refused` with number, kind and word.
+abbrev pub refusalText : ℕ → Option ℕ → ℕ → List ℕ
+refusalText number kind at = refusedWord ++ (field number ++ (kindField kind ++ field at))
+
 -- The five counts.
 abbrev pub countsFields : Counts → List ℕ
 countsFields c = c .bridges ∷ c .«half_links» ∷ c .«usable_links» ∷ c .vids ∷ c .members ∷ []
 
--- `counts` and the five counts, or `refused` with number, kind and word.
+-- `counts` and the five counts, or the refusal.
 abbrev pub checkText : Outcome Counts → List ℕ
 checkText (answered c) = line countsWord (countsFields c)
-checkText (refused number kind at) = refusedWord ++ (field number ++ (kindField kind ++ (field at ++ (newline ∷ []))))
+checkText (refused number kind at) = refusalText number kind at ++ (newline ∷ [])

@@ -11,7 +11,7 @@ ghost use lib.ListN.{length};
 ghost use Rattle.rule.specs.Outcome.{refused};
 ghost use Rattle.rule.specs.Answers.{kindNumber, checkValues};
 ghost use Rattle.text.specs.Text.{line, WrittenAt};
-ghost use Rattle.text.specs.CheckText.{kindField, countsWord, countsFields, checkText};
+ghost use Rattle.text.specs.CheckText.{kindField, refusalText, countsWord, countsFields, checkText};
 
 // A kind by its number, or `none`.
 fn write_kind(kind: RecordKind, out: &mut [u8], at: usize) -> usize
@@ -38,15 +38,23 @@ fn write_counts(c: Counts, out: &mut [u8], at: usize) -> usize
 }
 
 // `refused` with number, kind and word.
-fn write_refused(number: u32, kind: RecordKind, word: u32, out: &mut [u8], at: usize) -> usize
-    requires { ⌜ at + 41 ≤ length (now out) ⌝ }
-    ensures { λ r. ⌜ WrittenAt at (now (out .entry)) (now (out .exit)) (checkText (refused number (kindNumber kind) word)) r × (r ≤ at + 62) ⌝ }
+pub fn write_refusal(number: u32, kind: RecordKind, word: u32, out: &mut [u8], at: usize) -> usize
+    requires { ⌜ at + 40 ≤ length (now out) ⌝ }
+    ensures { λ r. ⌜ WrittenAt at (now (out .entry)) (now (out .exit)) (refusalText number (kindNumber kind) word) r × (r ≤ at + 40) ⌝ }
 {
     let after_word = write_word(b"refused", out, at);
     let after_number = write_field(number, out, after_word);
     let after_kind = write_kind(kind, out, after_number);
-    let after_all = write_field(word, out, after_kind);
-    write_byte(b'\n', out, after_all)
+    write_field(word, out, after_kind)
+}
+
+// The refusal's line.
+fn write_refused(number: u32, kind: RecordKind, word: u32, out: &mut [u8], at: usize) -> usize
+    requires { ⌜ at + 41 ≤ length (now out) ⌝ }
+    ensures { λ r. ⌜ WrittenAt at (now (out .entry)) (now (out .exit)) (checkText (refused number (kindNumber kind) word)) r × (r ≤ at + 62) ⌝ }
+{
+    let after_refusal = write_refusal(number, kind, word, out, at);
+    write_byte(b'\n', out, after_refusal)
 }
 
 // One line of 62 bytes at most.

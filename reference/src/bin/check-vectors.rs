@@ -4,13 +4,14 @@
 //! writes them with `--write`.
 
 use std::collections::BTreeMap;
+use std::io;
 use std::path::Path;
 use std::process::ExitCode;
-use std::{fs, io};
 
 use reference::arguments::{Arguments, Usage};
 use reference::check::read;
 use reference::check_line::{check_line, framed};
+use reference::comparing::stored;
 use reference::generate::damage::{edited_once, over_limit, truncations, words_after_end, Damaged};
 use reference::generate::valid::{plan as seeded_plan, Size};
 use reference::random::Random;
@@ -26,18 +27,8 @@ fn main() -> io::Result<ExitCode> {
     let tables = tables();
     let input: Vec<u8> = tables.iter().flat_map(|table| framed(table)).collect();
     let lines: String = tables.iter().map(|table| check_line(Rules::AS_WRITTEN, table)).collect();
-    let mut differs = false;
-    for (name, contents) in [("stdin", input), ("stdout", lines.into_bytes())] {
-        let file = folder.join(name);
-        if arguments.has("write") {
-            fs::write(&file, &contents)?;
-        } else if fs::read(&file)? != contents {
-            println!("check-vectors: {} is not what is made here", file.display());
-            differs = true;
-        }
-    }
     println!("check-vectors: {} tables", tables.len());
-    Ok(if differs { ExitCode::FAILURE } else { ExitCode::SUCCESS })
+    stored("check-vectors", folder, arguments.has("write"), &input, &lines)
 }
 
 fn tables() -> Vec<Vec<u8>> {

@@ -5,8 +5,8 @@
 //! damage of several, and with `--longest` every truncation of the longest.
 //! `--misread NAME` compares with a misreading, to show that it is noticed.
 
-use std::io::{self, BufRead, BufReader, Write};
-use std::process::{Child, ChildStdout, Command, ExitCode, Stdio};
+use std::io;
+use std::process::ExitCode;
 
 use reference::arguments::{Arguments, Usage};
 use reference::check_line::{check_line, framed};
@@ -14,6 +14,7 @@ use reference::comparing::{absent, Difference, Run};
 use reference::generate::every::{every_truncation, every_word_damage};
 use reference::generate::valid::{fullest, plan, Size};
 use reference::path::exported_check;
+use reference::program::Program;
 use reference::random::Random;
 use reference::rules::Rules;
 use reference::words::to_text;
@@ -40,7 +41,7 @@ fn main() -> ExitCode {
         return seeded;
     }
     let damaged = damage_all(&mut checking, &run, arguments.number("damaged", 8), arguments.has("longest"));
-    match damaged.and_then(|tables| checking.end().map(|()| tables)) {
+    match damaged.and_then(|tables| checking.program.end().map(|()| tables)) {
         Ok(tables) => {
             println!("compare-checking: all {tables} truncated and damaged tables agree");
             ExitCode::SUCCESS
@@ -90,8 +91,7 @@ fn report(place: &str, table: &[u8], difference: &Difference) -> String {
 
 /// The program, asked table by table, and the rules that it is compared with.
 struct Checking {
-    child: Child,
-    lines: BufReader<ChildStdout>,
+    program: Program,
     rules: Rules,
     exported: bool,
 }
@@ -101,11 +101,8 @@ impl Checking {
     fn start(program: &str, arguments: &Arguments) -> io::Result<Checking> {
         let mut words: Vec<&str> = arguments.text("under").unwrap_or("").split_whitespace().collect();
         words.push(program);
-        let mut command = Command::new(words[0]);
-        command.args(&words[1..]).stdin(Stdio::piped()).stdout(Stdio::piped());
-        let mut child = command.spawn()?;
-        let lines = BufReader::new(child.stdout.take().expect("the output is piped"));
-        Ok(Checking { child, lines, rules: arguments.rules(), exported: arguments.has("exported") })
+        let program = Program::start("compare-checking", &words)?;
+        Ok(Checking { program, rules: arguments.rules(), exported: arguments.has("exported") })
     }
 
     fn expected(&self, table: &[u8]) -> String {
@@ -118,38 +115,11 @@ impl Checking {
 
     fn compare(&mut self, table: &[u8]) -> Result<(), Difference> {
         let reference = self.expected(table);
-        let tried = self.ask(table).unwrap_or_else(|why| format!("no answer: {why}"));
+        let answers = self.program.ask(&framed(table), 1);
+        let tried = answers.map_or_else(|why| format!("no answer: {why}"), |lines| lines.concat());
         if tried == reference {
             return Ok(());
         }
         Err(Difference { reference, tried })
-    }
-
-    fn ask(&mut self, table: &[u8]) -> io::Result<String> {
-        let input = self.child.stdin.as_mut().expect("the input is piped");
-        input.write_all(&framed(table))?;
-        input.flush()?;
-        let mut line = String::new();
-        self.lines.read_line(&mut line)?;
-        Ok(line)
-    }
-
-    /// Closes the input and waits: the program is to end with success.
-    fn end(&mut self) -> Result<(), String> {
-        drop(self.child.stdin.take());
-        match self.child.wait() {
-            Ok(status) if status.success() => Ok(()),
-            Ok(status) => Err(format!("compare-checking: FAILED, the program ended with {status}")),
-            Err(why) => Err(format!("compare-checking: FAILED, {why}")),
-        }
-    }
-}
-
-impl Drop for Checking {
-    /// No program is left behind.
-    fn drop(&mut self) {
-        if let Err(why) = self.end() {
-            eprintln!("{why}");
-        }
     }
 }

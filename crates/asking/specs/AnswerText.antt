@@ -1,0 +1,42 @@
+-- The outcomes of path and tree as lines of text: the answer, and every place of the lent lists after the call. A house form:
+-- docs/DECISIONS.md. Assumes nothing.
+use Prim.Native.Nat.{ℕ, _+_}
+use mathlib.Core.List.{List, [], _∷_, _++_, map}
+use Rattle.graph.specs.Lists.{rising}
+use Rattle.rule.specs.Outcome.{Outcome, answered, refused}
+use Rattle.rule.specs.Answers.{CostAndHops}
+use Rattle.text.specs.Text.{newline, field, fields}
+use Rattle.text.specs.CheckText.{refusalText}
+
+-- `path`
+abbrev pub pathWord : List ℕ
+pathWord = 112 ∷ 97 ∷ 116 ∷ 104 ∷ []
+
+-- `tree`
+abbrev pub treeWord : List ℕ
+treeWord = 116 ∷ 114 ∷ 101 ∷ 101 ∷ []
+
+-- `path` with cost and hops, or the refusal.
+abbrev pub pathAnswerText : Outcome CostAndHops → List ℕ
+pathAnswerText (answered v) = pathWord ++ (field (v .cost) ++ field (v .hops))
+pathAnswerText (refused number kind at) = refusalText number kind at
+
+-- `tree` with the number of bridges, or the refusal.
+abbrev pub treeAnswerText : Outcome ℕ → List ℕ
+treeAnswerText (answered bridges) = treeWord ++ field bridges
+treeAnswerText (refused number kind at) = refusalText number kind at
+
+-- The line of a path.
+abbrev pub pathText : Outcome CostAndHops × List ℕ → List ℕ
+pathText (o, list) = pathAnswerText o ++ (fields list ++ (newline ∷ []))
+
+-- The line of a tree.
+abbrev pub treeText : Outcome ℕ × List ℕ × List ℕ × List ℕ → List ℕ
+treeText (o, costs, hopCounts, lasts) = treeAnswerText o ++ (fields costs ++ (fields hopCounts ++ (fields lasts ++ (newline ∷ []))))
+
+-- What a lent list holds before a call: in each place a number that no call gives, so that what a call leaves alone shows.
+abbrev pub untouchedPlace : ℕ → ℕ
+untouchedPlace place = 4000000000 + place
+
+abbrev pub untouched : ℕ → List ℕ
+untouched places = map untouchedPlace (rising 0 places)
