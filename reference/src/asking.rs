@@ -1,24 +1,26 @@
-//! Questions to the program `asking`: path and tree with their lent lists, as its
-//! input holds them, and the line that it writes for each.
+//! Questions to the program `asking`: path, tree and entries with their lent
+//! lists, as its input holds them, and the line that it writes for each.
 
 use crate::check_line::{framed, refused};
 use crate::checked::Checked;
+use crate::entries::entries_in;
 use crate::path::path_in;
 use crate::refusal::Refusal;
 use crate::rules::Rules;
 use crate::tree::{tree_in, TreeLists};
 
-/// The most places that the program lends.
+/// The most places that the program lends path and tree.
 pub const MOST_PLACES: usize = 80;
 
 #[derive(Clone, Copy, PartialEq, Eq, Debug)]
 pub enum Question {
     Path { vid: u32, from: u32, to: u32, places: usize },
     Tree { vid: u32, from: u32, places: [usize; 3] },
+    Entries { bridge: u32, places: usize },
 }
 
 impl Question {
-    /// Call, VID, from, to, and the places of three lists.
+    /// Call, VID, from or the bridge, to, and the places of three lists.
     fn words(self) -> [u32; 7] {
         match self {
             Question::Path { vid, from, to, places } => [1, vid, from, to, places as u32, 0, 0],
@@ -26,6 +28,7 @@ impl Question {
                 let [costs, hops, lasts] = places.map(|places| places as u32);
                 [2, vid, from, 0, costs, hops, lasts]
             }
+            Question::Entries { bridge, places } => [3, 0, bridge, 0, places as u32, 0, 0],
         }
     }
 }
@@ -60,6 +63,12 @@ fn answer_line(checked: Result<&Checked, &Refusal>, question: Question) -> Strin
             let answer = answer.and_then(|checked| tree_in(checked, vid, from, lists));
             line(answer.map(|bridges| format!("tree {bridges}")), &[&costs, &hops, &before_last])
         }
+        Question::Entries { bridge, places } => {
+            let mut list = untouched(places);
+            let answer = checked.map_err(|&refusal| refusal);
+            let answer = answer.and_then(|checked| entries_in(checked, bridge, &mut list));
+            line(answer.map(|words| format!("entries {words}")), &[&list])
+        }
     }
 }
 
@@ -91,6 +100,9 @@ mod tests {
             Question::Path { vid: 10, from: 2, to: 2, places: 0 },
             Question::Tree { vid: 10, from: 1, places: [2, 3, 2] },
             Question::Tree { vid: 10, from: 1, places: [2, 1, 0] },
+            Question::Entries { bridge: 1, places: 4 },
+            Question::Entries { bridge: 0, places: 1 },
+            Question::Entries { bridge: 2, places: 0 },
         ];
         let lines = [
             "path 12 1 0 1 4000000002\n",
@@ -98,6 +110,9 @@ mod tests {
             "refused 11 none 0\n",
             "tree 2 12 0 1 0 4000000002 1 1\n",
             "refused 13 none 0 4000000000 4000000001 4000000000\n",
+            "entries 3 2148139010 512 1 4000000003\n",
+            "refused 13 none 0 4000000000\n",
+            "refused 11 none 0\n",
         ];
         assert_eq!(answer_lines(Rules::AS_WRITTEN, &worked(), &questions), lines);
         let refused = answer_lines(Rules::AS_WRITTEN, &[0x10, 0, 0, 1], &questions[1..2]);

@@ -16,9 +16,13 @@ pub const GROUP: u32 = 9;
 
 /// Entries (bridge): into a lent list of words; the words written.
 pub fn entries(rules: Rules, table: &[u8], bridge: u32, lent: &mut [u32]) -> Result<usize, Refusal> {
-    let checked = Checked::new(rules, table)?;
-    let words = entry_words(&checked, checked.bridge(bridge)?);
-    lent::write(rules, &words, lent)?;
+    entries_in(&Checked::new(rules, table)?, bridge, lent)
+}
+
+/// The entries call of a table that was checked.
+pub fn entries_in(checked: &Checked, bridge: u32, lent: &mut [u32]) -> Result<usize, Refusal> {
+    let words = entry_words(checked, checked.bridge(bridge)?);
+    lent::write(checked.rules, &words, lent)?;
     Ok(words.len())
 }
 

@@ -1,4 +1,4 @@
--- The outcomes of path and tree as lines of text: the answer, and every place of the lent lists after the call. A house form:
+-- The outcomes of path, tree and entries as lines of text: the answer, and every place of the lent lists after the call. A house form:
 -- docs/DECISIONS.md. Assumes nothing.
 use Prim.Native.Nat.{ℕ, _+_}
 use mathlib.Core.List.{List, [], _∷_, _++_, map}
@@ -16,6 +16,10 @@ pathWord = 112 ∷ 97 ∷ 116 ∷ 104 ∷ []
 abbrev pub treeWord : List ℕ
 treeWord = 116 ∷ 114 ∷ 101 ∷ 101 ∷ []
 
+-- `entries`
+abbrev pub entriesWord : List ℕ
+entriesWord = 101 ∷ 110 ∷ 116 ∷ 114 ∷ 105 ∷ 101 ∷ 115 ∷ []
+
 -- `path` with cost and hops, or the refusal.
 abbrev pub pathAnswerText : Outcome CostAndHops → List ℕ
 pathAnswerText (answered v) = pathWord ++ (field (v .cost) ++ field (v .hops))
@@ -26,6 +30,11 @@ abbrev pub treeAnswerText : Outcome ℕ → List ℕ
 treeAnswerText (answered bridges) = treeWord ++ field bridges
 treeAnswerText (refused number kind at) = refusalText number kind at
 
+-- `entries` with the number of words, or the refusal.
+abbrev pub entriesAnswerText : Outcome ℕ → List ℕ
+entriesAnswerText (answered words) = entriesWord ++ field words
+entriesAnswerText (refused number kind at) = refusalText number kind at
+
 -- The line of a path.
 abbrev pub pathText : Outcome CostAndHops × List ℕ → List ℕ
 pathText (o, list) = pathAnswerText o ++ (fields list ++ (newline ∷ []))
@@ -33,6 +42,10 @@ pathText (o, list) = pathAnswerText o ++ (fields list ++ (newline ∷ []))
 -- The line of a tree.
 abbrev pub treeText : Outcome ℕ × List ℕ × List ℕ × List ℕ → List ℕ
 treeText (o, costs, hopCounts, lasts) = treeAnswerText o ++ (fields costs ++ (fields hopCounts ++ (fields lasts ++ (newline ∷ []))))
+
+-- The line of a bridge's entries.
+abbrev pub entriesText : Outcome ℕ × List ℕ → List ℕ
+entriesText (o, list) = entriesAnswerText o ++ (fields list ++ (newline ∷ []))
 
 -- What a lent list holds before a call: in each place a number that no call gives, so that what a call leaves alone shows.
 abbrev pub untouchedPlace : ℕ → ℕ

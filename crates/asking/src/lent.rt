@@ -6,7 +6,7 @@ ghost use Rattle.asking.specs.AnswerText.{untouched};
 
 // Sets every place to a number that no call gives.
 pub fn set_untouched(list: &mut [u32])
-    requires { ⌜ length (now list) ≤ 80 ⌝ }
+    requires { ⌜ length (now list) ≤ 14932 ⌝ }
     ensures { λ _. ⌜ now (list .exit) ≡ untouched (length (now (list .entry))) ⌝ }
 {
     let mut i = 0;

@@ -1,16 +1,18 @@
-// Asks path and tree of many tables in one run. Standard input holds tables one after the other, each after its length in bytes as a
+// Asks path, tree and entries of many tables in one run. Standard input holds tables one after the other, each after its length in bytes as a
 // word of 32 bits, high byte first. After each table comes the number of its questions as a word, and each question as seven words:
-// 1 for a path or 2 for a tree, VID, from, to, and the numbers of places of three lent lists, of which a path is lent the first.
-// For each question one line is written: `path` with cost and hops, `tree` with the number of bridges, or `refused` with number, kind
-// and word; then every place of the lent lists after the call.
+// 1 for a path, 2 for a tree or 3 for entries, VID, from, to, and the numbers of places of three lent lists, of which a path and
+// entries are lent the first; the bridge of entries stands in from's place. For each question one line is written: `path` with cost
+// and hops, `tree` with the number of bridges, `entries` with the number of words, or `refused` with number, kind and word; then
+// every place of the lent lists after the call.
 //
-// A length above 8,192, a list of more than 80 places, another question, and an input that ends inside a table or a question are
+// A length above 8,192, a list of more than 80 places, of entries of more than 14,932, another question, and an input that ends inside a table or a question are
 // reported on standard error and end the run. The line is proved to be the text of the call's outcome; of the rest only safety is
 // proved. Only reading and writing assume anything: that C's read and write keep their contracts.
 mod lent;
 mod line;
 mod question;
 
+use crate::question::write_asked_entries;
 use crate::question::write_asked_path;
 use crate::question::write_asked_tree;
 use table::words::word_at;
@@ -58,10 +60,35 @@ fn answer_tree(
     io::write_all(1, &line[..written])
 }
 
+// The line of a bridge's entries.
+fn answer_entries(table: &[u8], bridge: u32, places: usize) -> bool
+    requires { ⌜ places ≤ 14932 ⌝ }
+{
+    let mut line = [0u8; 164293];
+    let written = write_asked_entries(table, bridge, places, &mut line);
+    io::write_all(1, &line[..written])
+}
+
+// The entries that seven words ask for.
+fn answer_entries_words(table: &[u8], words: &[u8]) -> bool
+    requires { ⌜ 28 ≤ List·length (now words) ⌝ }
+{
+    let places = word_at(words, 4) as usize;
+    if 14932 < places {
+        io::write_all(2, b"asking: a list of more than 14,932 places\n");
+        return false;
+    }
+    answer_entries(table, word_at(words, 2), places)
+}
+
 // The line of the question that the seven words hold.
 fn answer_words(table: &[u8], words: &[u8]) -> bool
     requires { ⌜ 28 ≤ List·length (now words) ⌝ }
 {
+    let call = word_at(words, 0);
+    if call == 3 {
+        return answer_entries_words(table, words);
+    }
     let first = word_at(words, 4) as usize;
     let second = word_at(words, 5) as usize;
     let third = word_at(words, 6) as usize;
@@ -69,7 +96,6 @@ fn answer_words(table: &[u8], words: &[u8]) -> bool
         io::write_all(2, b"asking: a list of more than 80 places\n");
         return false;
     }
-    let call = word_at(words, 0);
     let vid = word_at(words, 1);
     let from = word_at(words, 2);
     if call == 1 {
@@ -78,7 +104,7 @@ fn answer_words(table: &[u8], words: &[u8]) -> bool
     if call == 2 {
         return answer_tree(table, vid, from, first, second, third);
     }
-    io::write_all(2, b"asking: neither a path nor a tree\n");
+    io::write_all(2, b"asking: neither a path nor a tree nor entries\n");
     false
 }
 

@@ -1,12 +1,13 @@
-// Questions: path and tree into lists of so many untouched places, each as one line.
+// Questions: path, tree and entries into lists of so many untouched places, each as one line.
 use crate::lent::set_untouched;
+use crate::line::write_entries;
 use crate::line::write_path;
 use crate::line::write_tree;
 ghost use Prim.Native.Nat.{_≤_};
 ghost use lib.ListN.{length};
-ghost use Rattle.rule.specs.Calls.{pathOutcome, treeOutcome};
+ghost use Rattle.rule.specs.Calls.{pathOutcome, treeOutcome, entriesOutcome};
 ghost use Rattle.text.specs.Text.{WrittenAt};
-ghost use Rattle.asking.specs.AnswerText.{untouched, pathText, treeText};
+ghost use Rattle.asking.specs.AnswerText.{untouched, pathText, treeText, entriesText};
 
 // The line of a path at the front of the lent bytes, and its length.
 pub fn write_asked_path(
@@ -53,4 +54,14 @@ pub fn write_asked_tree(
         &mut lasts[..last_places],
         out,
     )
+}
+
+// The line of a bridge's entries at the front of the lent bytes, and its length.
+pub fn write_asked_entries(table: &[u8], bridge: u32, places: usize, out: &mut [u8]) -> usize
+    requires { ⌜ (places ≤ 14932) × (164293 ≤ length (now out)) ⌝ }
+    ensures { λ r. ⌜ WrittenAt 0 (now (out .entry)) (now (out .exit)) (entriesText (entriesOutcome (now (table .entry)) bridge (untouched places))) r × (r ≤ length (now (out .entry))) ⌝ }
+{
+    let mut list = [0u32; 14932];
+    set_untouched(&mut list);
+    write_entries(table, bridge, &mut list[..places], out)
 }

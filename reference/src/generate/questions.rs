@@ -3,6 +3,7 @@
 
 use crate::asking::{Question, MOST_PLACES};
 use crate::checked::Checked;
+use crate::entries::{entry_words, LONGEST_LIST};
 use crate::path::named_path;
 use crate::random::Random;
 use crate::rules::Rules;
@@ -15,11 +16,13 @@ pub fn questions(table: &[u8], random: &mut Random) -> Vec<Question> {
             Question::Path { vid: 1, from: 0, to: 1, places: places() },
             Question::Path { vid: 10, from: 0, to: 0, places: places() },
             Question::Tree { vid: 1, from: 0, places: [places(), places(), places()] },
+            Question::Entries { bridge: 0, places: places() },
         ];
     };
     let size = checked.plan.bridges.len();
     let vid = checked.plan.vids.first().map_or(1, |record| u32::from(record.vid));
     let mut questions = unknown_names(vid, size as u32, random);
+    questions.extend(entry_lists(&checked, random));
     if size > 0 && !checked.plan.vids.is_empty() {
         questions.extend(every_length(&checked, random));
         questions.extend(paths(&checked, random));
@@ -68,6 +71,23 @@ fn paths(checked: &Checked, random: &mut Random) -> Vec<Question> {
     questions
 }
 
+/// Entries of every bridge, into lists that hold them or are a word short; of a
+/// large table, of a few bridges; and of a bridge that the table lacks.
+fn entry_lists(checked: &Checked, random: &mut Random) -> Vec<Question> {
+    let size = checked.plan.bridges.len();
+    let step = 1 + size / 12;
+    let mut questions = Vec::new();
+    for bridge in (random.below(step)..size).step_by(step) {
+        let needed = entry_words(checked, bridge).len();
+        let short = usize::from(random.below(6) == 0);
+        let places = (needed + random.below(3)).min(LONGEST_LIST + 1).saturating_sub(short);
+        questions.push(Question::Entries { bridge: bridge as u32, places });
+    }
+    let lacking = *random.pick(&[size as u32, 65_536, u32::MAX]);
+    questions.push(Question::Entries { bridge: lacking, places: random.below(4) });
+    questions
+}
+
 /// Trees into lists that just hold them, of which one is a place short, and any.
 fn trees(checked: &Checked, random: &mut Random) -> Vec<Question> {
     let size = checked.plan.bridges.len();
@@ -99,7 +119,11 @@ mod tests {
             let questions = questions(&table, &mut Random::for_case(2, number));
             let lines = answer_lines(Rules::AS_WRITTEN, &table, &questions);
             for (question, line) in questions.iter().zip(&lines) {
-                let call = if matches!(question, Question::Path { .. }) { "path" } else { "tree" };
+                let call = match question {
+                    Question::Path { .. } => "path",
+                    Question::Tree { .. } => "tree",
+                    Question::Entries { .. } => "entries",
+                };
                 let mut words = line.split_whitespace();
                 let outcome = match words.next() {
                     Some("refused") => words.next().expect("a refusal has its number"),
@@ -115,11 +139,13 @@ mod tests {
     fn every_answer_and_refusal_is_asked_for() {
         let tally = tally(1_000);
         let own = ["path answered", "path 11", "path 12", "path 13", "tree answered", "tree 11", "tree 13"];
-        let of_tables = (1..=10).flat_map(|number| [format!("path {number}"), format!("tree {number}")]);
-        for outcome in own.map(str::to_string).into_iter().chain(of_tables) {
+        let entries = ["entries answered", "entries 11", "entries 13"];
+        let of_tables =
+            (1..=10).flat_map(|number| ["path", "tree", "entries"].map(|call| format!("{call} {number}")));
+        for outcome in own.iter().chain(&entries).map(|own| own.to_string()).chain(of_tables) {
             assert!(tally.get(&outcome).is_some_and(|&count| count >= 3), "{outcome}: {tally:?}");
         }
-        assert!(!tally.contains_key("tree 12"), "{tally:?}");
+        assert!(!tally.contains_key("tree 12") && !tally.contains_key("entries 12"), "{tally:?}");
     }
 
     #[test]
