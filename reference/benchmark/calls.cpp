@@ -2,12 +2,11 @@
 // the library: exported check, the path call, the tree call, and one tree over
 // lists that are made already. All are measured in turn within each round; the
 // median of the rounds is printed.
-#include <chrono>
 #include <cstdio>
-#include <functional>
 
 #include "../../include/spb.h"
 #include "table.hpp"
+#include "timing.hpp"
 
 // crates/measured
 extern "C" std::uint32_t measured_path(const std::uint8_t *table, std::size_t len, std::uint32_t vid, std::uint32_t from,
@@ -24,19 +23,14 @@ std::uint64_t sum; // Keeps the results in use.
 
 // Microseconds for one call, over a call for each bridge, repeated.
 double time_calls(std::size_t bridges, const std::function<void(std::size_t)> &call) {
-    const auto start = std::chrono::steady_clock::now();
-    for (int repeat = 0; repeat < repeats; repeat++) {
-        for (std::size_t bridge = 0; bridge < bridges; bridge++) {
-            call(bridge);
+    const double time = microseconds([&] {
+        for (int repeat = 0; repeat < repeats; repeat++) {
+            for (std::size_t bridge = 0; bridge < bridges; bridge++) {
+                call(bridge);
+            }
         }
-    }
-    const std::chrono::duration<double, std::micro> time = std::chrono::steady_clock::now() - start;
-    return time.count() / double(repeats * bridges);
-}
-
-double median(std::vector<double> times) {
-    std::sort(times.begin(), times.end());
-    return times[times.size() / 2];
+    });
+    return time / double(repeats * bridges);
 }
 
 // Microseconds for each of the calls, in the order of `columns`.
@@ -103,9 +97,7 @@ int main(int count, char **files) {
     std::printf("\n");
     for (int place = 1; place < count; place++) {
         std::ifstream input(files[place], std::ios::binary);
-        const std::string file = files[place];
-        const std::size_t slash = file.find_last_of('/') + 1;
-        measure(file.substr(slash, file.find_last_of('-') - slash), read_table(input));
+        measure(shape_of(files[place]), read_table(input));
     }
     std::fprintf(stderr, "sum of results %llu\n", static_cast<unsigned long long>(sum));
     return 0;

@@ -1,6 +1,6 @@
 // What the yardsticks read of a table that is known to be valid: the number of
-// bridges, the VIDs, and for each joined pair the cost of its hop. Written for
-// the measurements alone; nothing is checked here.
+// bridges, the VIDs with their ECT indexes, the members, and for each joined pair
+// the cost of its hop. Written for the measurements alone; nothing is checked here.
 #pragma once
 
 #include <algorithm>
@@ -22,10 +22,18 @@ struct Hop {
 
 using Graph = boost::compressed_sparse_row_graph<boost::directedS, boost::no_property, Hop>;
 
+struct Member {
+    bool transmits;
+    std::size_t bridge;
+    std::uint32_t vid;
+};
+
 struct Table {
     std::vector<std::uint8_t> bytes;
     std::size_t bridges = 0;
     std::vector<std::uint32_t> vids;
+    std::map<std::uint32_t, std::uint32_t> indexes; // by VID
+    std::vector<Member> members;
     std::map<std::pair<std::size_t, std::size_t>, std::uint32_t> hops;
 };
 
@@ -41,6 +49,18 @@ inline void read_half_link(Table &table, std::size_t word) {
     const std::uint32_t ends = word_at(table.bytes, word + 1);
     const auto place = table.hops.emplace(std::make_pair(ends >> 16, ends & 0xFFFF), metric).first;
     place->second = std::min(place->second, metric);
+}
+
+inline void read_vid(Table &table, std::size_t word) {
+    const std::uint32_t first = word_at(table.bytes, word);
+    table.vids.push_back(first >> 16 & 0xFFF);
+    table.indexes.emplace(first >> 16 & 0xFFF, first & 0xFFFF);
+}
+
+inline void read_member(Table &table, std::size_t word) {
+    const std::uint32_t second = word_at(table.bytes, word + 1);
+    const bool transmits = word_at(table.bytes, word) >> 25 & 1;
+    table.members.push_back({transmits, second >> 16, second & 0xFFFF});
 }
 
 inline Table read_table(std::istream &input) {
@@ -61,10 +81,18 @@ inline Table read_table(std::istream &input) {
         } else if (kind == 2) {
             read_half_link(table, word);
         } else if (kind == 3) {
-            table.vids.push_back(first >> 16 & 0xFFF);
+            read_vid(table, word);
+        } else {
+            read_member(table, word);
         }
         word += words[kind];
     }
+}
+
+// The shape in the name of a file FOLDER/SHAPE-BRIDGES.table.
+inline std::string shape_of(const std::string &file) {
+    const std::size_t slash = file.find_last_of('/') + 1;
+    return file.substr(slash, file.find_last_of('-') - slash);
 }
 
 inline Graph graph_of(const Table &table) {

@@ -43,6 +43,7 @@ pub fn list_over_lists(
     hop_ports(starts, neighbours, ports, s.bridges, b, &mut hops);
     let mut rises = [0u16; 64];
     let count = rising_ports(&hops, s.bridges, &mut rises);
+    let mut path_ids = [0u64; 4096];
     let mut rows = [0u16; 6144];
     keep_rows(
         table,
@@ -53,6 +54,7 @@ pub fn list_over_lists(
         identifiers,
         &hops,
         b,
+        &mut path_ids,
         &mut rows,
     );
     whole_list(table, s, &rows, &rises[..count], b, words)

@@ -6,6 +6,7 @@ use table::shape::Shape;
 use words::records::member;
 use words::records::vid;
 ghost use Prim.Native.Nat.{_+_, _≤_, _<_};
+ghost use lib.ListN.{length};
 ghost use Rattle.rule.specs.Words.{wordsOf};
 ghost use Rattle.ports.specs.Rows.{HasRow, RowsHeld, Kept};
 ghost use Rattle.words.specs.Words.{vidNumber};
@@ -22,10 +23,11 @@ fn keep_own_row(
     hops: &[u16],
     b: usize,
     k: usize,
+    path_ids: &mut [u64],
     rows: &mut [u16],
     count: usize,
 ) -> usize
-    requires { ⌜ Lists (now table) s (now starts) (now neighbours) (now costs) (now identifiers) (now hops) b × (k < s .vids) × (count < 80) ⌝ }
+    requires { ⌜ Lists (now table) s (now starts) (now neighbours) (now costs) (now identifiers) (now hops) b × (k < s .vids) × (count < 80) × (4096 ≤ length (now «path_ids»)) ⌝ }
     requires { ⌜ RowsHeld (s .bridges) (now starts) (now neighbours) (now costs) (now identifiers) (now hops) b count (now rows) ⌝ }
     ensures { λ r. ⌜ RowsHeld (s .bridges) (now (starts .entry)) (now (neighbours .entry)) (now (costs .entry)) (now (identifiers .entry)) (now (hops .entry)) b r (now (rows .exit)) ⌝ }
     ensures { λ r. ⌜ Kept (now (rows .entry)) (now (rows .exit)) × HasRow (now (rows .exit)) (vidNumber (wordsOf (now (table .entry))) s k .index) b × (r ≤ count + 1) ⌝ }
@@ -41,6 +43,7 @@ fn keep_own_row(
         b as u32,
         index,
         b,
+        path_ids,
         rows,
         count,
     )
@@ -57,10 +60,11 @@ fn keep_member_row(
     hops: &[u16],
     b: usize,
     j: usize,
+    path_ids: &mut [u64],
     rows: &mut [u16],
     count: usize,
 ) -> usize
-    requires { ⌜ Lists (now table) s (now starts) (now neighbours) (now costs) (now identifiers) (now hops) b × (j < s .members) × (count < 80) ⌝ }
+    requires { ⌜ Lists (now table) s (now starts) (now neighbours) (now costs) (now identifiers) (now hops) b × (j < s .members) × (count < 80) × (4096 ≤ length (now «path_ids»)) ⌝ }
     requires { ⌜ RowsHeld (s .bridges) (now starts) (now neighbours) (now costs) (now identifiers) (now hops) b count (now rows) ⌝ }
     ensures { λ r. ⌜ RowsHeld (s .bridges) (now (starts .entry)) (now (neighbours .entry)) (now (costs .entry)) (now (identifiers .entry)) (now (hops .entry)) b r (now (rows .exit)) ⌝ }
     ensures { λ r. ⌜ Kept (now (rows .entry)) (now (rows .exit)) × TransmitterRow (now (table .entry)) s (now (rows .exit)) j × (r ≤ count + 1) ⌝ }
@@ -80,6 +84,7 @@ fn keep_member_row(
         b as u32,
         index,
         m.bridge as usize,
+        path_ids,
         rows,
         count,
     )
@@ -95,9 +100,10 @@ fn keep_own_rows(
     identifiers: &[u64],
     hops: &[u16],
     b: usize,
+    path_ids: &mut [u64],
     rows: &mut [u16],
 ) -> usize
-    requires { ⌜ Lists (now table) s (now starts) (now neighbours) (now costs) (now identifiers) (now hops) b ⌝ }
+    requires { ⌜ Lists (now table) s (now starts) (now neighbours) (now costs) (now identifiers) (now hops) b × (4096 ≤ length (now «path_ids»)) ⌝ }
     requires { ⌜ RowsHeld (s .bridges) (now starts) (now neighbours) (now costs) (now identifiers) (now hops) b 0 (now rows) ⌝ }
     ensures { λ r. ⌜ RowsHeld (s .bridges) (now (starts .entry)) (now (neighbours .entry)) (now (costs .entry)) (now (identifiers .entry)) (now (hops .entry)) b r (now (rows .exit)) ⌝ }
     ensures { λ r. ⌜ Kept (now (rows .entry)) (now (rows .exit)) × OwnRows (now (table .entry)) s b (now (rows .exit)) (s .vids) × (r ≤ s .vids) ⌝ }
@@ -115,6 +121,7 @@ fn keep_own_rows(
             hops,
             b,
             k,
+            path_ids,
             rows,
             count,
         );
@@ -133,9 +140,10 @@ pub fn keep_rows(
     identifiers: &[u64],
     hops: &[u16],
     b: usize,
+    path_ids: &mut [u64],
     rows: &mut [u16],
 )
-    requires { ⌜ Lists (now table) s (now starts) (now neighbours) (now costs) (now identifiers) (now hops) b ⌝ }
+    requires { ⌜ Lists (now table) s (now starts) (now neighbours) (now costs) (now identifiers) (now hops) b × (4096 ≤ length (now «path_ids»)) ⌝ }
     requires { ⌜ RowsHeld (s .bridges) (now starts) (now neighbours) (now costs) (now identifiers) (now hops) b 0 (now rows) ⌝ }
     ensures { λ _. ⌜ RowsReady (now (table .entry)) s b (now (rows .exit)) ⌝ }
 {
@@ -148,6 +156,7 @@ pub fn keep_rows(
         identifiers,
         hops,
         b,
+        path_ids,
         rows,
     );
     let mut j = 0;
@@ -162,6 +171,7 @@ pub fn keep_rows(
             hops,
             b,
             j,
+            path_ids,
             rows,
             count,
         );

@@ -1,9 +1,11 @@
-// The path call, the tree call and the search for trees alone, as functions for the benchmark.
+// The path call, the tree call, the entries call and the search for trees alone, as functions for the benchmark.
 use links::neighbours::neighbours_of;
 use network::plan_tree::tree_over_lists;
 use network::records::write_identifiers;
+use rule::answer::EntriesAnswer;
 use rule::answer::PathAnswer;
 use rule::answer::TreeAnswer;
+use spb::entry_lists::entries;
 use spb::paths::path;
 use spb::trees::tree;
 use table::shape::Shape;
@@ -37,6 +39,20 @@ pub extern "C" fn measured_tree(table: &[u8], vid: u32, from: u32) -> u32 {
     match tree(table, vid, from, &mut costs, &mut hops, &mut lasts) {
         TreeAnswer::Given { bridges } => bridges,
         TreeAnswer::Refused {
+            number,
+            kind: _,
+            word: _,
+        } => number,
+    }
+}
+
+// One entries call, into a list as long as any: the number of words written, or the refusal number.
+#[no_mangle]
+pub extern "C" fn measured_entries(table: &[u8], bridge: u32) -> u32 {
+    let mut list = [0u32; 14931];
+    match entries(table, bridge, &mut list) {
+        EntriesAnswer::Written { words } => words,
+        EntriesAnswer::Refused {
             number,
             kind: _,
             word: _,

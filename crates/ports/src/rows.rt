@@ -8,7 +8,7 @@ ghost use Rattle.network.specs.PlanLists.{Listed};
 ghost use Rattle.ports.specs.Rows.{rowAt, HasRow, RowsHeld, Kept};
 
 // Keeps the row of the chosen paths from the bridge `a` for an ECT index, where it is not kept yet; `count` rows are kept. Gives how
-// many are kept then.
+// many are kept then. The list of the search is lent, so that a caller of many rows makes it once.
 pub fn keep_row(
     starts: &[u32],
     neighbours: &[u32],
@@ -19,10 +19,11 @@ pub fn keep_row(
     b: u32,
     index: u32,
     a: usize,
+    path_ids: &mut [u64],
     rows: &mut [u16],
     count: usize,
 ) -> usize
-    requires { ⌜ Listed n (now starts) (now neighbours) (now costs) (now identifiers) × (length (now identifiers) ≤ 64) × (64 ≤ length (now hops)) ⌝ }
+    requires { ⌜ Listed n (now starts) (now neighbours) (now costs) (now identifiers) × (length (now identifiers) ≤ 64) × (64 ≤ length (now hops)) × (4096 ≤ length (now «path_ids»)) ⌝ }
     requires { ⌜ (1 ≤ index) × (index ≤ 16) × (a < n) × (count < 80) × RowsHeld n (now starts) (now neighbours) (now costs) (now identifiers) (now hops) b count (now rows) ⌝ }
     ensures { λ r. ⌜ RowsHeld n (now (starts .entry)) (now (neighbours .entry)) (now (costs .entry)) (now (identifiers .entry)) (now (hops .entry)) b r (now (rows .exit)) ⌝ }
     ensures { λ r. ⌜ Kept (now (rows .entry)) (now (rows .exit)) × HasRow (now (rows .exit)) index a × (r ≤ count + 1) ⌝ }
@@ -32,7 +33,6 @@ pub fn keep_row(
         return count;
     }
     let mut labels = [0u32; 320];
-    let mut path_ids = [0u64; 4096];
     tree_over_lists(
         starts,
         neighbours,
@@ -40,7 +40,7 @@ pub fn keep_row(
         identifiers,
         index,
         &mut labels,
-        &mut path_ids,
+        path_ids,
         n,
         a,
     );

@@ -1,5 +1,6 @@
-//! Writes generated tables to files: the cases of a seed, or with `--shape` one
-//! full network of that shape and number of bridges.
+//! Writes generated tables to files: the cases of a seed, with `--shape` one full
+//! network of that shape and number of bridges, or with `--longest-list` the star
+//! whose middle bridge has the longest entry list.
 
 use std::fs;
 use std::io;
@@ -9,19 +10,23 @@ use reference::arguments::{Arguments, Usage};
 use reference::comparing::Run;
 use reference::generate::shapes::Shape;
 use reference::generate::stream::case;
-use reference::generate::valid::fullest_of_shape;
+use reference::generate::valid::{fullest_of_shape, longest_star};
 use reference::random::Random;
+use reference::records::Plan;
 
 const USAGE: Usage = Usage {
-    text: "table-generator --folder NAME [--seed N] [--first N] [--count N] [--shape NAME --bridges N]",
+    text: "table-generator --folder NAME [--seed N] [--first N] [--count N] [--shape NAME --bridges N | --longest-list]",
     values: &["folder", "seed", "first", "count", "shape", "bridges"],
-    flags: &[],
+    flags: &["longest-list"],
 };
 
 fn main() -> io::Result<()> {
     let arguments = Arguments::of_process(&USAGE);
     let folder = Path::new(arguments.required("folder"));
     fs::create_dir_all(folder)?;
+    if arguments.has("longest-list") {
+        return write_table(&folder.join("star-64.table"), &longest_star());
+    }
     match arguments.text("shape") {
         Some(name) => write_shape(&arguments, folder, name),
         None => write_cases(&Run::of(&arguments), folder),
@@ -37,8 +42,11 @@ fn write_shape(arguments: &Arguments, folder: &Path, name: &str) -> io::Result<(
     }
     let mut random = Random::new(arguments.number("seed", 1));
     let plan = fullest_of_shape(shape, bridges as usize, &mut random);
-    let file = folder.join(format!("{name}-{bridges}.table"));
-    fs::write(&file, plan.bytes())?;
+    write_table(&folder.join(format!("{name}-{bridges}.table")), &plan)
+}
+
+fn write_table(file: &Path, plan: &Plan) -> io::Result<()> {
+    fs::write(file, plan.bytes())?;
     println!("{}", file.display());
     Ok(())
 }

@@ -1,17 +1,13 @@
 -- `entries::list::list_over_lists` lists the ports, keeps the rows and writes the parts. Assumes nothing.
+use borrow.Author.Needs.{needs}
 use native.Mathlib.Omega.{arith}
 use lib.ListN.{length-take, getD-replicate}
 use Prim.Native.Nat.{ℕ}
 use Rattle.ports.specs.Rows.{no-rows}
 use Rattle.entries.specs.Needed.{few-bridges}
 use Rattle.entries.specs.Whole.{hop-lists-of, in-range, lists-of, whole-room, whole-written}
-use borrow.Author.Needs.{needs}
 use Rattle.entries.proofs.list.list_over_lists.Statement.{statement}
 use Rattle.entries.proofs.list.list_over_lists.Tie as tie
-use Rattle.entries.proofs.needed.keep_rows.Reads as keep-rows-reads
-use Rattle.entries.proofs.parts.whole_list.Reads as whole-list-reads
-use Rattle.ports.proofs.hops.hop_ports.Reads as hop-ports-reads
-use Rattle.ports.proofs.hops.rising_ports.Reads as rising-ports-reads
 
 slice-aggregate-hop-ports : tie.Need-slice-aggregate-hop-ports
 slice-aggregate-hop-ports c = search needs
@@ -34,8 +30,11 @@ slice-aggregate-keep-rows c = search needs
 slice-aggregate-keep-rows-2 : tie.Need-slice-aggregate-keep-rows-2
 slice-aggregate-keep-rows-2 c = search needs
 
+slice-aggregate-keep-rows-3 : tie.Need-slice-aggregate-keep-rows-3
+slice-aggregate-keep-rows-3 c = search needs
+
 keep-rows-requires : tie.Need-keep-rows-requires
-keep-rows-requires c κs = (lists-of ((c .before .before .before .before .before .before .before .before .before .before .before .before .before .before .before .before .pre .0)) ((c .before .before .before .before .before .before .before .before .before .before .before .before .before .before .before .before .args .b)) ((c .before .before .before .before .before .before .before .before .before .before .before .before .before .before .before .before .pre .1)) ((c .before .before .before .before .before .before .before .hop-ports .ensures)) (omega arith), no-rows _ _ _ _ _ _ _ _ (omega arith) (few-bridges ((c .before .before .before .before .before .before .before .before .before .before .before .before .before .before .before .before .pre .0 .readable))) (λ i l. getD-replicate {A = ℕ} 6144 i 0 0 (omega arith)))
+keep-rows-requires c κs = ((lists-of ((c .before .before .before .before .before .before .before .before .before .before .before .before .before .before .before .before .before .pre .0)) ((c .before .before .before .before .before .before .before .before .before .before .before .before .before .before .before .before .before .args .b)) ((c .before .before .before .before .before .before .before .before .before .before .before .before .before .before .before .before .before .pre .1)) ((c .before .before .before .before .before .before .before .before .hop-ports .ensures)) (omega arith), search needs), no-rows _ _ _ _ _ _ _ _ (omega arith) (few-bridges ((c .before .before .before .before .before .before .before .before .before .before .before .before .before .before .before .before .before .pre .0 .readable))) (λ i l. getD-replicate {A = ℕ} 6144 i 0 0 (omega arith)))
 
 slice-aggregate-whole-list : tie.Need-slice-aggregate-whole-list
 slice-aggregate-whole-list c = search needs
@@ -44,16 +43,16 @@ array-share-prefix-rises : tie.Need-array-share-prefix-rises
 array-share-prefix-rises c = search needs
 
 slice-aggregate-whole-list-2 : tie.Need-slice-aggregate-whole-list-2
-slice-aggregate-whole-list-2 c = simp length-take (omega (arith, c .before .before .before .before .before .before .before .rising-ports .ensures .1))
+slice-aggregate-whole-list-2 c = simp length-take (omega (arith, (c .before .before .before .before .before .before .before .before .before .rising-ports .ensures .1)))
 
 whole-list-requires : tie.Need-whole-list-requires
-whole-list-requires c κs = (((c .before .before .before .before .before .before .before .before .before .before .before .before .before .before .before .before .before .before .before .before .before .pre .0 .readable), (c .before .before .before .before .keep-rows .ensures .places), (c .before .before .before .before .before .before .before .before .before .before .before .before .before .before .before .before .before .before .before .before .before .pre .1)), whole-room ((c .before .before .before .before .before .before .before .before .before .before .before .before .before .before .before .before .before .before .before .before .before .pre .0)) ((c .before .before .before .before .before .before .before .before .before .before .before .before .before .before .before .before .before .before .before .before .before .args .b)) ((c .before .before .before .before .before .before .before .before .before .before .before .before .before .before .before .before .before .before .before .before .before .pre .1)) ((c .before .before .before .before .before .before .before .before .before .before .before .before .hop-ports .ensures)) ((c .before .before .before .before .before .before .before .before .rising-ports .ensures .0)) ((c .before .before .before .before .keep-rows .ensures)) ((c .before .before .before .before .before .before .before .before .before .before .before .before .before .before .before .before .before .before .before .before .before .args .words .now)) ((c .before .before .before .before .before .before .before .before .before .before .before .before .before .before .before .before .before .before .before .before .before .pre .2)))
+whole-list-requires c κs = (((c .before .before .before .before .before .before .before .before .before .before .before .before .before .before .before .before .before .before .before .before .before .before .before .pre .0 .readable), (c .before .before .before .before .before .keep-rows .ensures .places), (c .before .before .before .before .before .before .before .before .before .before .before .before .before .before .before .before .before .before .before .before .before .before .before .pre .1)), whole-room ((c .before .before .before .before .before .before .before .before .before .before .before .before .before .before .before .before .before .before .before .before .before .before .before .pre .0)) ((c .before .before .before .before .before .before .before .before .before .before .before .before .before .before .before .before .before .before .before .before .before .before .before .args .b)) ((c .before .before .before .before .before .before .before .before .before .before .before .before .before .before .before .before .before .before .before .before .before .before .before .pre .1)) ((c .before .before .before .before .before .before .before .before .before .before .before .before .before .before .hop-ports .ensures)) ((c .before .before .before .before .before .before .before .before .before .before .rising-ports .ensures .0)) ((c .before .before .before .before .before .keep-rows .ensures)) ((c .before .before .before .before .before .before .before .before .before .before .before .before .before .before .before .before .before .before .before .before .before .before .before .args .words .now)) ((c .before .before .before .before .before .before .before .before .before .before .before .before .before .before .before .before .before .before .before .before .before .before .before .pre .2)))
 
 same-length : tie.Need-same-length
 same-length c = search needs
 
 returns : tie.Need-returns
-returns c = whole-written ((c .before .before .before .before .before .before .before .before .before .before .before .before .before .before .before .before .before .before .before .before .before .before .before .before .pre .0)) ((c .before .before .before .before .before .before .before .before .before .before .before .before .before .before .before .before .before .before .before .before .before .before .before .before .args .b)) ((c .before .before .before .before .before .before .before .before .before .before .before .before .before .before .before .before .before .before .before .before .before .before .before .before .pre .1)) ((c .before .before .before .before .before .before .before .before .before .before .before .before .before .before .before .hop-ports .ensures)) ((c .before .before .before .before .before .before .before .before .before .before .before .rising-ports .ensures .0)) ((c .before .before .before .before .before .before .before .keep-rows .ensures)) ((c .before .before .whole-list .ensures))
+returns c = whole-written ((c .before .before .before .before .before .before .before .before .before .before .before .before .before .before .before .before .before .before .before .before .before .before .before .before .before .before .pre .0)) ((c .before .before .before .before .before .before .before .before .before .before .before .before .before .before .before .before .before .before .before .before .before .before .before .before .before .before .args .b)) ((c .before .before .before .before .before .before .before .before .before .before .before .before .before .before .before .before .before .before .before .before .before .before .before .before .before .before .pre .1)) ((c .before .before .before .before .before .before .before .before .before .before .before .before .before .before .before .before .before .hop-ports .ensures)) ((c .before .before .before .before .before .before .before .before .before .before .before .before .before .rising-ports .ensures .0)) ((c .before .before .before .before .before .before .before .before .keep-rows .ensures)) ((c .before .before .whole-list .ensures))
 
 pub list-over-lists-spec : {M : Type 1} → statement M
 list-over-lists-spec =
@@ -66,6 +65,7 @@ list-over-lists-spec =
     rising-ports-requires
     slice-aggregate-keep-rows
     slice-aggregate-keep-rows-2
+    slice-aggregate-keep-rows-3
     keep-rows-requires
     slice-aggregate-whole-list
     array-share-prefix-rises

@@ -1,4 +1,5 @@
 -- `entries::needed::keep_member_row` keeps the row for the ECT index of the member's VID, where the member transmits. Assumes nothing.
+use borrow.Author.Needs.{needs}
 use native.Mathlib.Omega.{arith}
 use mathlib.Core.Path.{sym, refl, ap, _∙_}
 use Prim.Native.Nat.{ℕ}
@@ -12,18 +13,14 @@ use Rattle.network.specs.PlanLists.{indexOf}
 use Rattle.ports.specs.Rows.{kept-all}
 use Rattle.entries.specs.PlanWords.{bridges-are}
 use Rattle.entries.specs.Needed.{listed, row-of, transmitter-has, silent, index-fits, member-fits}
-use borrow.Author.Needs.{needs}
 use Rattle.entries.proofs.needed.keep_member_row.Statement.{statement}
 use Rattle.entries.proofs.needed.keep_member_row.Tie as tie
-use Rattle.words.proofs.records.member.Reads as member-reads
-use Rattle.network.proofs.records.index_of.Reads as index-of-reads
-use Rattle.ports.proofs.rows.keep_row.Reads as keep-row-reads
 
 member-requires : tie.Need-member-requires
 member-requires c κs = search needs
 
 returns : tie.Need-returns
-returns c = ((c .before .before .before .before .before .before .before .before .before .before .pre .1), (kept-all _, silent (ap (λ (m : Member). m .transmits) (sym ((c .before .before .member .ensures))) ∙ not-true _ ((c .if1 .taken))), omega arith))
+returns c = ((c .before .before .before .before .before .before .before .before .before .before .before .pre .1), (kept-all _, silent (ap (λ (m : Member). m .transmits) (sym ((c .before .before .member .ensures))) ∙ not-true _ ((c .if1 .taken))), omega arith))
 
 index-of-requires : tie.Need-index-of-requires
 index-of-requires c κs = search needs
@@ -35,16 +32,16 @@ cast-keep-row-2 : tie.Need-cast-keep-row-2
 cast-keep-row-2 c = search needs
 
 keep-row-requires : tie.Need-keep-row-requires
-keep-row-requires c κs =
-    let e = (c .before .before .index-of .ensures) ∙ ap (λ (m : Member). indexOf (vidRecord (planAt (wordsOf ((c .before .before .before .before .before .before .before .before .before .before .before .before .before .args .table .now))) ((c .before .before .before .before .before .before .before .before .before .before .before .before .before .args .s))) (m .vid))) ((c .before .before .before .before .before .member .ensures))
-    in let f = index-fits ((c .before .before .before .before .before .before .before .before .before .before .before .before .before .pre .0 .0 .readable)) ((c .before .before .before .before .before .before .before .before .before .before .before .before .before .args .j)) ((c .before .before .before .before .before .before .before .before .before .before .before .before .before .pre .0 .1))
-    in ((listed ((c .before .before .before .before .before .before .before .before .before .before .before .before .before .pre .0 .0)), (c .before .before .before .before .before .before .before .before .before .before .before .before .before .pre .0 .0 .few-identifiers), (c .before .before .before .before .before .before .before .before .before .before .before .before .before .pre .0 .0 .has-hops)), (omega (arith, f .0), omega (arith, f .1), omega (arith, ap (λ (m : Member). m .bridge) ((c .before .before .before .before .before .member .ensures)), member-fits ((c .before .before .before .before .before .before .before .before .before .before .before .before .before .pre .0 .0 .readable)) ((c .before .before .before .before .before .before .before .before .before .before .before .before .before .args .j)) ((c .before .before .before .before .before .before .before .before .before .before .before .before .before .pre .0 .1)) .bridge-known, bridges-are ((c .before .before .before .before .before .before .before .before .before .before .before .before .before .pre .0 .0 .readable))), (c .before .before .before .before .before .before .before .before .before .before .before .before .before .pre .0 .2), (c .before .before .before .before .before .before .before .before .before .before .before .before .before .pre .1)))
+keep-row-requires c κs = let e = (c .before .before .before .index-of .ensures) ∙ ap (λ (m : Member). indexOf (vidRecord (planAt (wordsOf ((c .before .before .before .before .before .before .before .before .before .before .before .before .before .before .before .args .table .now))) ((c .before .before .before .before .before .before .before .before .before .before .before .before .before .before .before .args .s))) (m .vid))) ((c .before .before .before .before .before .before .member .ensures)) in let f = index-fits ((c .before .before .before .before .before .before .before .before .before .before .before .before .before .before .before .pre .0 .0 .readable)) ((c .before .before .before .before .before .before .before .before .before .before .before .before .before .before .before .args .j)) ((c .before .before .before .before .before .before .before .before .before .before .before .before .before .before .before .pre .0 .1)) in ((listed ((c .before .before .before .before .before .before .before .before .before .before .before .before .before .before .before .pre .0 .0)), (c .before .before .before .before .before .before .before .before .before .before .before .before .before .before .before .pre .0 .0 .few-identifiers), (c .before .before .before .before .before .before .before .before .before .before .before .before .before .before .before .pre .0 .0 .has-hops), (c .before .before .before .before .before .before .before .before .before .before .before .before .before .before .before .pre .0 .3)), (omega (arith, f .0), omega (arith, f .1), omega (arith, ap (λ (m : Member). m .bridge) ((c .before .before .before .before .before .before .member .ensures)), member-fits ((c .before .before .before .before .before .before .before .before .before .before .before .before .before .before .before .pre .0 .0 .readable)) ((c .before .before .before .before .before .before .before .before .before .before .before .before .before .before .before .args .j)) ((c .before .before .before .before .before .before .before .before .before .before .before .before .before .before .before .pre .0 .1)) .bridge-known, bridges-are ((c .before .before .before .before .before .before .before .before .before .before .before .before .before .before .before .pre .0 .0 .readable))), (c .before .before .before .before .before .before .before .before .before .before .before .before .before .before .before .pre .0 .2), (c .before .before .before .before .before .before .before .before .before .before .before .before .before .before .before .pre .1)))
 
 same-length : tie.Need-same-length
 same-length c = search needs
 
+same-length-2 : tie.Need-same-length-2
+same-length-2 c = search needs
+
 returns-2 : tie.Need-returns-2
-returns-2 c = ((c .before .before .keep-row .ensures .0), ((c .before .before .keep-row .ensures .1 .0), transmitter-has (row-of ((c .before .before .before .before .before .index-of .ensures) ∙ ap (λ (m : Member). indexOf (vidRecord (planAt (wordsOf ((c .before .before .before .before .before .before .before .before .before .before .before .before .before .before .before .before .args .table .now))) ((c .before .before .before .before .before .before .before .before .before .before .before .before .before .before .before .before .args .s))) (m .vid))) ((c .before .before .before .before .before .before .before .before .member .ensures))) (ap (λ (m : Member). m .bridge) ((c .before .before .before .before .before .before .before .before .member .ensures))) ((c .before .before .keep-row .ensures .1 .1))), (c .before .before .keep-row .ensures .1 .2)))
+returns-2 c = ((c .before .before .before .before .keep-row .ensures .0), ((c .before .before .before .before .keep-row .ensures .1 .0), transmitter-has (row-of ((c .before .before .before .before .before .before .before .before .index-of .ensures) ∙ ap (λ (m : Member). indexOf (vidRecord (planAt (wordsOf ((c .before .before .before .before .before .before .before .before .before .before .before .before .before .before .before .before .before .before .before .before .args .table .now))) ((c .before .before .before .before .before .before .before .before .before .before .before .before .before .before .before .before .before .before .before .before .args .s))) (m .vid))) ((c .before .before .before .before .before .before .before .before .before .before .before .member .ensures))) (ap (λ (m : Member). m .bridge) ((c .before .before .before .before .before .before .before .before .before .before .before .member .ensures))) ((c .before .before .before .before .keep-row .ensures .1 .1))), (c .before .before .before .before .keep-row .ensures .1 .2)))
 
 pub keep-member-row-spec : {M : Type 1} → statement M
 keep-member-row-spec =
@@ -57,4 +54,5 @@ keep-member-row-spec =
     cast-keep-row-2
     keep-row-requires
     same-length
+    same-length-2
     returns-2)

@@ -1,28 +1,29 @@
 -- `entries::needed::keep_rows` keeps the bridge's own rows and then those of the members. Assumes nothing.
-use native.Mathlib.Omega.{arith}
-use mathlib.Core.Path.{_∙_}
-use Prim.Native.Nat.{_-_}
-use Rattle.entries.specs.Needed.{KeepingMembers, members-start, members-room, members-go-on, members-end}
 use borrow.Author.Needs.{needs}
+use native.Mathlib.Omega.{arith}
+use mathlib.Core.Path.{_≡_, refl, _∙_}
+use Prim.Native.Nat.{_-_}
+use lib.ListN.{length}
+use Rattle.entries.specs.Needed.{KeepingMembers, members-start, members-room, members-go-on, members-end}
 use Rattle.entries.proofs.needed.keep_rows.Statement.{statement}
 use Rattle.entries.proofs.needed.keep_rows.Tie as tie
-use Rattle.entries.proofs.needed.keep_member_row.Reads as keep-member-row-reads
-use Rattle.entries.proofs.needed.keep_own_rows.Reads as keep-own-rows-reads
 
 abbrev Inv-loop : tie.InvT-loop
-Inv-loop table s starts neighbours costs identifiers hops b rows₀ count₀ j₀ rows count j = KeepingMembers table s starts neighbours costs identifiers hops b rows₀ rows count j
+Inv-loop table s starts neighbours costs identifiers hops b path-ids₀ rows₀ count₀ j₀ path-ids rows count j =
+    KeepingMembers table s starts neighbours costs identifiers hops b rows₀ rows count j × (length path-ids ≡ length path-ids₀)
 
 abbrev μ-loop : tie.MeasureT-loop
-μ-loop table s starts neighbours costs identifiers hops b rows₀ count₀ j₀ rows count j = s .members - j
+μ-loop table s starts neighbours costs identifiers hops b path-ids₀ rows₀ count₀ j₀ path-ids rows count j =
+    s .members - j
 
 keep-own-rows-requires : tie.Need-keep-own-rows-requires Inv-loop μ-loop
-keep-own-rows-requires c κs = ((c .before .before .before .before .before .before .before .before .pre .0), (c .before .before .before .before .before .before .before .before .pre .1))
+keep-own-rows-requires c κs = ((c .before .before .before .before .before .before .before .before .before .before .pre .0), (c .before .before .before .before .before .before .before .before .before .before .pre .1))
 
 loop-holds : tie.Need-loop-holds Inv-loop μ-loop
-loop-holds c = members-start ((c .before .before .before .before .before .before .before .before .before .before .before .pre .0)) ((c .before .before .keep-own-rows .ensures .0)) ((c .before .before .keep-own-rows .ensures .1 .1)) ((c .before .before .keep-own-rows .ensures .1 .2))
+loop-holds c = (members-start ((c .before .before .before .before .before .before .before .before .before .before .before .before .before .before .before .pre .0 .0)) ((c .before .before .before .before .keep-own-rows .ensures .0)) ((c .before .before .before .before .keep-own-rows .ensures .1 .1)) ((c .before .before .before .before .keep-own-rows .ensures .1 .2)), refl)
 
 keep-member-row-requires : tie.Need-keep-member-row-requires Inv-loop μ-loop
-keep-member-row-requires c κs = (((c .before .before .before .before .before .before .before .before .before .before .before .before .before .before .before .pre .0), (c .before .if1 .taken), members-room ((c .before .before .before .before .before .before .before .before .before .before .before .before .before .before .before .pre .0)) ((c .before .before .before .loop .inv)) ((c .before .if1 .taken))), (c .before .before .before .loop .inv .held))
+keep-member-row-requires c κs = (((c .before .before .before .before .before .before .before .before .before .before .before .before .before .before .before .before .before .before .before .before .pre .0 .0), (c .before .before .if1 .taken), members-room ((c .before .before .before .before .before .before .before .before .before .before .before .before .before .before .before .before .before .before .before .before .pre .0 .0)) ((c .before .before .before .before .loop .inv .0)) ((c .before .before .if1 .taken)), omega (arith, (c .before .before .before .before .before .before .before .before .before .before .before .before .before .before .before .before .before .before .before .before .pre .0 .1), (c .before .before .before .before .loop .inv .1))), (c .before .before .before .before .loop .inv .0 .held))
 
 add-j : tie.Need-add-j Inv-loop μ-loop
 add-j c = search needs
@@ -31,13 +32,16 @@ loop-less : tie.Need-loop-less Inv-loop μ-loop
 loop-less c = search needs
 
 loop-again : tie.Need-loop-again Inv-loop μ-loop
-loop-again c = members-go-on ((c .before .before .before .before .before .before .before .before .before .before .before .before .before .before .before .before .before .before .pre .0)) ((c .before .before .before .before .before .before .loop .inv)) ((c .before .before .before .before .if1 .taken)) ((c .before .before .keep-member-row .ensures .0)) ((c .before .before .keep-member-row .ensures .1 .0)) ((c .before .before .keep-member-row .ensures .1 .1)) ((c .before .before .keep-member-row .ensures .1 .2))
+loop-again c = (members-go-on ((c .before .before .before .before .before .before .before .before .before .before .before .before .before .before .before .before .before .before .before .before .before .before .before .before .before .pre .0 .0)) ((c .before .before .before .before .before .before .before .before .before .loop .inv .0)) ((c .before .before .before .before .before .before .before .if1 .taken)) ((c .before .before .before .before .keep-member-row .ensures .0)) ((c .before .before .before .before .keep-member-row .ensures .1 .0)) ((c .before .before .before .before .keep-member-row .ensures .1 .1)) ((c .before .before .before .before .keep-member-row .ensures .1 .2)), search needs)
 
 same-length : tie.Need-same-length Inv-loop μ-loop
-same-length c = (c .before .before .loop .inv .kept .same-length) ∙ (c .before .before .before .before .before .keep-own-rows .ensures .1 .0 .same-length)
+same-length c = search needs
+
+same-length-2 : tie.Need-same-length-2 Inv-loop μ-loop
+same-length-2 c = (c .before .before .loop .inv .0 .kept .same-length) ∙ (c .before .before .before .before .before .before .before .keep-own-rows .ensures .1 .0 .same-length)
 
 returns : tie.Need-returns Inv-loop μ-loop
-returns c = members-end ((c .before .before .before .before .before .before .before .before .before .before .before .before .before .before .pre .0)) ((c .before .before .loop .inv)) ((c .if1 .left))
+returns c = members-end ((c .before .before .before .before .before .before .before .before .before .before .before .before .before .before .before .before .before .before .pre .0 .0)) ((c .before .before .loop .inv .0)) ((c .if1 .left))
 
 pub keep-rows-spec : {M : Type 1} → statement M
 keep-rows-spec =
@@ -52,4 +56,5 @@ keep-rows-spec =
     loop-less
     loop-again
     same-length
+    same-length-2
     returns)
