@@ -4,6 +4,8 @@
 //! records alone, and paths from identifiers and metrics.
 
 use reference::check_line::check_line;
+use reference::entries::entries;
+use reference::generate::valid::longest_star;
 use reference::path::path;
 use reference::properties::standard::PRIORITY_ORDER;
 use reference::records::{Bridge, HalfLink, Member, Plan, Vid};
@@ -71,6 +73,14 @@ fn path_line(name: &str, table: &[u8], places: usize) -> String {
     }
 }
 
+/// The entries of the middle bridge of the star into a list of so many places.
+fn entries_line(name: &str, places: usize) -> String {
+    match entries(Rules::AS_WRITTEN, &longest_star().bytes(), 0, &mut vec![0; places]) {
+        Ok(words) => format!("{name}: written {words}\n"),
+        Err(refusal) => format!("{name}: refused {}\n", refusal.number),
+    }
+}
+
 /// The priorities of Table 28-1 by their places, for index 1 to 16.
 fn order_lines() -> String {
     let line = |(n, places): (usize, &[u16; 16])| {
@@ -102,6 +112,8 @@ fn the_program_prints_the_figures() {
         path_line("2 hops into 2 places", &fewer, 2),
         path_line("28.5, 9 15 22 before 7 8 9 10 22", &fewer, 3),
         path_line("28.5, 9 15 22 99 before 9 15 22 100", &lower, 4),
+        entries_line("14931 words into 14931 places", 14_931),
+        entries_line("14931 words into 14930 places", 14_930),
         order_lines(),
     ];
     assert_eq!(lines.concat(), include_str!("../../crates/figures/stdout"));

@@ -1,11 +1,13 @@
 // Prints the figures of document 01 that are not starred ("64 bridges pass, 65 give 5", and the like for the other limits; "path of 2
-// hops into 3 places fits, into 2 gives 13") and vectors of the standard, each through the real call on a table that is made here. A
-// line: what is tried, and what the call says of it.
+// hops into 3 places fits, into 2 gives 13"), the longest entry list and vectors of the standard, each through the real call on a table
+// that is made here. A line: what is tried, and what the call says of it.
 // Only writing assumes anything: that C's write keeps its contract.
+mod entry_lists;
 mod orders;
 mod paths;
 mod plan;
 
+use crate::entry_lists::print_entry_lists;
 use crate::orders::print_orders;
 use crate::paths::print_paths;
 use crate::plan::write_table;
@@ -61,5 +63,6 @@ fn main() {
     print_limit(b"7492 bytes: ", 64, 512, 16, 64, 0);
     print_limit(b"7496 bytes: ", 64, 512, 16, 64, 1);
     print_paths();
+    print_entry_lists();
     print_orders();
 }

@@ -6,7 +6,7 @@ ghost use lib.ListN.{length};
 ghost use Rattle.table.specs.Positions.{wordsRead};
 
 // Bridge i: SPsourceID i + 1, priority 8000, address 020000000000 and i + 1.
-fn bridge_word(number: u32, place: u32) -> u32
+pub fn bridge_word(number: u32, place: u32) -> u32
     requires { ⌜ number < 2048 ⌝ }
 {
     if place == 0 {
@@ -37,7 +37,7 @@ fn half_link_word(number: u32, place: u32) -> u32
 }
 
 // VID k + 1, the ECT indexes in turn.
-fn vid_word(number: u32) -> u32
+pub fn vid_word(number: u32) -> u32
     requires { ⌜ number < 2048 ⌝ }
 {
     0x30000000 + (number + 1) * 65536 + number % 16 + 1
