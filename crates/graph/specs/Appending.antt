@@ -1,8 +1,9 @@
 -- Numbers appended to a lent list: what a function that appends has written, and what a loop of such functions keeps true.
 -- Assumes nothing.
-use Prim.Native.Nat.{ℕ, suc, _+_, _-_, _≤_, _<_}
+use Prim.Native.Nat.{ℕ, zero, suc, _+_, _*_, _-_, _≤_, _<_}
 use native.Mathlib.Omega.{arith}
-use mathlib.Core.Path.{_≡_, refl, sym, ap, _∙_}
+use native.Mathlib.Nat.{mul-le-mul-left}
+use mathlib.Core.Path.{_≡_, refl, sym, ap, subst, _∙_}
 use mathlib.Core.List.{List, [], _∷_, _++_, flatMap, append-nil, append-assoc}
 use lib.ListN.{length, set, length-append}
 use Rattle.graph.specs.Lists.{rising, spliced}
@@ -125,3 +126,45 @@ module _ {f : ℕ → List ℕ} {n : ℕ} {lent : List ℕ} {at j : ℕ} {writte
     where
       z : n - j ≡ 0
       z = omega arith
+
+-- The same for parts of at most `most` words each, whose lengths are not known before they are written: the loop has come to `j`.
+pub record AppendingFew (f : ℕ → List ℕ) (most n : ℕ) (lent : List ℕ) (at j : ℕ) (written : List ℕ) (end : ℕ) : Type 0 where
+  pub within : j ≤ n
+  pub few : end ≤ at + most * j
+  pub same-length : length written ≡ length lent
+  pub appended : Appended lent at (eachOf f j) written end
+
+pub few-starts : (f : ℕ → List ℕ) (most n : ℕ) (lent : List ℕ) (at : ℕ) → AppendingFew f most n lent at 0 lent at
+unfolding flatMap rising
+few-starts f most n lent at =
+    record { within = omega arith; few = omega arith; same-length = refl; appended = appended-nothing lent at }
+
+each-more : (f : ℕ → List ℕ) (k j : ℕ) → flatMap f (rising k (suc j)) ≡ flatMap f (rising k j) ++ f (k + j)
+unfolding flatMap rising
+each-more f k zero = append-nil (f k) ∙ ap f (let z : k ≡ k + 0 = omega arith in z)
+each-more f k (suc j) =
+    ap (λ (t : List ℕ). f k ++ t) (each-more f (suc k) j ∙ ap (λ (i : ℕ). flatMap f (rising (suc k) j) ++ f i) (let z : suc k + j ≡ k + suc j = omega arith in z))
+    ∙ sym (append-assoc (f k) (flatMap f (rising (suc k) j)) (f (k + suc j)))
+
+module _ {f : ℕ → List ℕ} {most n : ℕ} {lent : List ℕ} {at j : ℕ} {written : List ℕ} {end : ℕ} (A : AppendingFew f most n lent at j written end) (room : at + most * n ≤ length lent) where
+  -- The part of `j` has room.
+  pub few-room : j < n → end + most ≤ length written
+  few-room l = omega (arith, A .few, A .same-length, mul-le-mul-left most (let z : suc j ≤ n = omega arith in z))
+
+  pub few-goes-on : j < n → {written′ : List ℕ} {end′ : ℕ} → Appended written end (f j) written′ end′ → end′ ≤ end + most
+      → AppendingFew f most n lent at (j + 1) written′ end′
+  few-goes-on l {written′} {end′} B m = record {
+    within = omega arith;
+    few = omega (arith, A .few, let z : most * (j + 1) ≡ most * j + most = omega arith in z);
+    same-length = appended-length B (omega (arith, B .end-is, few-room l)) ∙ A .same-length;
+    appended = subst (λ (t : List ℕ). Appended lent at t written′ end′) one-more (appended-both (A .appended) B (omega (arith, A .appended .end-is, few-room l, A .same-length)));
+  }
+    where
+      one-more : eachOf f j ++ f j ≡ eachOf f (j + 1)
+      one-more =
+          ap (λ (i : ℕ). eachOf f j ++ f i) (let z : j ≡ 0 + j = omega arith in z)
+          ∙ sym (each-more f 0 j)
+          ∙ ap (eachOf f) (let z : suc j ≡ j + 1 = omega arith in z)
+
+  pub few-ends : n ≤ j → Appended lent at (eachOf f n) written end × (end ≤ at + most * n)
+  few-ends l = let e : j ≡ n = omega (arith, A .within) in (subst (λ (k : ℕ). Appended lent at (eachOf f k) written end) e (A .appended), omega (arith, A .few, ap (λ (k : ℕ). most * k) e))

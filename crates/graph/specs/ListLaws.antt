@@ -1,6 +1,6 @@
 -- Laws of plain lists and numbers: membership, parts, nothing twice, filters, the lowest of a list. None of them knows a graph.
 -- Assumes nothing.
-use Prim.Native.Nat.{ℕ, zero, suc, _+_, _*_, _≤_, _<_}
+use Prim.Native.Nat.{ℕ, zero, suc, _+_, _*_, _/_, _%_, _≤_, _<_}
 use native.Mathlib.Omega.{arith}
 use mathlib.Core.Path.{_≡_, refl, sym, ap, _∙_, subst}
 use mathlib.Core.List.{List, [], _∷_, _++_, map, flatMap, reverse, append-nil, append-assoc, reverse-cons, map-append}
@@ -8,7 +8,8 @@ use mathlib.Core.Option.{Option, none, some}
 use mathlib.Core.Logic.{_⊎_, inl, inr}
 use mathlib.Core.Bool.{Bool, true, false, cond, not, _&&_, _||_}
 use lib.Dec.{T, leb, eqb, leb→le, nleb→lt, eqb→eq, eqb-refl}
-use lib.ListN.{length, getD, getElem?, drop, length-append, length-map}
+use lib.ListN.{length, getD, getElem?, take, drop, length-append, length-map}
+use lib.Arith.{digits-div, digits-mod}
 use lib.Seq.{drop-cons, ext-getD}
 use Rattle.graph.specs.Lists.{rising, consIf, filter, any, lowerOf, lowestBy}
 use Rattle.graph.specs.Members.{In, Distinct, Pairwise, lastOf, HasPart, total, along, times}
@@ -307,11 +308,6 @@ unfolding rising
 rising-at k zero i d h = absurd (omega arith)
 rising-at k (suc n) zero d h = omega arith
 rising-at k (suc n) (suc i) d h = rising-at (suc k) n i d (omega arith) ∙ omega arith
-
-pub rising-length : (k n : ℕ) → length (rising k n) ≡ n
-unfolding rising
-rising-length k zero = refl
-rising-length k (suc n) = ap suc (rising-length (suc k) n)
 
 pub in-rising : (k n m : ℕ) → k ≤ m → m < k + n → In m (rising k n)
 unfolding rising
@@ -796,3 +792,57 @@ rising-same (x ∷ xs) (y ∷ ys) P Q f g =
     earlier : (a : ℕ) → In a ys → In a (x ∷ xs) → x ≡ y → In a xs
     earlier a k (inl h) e = absurd (omega (arith, Q .0 a k))
     earlier a k (inr h) e = h
+
+pub front-of-rising : {A : Type 0} (f : ℕ → A) (k n m : ℕ) → n ≤ m → take n (map f (rising k m)) ≡ map f (rising k n)
+unfolding rising
+front-of-rising f k zero m h = refl
+front-of-rising f k (suc n) zero h = absurd (omega arith)
+front-of-rising {A} f k (suc n) (suc m) h = ap (λ (t : List A). f k ∷ t) (front-of-rising f (suc k) n m (omega arith))
+
+pub rising-both : (k m n : ℕ) → rising k (m + n) ≡ rising k m ++ rising (k + m) n
+unfolding rising
+rising-both k zero n = λ i. rising ((let z : k ≡ k + 0 = omega arith in z) i) ((let z : 0 + n ≡ n = omega arith in z) i)
+rising-both k (suc m) n =
+    ap (rising k) (let z : suc m + n ≡ suc (m + n) = omega arith in z)
+    ∙ ap (λ (t : List ℕ). k ∷ t) (rising-both (suc k) m n ∙ ap (λ (j : ℕ). rising (suc k) m ++ rising j n) (let z : suc k + m ≡ k + suc m = omega arith in z))
+
+module _ {A : Type 0} where
+  pub flatMap-from : (f : ℕ → List A) (k n : ℕ) → flatMap f (rising k n) ≡ flatMap (λ i. f (k + i)) (rising 0 n)
+  unfolding flatMap rising
+  flatMap-from f k n = ap (λ (j : ℕ). flatMap f (rising j n)) (let z : k ≡ k + 0 = omega arith in z) ∙ go k 0 n
+    where
+      go : (k j n : ℕ) → flatMap f (rising (k + j) n) ≡ flatMap (λ i. f (k + i)) (rising j n)
+      go k j zero = refl
+      go k j (suc n) = ap (λ (t : List A). f (k + j) ++ t) (ap (λ (i : ℕ). flatMap f (rising i n)) (let z : suc (k + j) ≡ k + suc j = omega arith in z) ∙ go k (suc j) n)
+
+  -- Rows of `n` places, one after the other.
+  pub flatMap-rows : (f : ℕ → ℕ → List A) (m n : ℕ)
+      → flatMap (λ i. f (i / n) (i % n)) (rising 0 (m * n)) ≡ flatMap (λ k. flatMap (f k) (rising 0 n)) (rising 0 m)
+  unfolding rising flatMap
+  flatMap-rows f zero n = ap (λ (k : ℕ). flatMap (λ i. f (i / n) (i % n)) (rising 0 k)) (let z : 0 * n ≡ 0 = omega arith in z)
+  flatMap-rows f (suc m) n =
+      ap (λ (k : ℕ). flatMap place (rising 0 k)) (let z : suc m * n ≡ m * n + n = omega arith in z)
+      ∙ ap (flatMap place) (rising-both 0 (m * n) n)
+      ∙ flatMap-append place (rising 0 (m * n)) (rising (0 + m * n) n)
+      ∙ ap (λ (t : List A). t ++ flatMap place (rising (0 + m * n) n)) (flatMap-rows f m n)
+      ∙ ap (λ (t : List A). before ++ t) (flatMap-from place (0 + m * n) n ∙ flatMap-same (λ i. place (0 + m * n + i)) (f m) (rising 0 n) row)
+      ∙ sym last
+    where
+      place : ℕ → List A
+      place i = f (i / n) (i % n)
+
+      before : List A
+      before = flatMap (λ k. flatMap (f k) (rising 0 n)) (rising 0 m)
+
+      row : (i : ℕ) → In i (rising 0 n) → place (0 + m * n + i) ≡ f m i
+      row i h =
+          let l : i < n = omega (arith, rising-in 0 n i h .1)
+          in let e : 0 + m * n + i ≡ m * n + i = omega arith
+          in ap place e ∙ (λ x. f (digits-div m {m = n} {r = i} l x) (digits-mod m {m = n} {r = i} l x))
+
+      last : flatMap (λ k. flatMap (f k) (rising 0 n)) (rising 0 (suc m)) ≡ before ++ flatMap (f m) (rising 0 n)
+      last =
+          ap (λ (k : ℕ). flatMap (λ k. flatMap (f k) (rising 0 n)) (rising 0 k)) (let z : suc m ≡ m + 1 = omega arith in z)
+          ∙ ap (flatMap (λ k. flatMap (f k) (rising 0 n))) (rising-both 0 m 1)
+          ∙ flatMap-append (λ k. flatMap (f k) (rising 0 n)) (rising 0 m) (rising (0 + m) 1)
+          ∙ ap (λ (t : List A). before ++ t) (append-nil (flatMap (f (0 + m)) (rising 0 n)) ∙ ap (λ (k : ℕ). flatMap (f k) (rising 0 n)) (let z : 0 + m ≡ m = omega arith in z))

@@ -13,7 +13,7 @@ use lib.ListN.{length, getD, set, drop, length-set, length-map, length-reverse}
 use borrow.Author.Tests.{eq-eqb, ne-eqb, le-leb, lt-leb}
 use Rattle.graph.specs.Lists.{rising, spliced}
 use Rattle.graph.specs.Members.{In}
-use Rattle.graph.specs.ListLaws.{rising-in, rising-length}
+use Rattle.graph.specs.ListLaws.{rising-in, length-rising}
 use Rattle.graph.specs.Searching.{rising-more}
 use Rattle.graph.specs.Splices.{spliced-nothing, spliced-next}
 use Rattle.graph.specs.Graph.{GraphLaws, KeyLaws, cost, hops}
@@ -72,7 +72,7 @@ module _ {f : ℕ → ℕ} {before now : List ℕ} {n i : ℕ} (F : Filling f be
       }
     where
       many : length (map f (rising 0 i)) ≡ i
-      many = length-map (rising 0 i) f ∙ rising-length 0 i
+      many = length-map (rising 0 i) f ∙ length-rising 0 i
 
       one-more : map f (rising 0 i) ++ (a ∷ []) ≡ map f (rising 0 (i + 1))
       one-more =
@@ -86,7 +86,7 @@ module _ {f : ℕ → ℕ} {before now : List ℕ} {n i : ℕ} (F : Filling f be
 -- The three lists with their later contents.
 module _ (labels : List ℕ) (n : ℕ) (costs hopCounts lasts : List ℕ) where
   many : length (labelledPlaces labels n) ≡ n
-  many = length-map (rising 0 n) (placeAt labels) ∙ rising-length 0 n
+  many = length-map (rising 0 n) (placeAt labels) ∙ length-rising 0 n
 
   short : (o : Outcome ℕ) → o ≡ refusedAs 13 → leb n (length costs) && leb n (length hopCounts) && leb n (length lasts) ≡ false
       → _≡_ {A = Outcome ℕ × List ℕ × List ℕ × List ℕ} (o, costs, hopCounts, lasts) (lentToThree costs hopCounts lasts (answered (labelledPlaces labels n)))

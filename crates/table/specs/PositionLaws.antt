@@ -10,7 +10,7 @@ use mathlib.Core.Option.{Option, none, some}
 use lib.ListN.{length, drop, getD, getElem?, length-map}
 use Rattle.graph.specs.Lists.{rising, any, filter}
 use Rattle.graph.specs.Members.{In, Pairwise}
-use Rattle.graph.specs.ListLaws.{le-or-gt, in-map, map-in, map-at, in-rising, rising-in, rising-at, rising-length}
+use Rattle.graph.specs.ListLaws.{le-or-gt, in-map, map-in, map-at, in-rising, rising-in, rising-at, length-rising}
 use Rattle.graph.specs.Searching.{Searching, search-on, search-finds, search-ends, rising-more}
 use Rattle.table.specs.Positions.{recordAt, recordsAt}
 
@@ -56,12 +56,12 @@ module _ {A : Type 0} (decoded : List ℕ → A) (width from : ℕ) (ws : List �
 
   pub how-many : (n : ℕ) → length (recordsAt decoded width from ws n) ≡ n
   unfolding recordsAt
-  how-many n = length-map (rising 0 n) (recordAt decoded width from ws) ∙ rising-length 0 n
+  how-many n = length-map (rising 0 n) (recordAt decoded width from ws) ∙ length-rising 0 n
 
   pub record-at : (n i : ℕ) (d : A) → i < n → getD (recordsAt decoded width from ws n) i d ≡ recordAt decoded width from ws i
   unfolding recordsAt
   record-at n i d l =
-      map-at (recordAt decoded width from ws) (rising 0 n) i 0 d (omega (arith, rising-length 0 n))
+      map-at (recordAt decoded width from ws) (rising 0 n) i 0 d (omega (arith, length-rising 0 n))
       ∙ ap (recordAt decoded width from ws) (rising-at 0 n i 0 l ∙ omega arith)
 
   pub search-records : (test : A → Bool) (n : ℕ) → any test (recordsAt decoded width from ws n) ≡ any (λ i. test (recordAt decoded width from ws i)) (rising 0 n)
