@@ -5,12 +5,8 @@ use mathlib.Core.List.{List, [], _∷_, _++_, map}
 use Rattle.graph.specs.Lists.{rising}
 use Rattle.rule.specs.Outcome.{Outcome, answered, refused}
 use Rattle.rule.specs.Answers.{CostAndHops}
-use Rattle.text.specs.Text.{newline, field, fields}
+use Rattle.text.specs.Text.{newline, field, fields, pathWord}
 use Rattle.text.specs.CheckText.{refusalText}
-
--- `path`
-abbrev pub pathWord : List ℕ
-pathWord = 112 ∷ 97 ∷ 116 ∷ 104 ∷ []
 
 -- `tree`
 abbrev pub treeWord : List ℕ

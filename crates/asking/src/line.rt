@@ -39,7 +39,6 @@ fn write_given_tree(bridges: u32, out: &mut [u8], at: usize) -> usize
     write_field(bridges, out, after_word)
 }
 
-// The answer of a path.
 // `entries` with the number of words.
 fn write_given_entries(words: u32, out: &mut [u8], at: usize) -> usize
     requires { ⌜ at + 40 ≤ length (now out) ⌝ }
@@ -49,6 +48,7 @@ fn write_given_entries(words: u32, out: &mut [u8], at: usize) -> usize
     write_field(words, out, after_word)
 }
 
+// The answer of a path.
 fn write_path_answer(answer: PathAnswer, out: &mut [u8], at: usize) -> usize
     requires { ⌜ at + 40 ≤ length (now out) ⌝ }
     ensures { λ r. ⌜ WrittenAt at (now (out .entry)) (now (out .exit)) (pathAnswerText (pathValues answer)) r × (r ≤ at + 40) ⌝ }
@@ -70,6 +70,7 @@ fn write_tree_answer(answer: TreeAnswer, out: &mut [u8], at: usize) -> usize
     }
 }
 
+// The answer of entries.
 fn write_entries_answer(answer: EntriesAnswer, out: &mut [u8], at: usize) -> usize
     requires { ⌜ at + 40 ≤ length (now out) ⌝ }
     ensures { λ r. ⌜ WrittenAt at (now (out .entry)) (now (out .exit)) (entriesAnswerText (entriesValues answer)) r × (r ≤ at + 40) ⌝ }

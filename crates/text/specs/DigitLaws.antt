@@ -179,8 +179,8 @@ pub decimal-written :
 unfolding decimal
 decimal-written {at} {before} {after} n count next e w h =
     record {
-      next-is = h ∙ ap (λ (k : ℕ). at + k) (e ∙ sym (length-digits 10 (places 9 n) n));
-      contents = w ∙ ap (λ (k : ℕ). spliced before at (digits 10 k n)) e;
+      end-is = h ∙ ap (λ (k : ℕ). at + k) (e ∙ sym (length-digits 10 (places 9 n) n));
+      words-are = w ∙ ap (λ (k : ℕ). spliced before at (digits 10 k n)) e;
     }
 
 pub address-written :
@@ -189,4 +189,4 @@ pub address-written :
     next ≡ at + 12 →
     WrittenAt at before after (digits 16 12 n) next
 address-written {at} n next w h =
-    record { next-is = h ∙ ap (λ (k : ℕ). at + k) (sym (length-digits 16 12 n)); contents = w }
+    record { end-is = h ∙ ap (λ (k : ℕ). at + k) (sym (length-digits 16 12 n)); words-are = w }

@@ -1,12 +1,10 @@
 -- Numbers, fields and lines as text (01, "Listing program"): bytes of ASCII.
 -- Assumes nothing.
 use Prim.Native.Nat.{ℕ, zero, suc, _+_, _/_, _%_}
-use mathlib.Core.Path.{_≡_}
 use mathlib.Core.List.{List, [], _∷_, _++_, flatMap}
 use mathlib.Core.Bool.{cond}
 use lib.Dec.{ltb}
-use lib.ListN.{length}
-use Rattle.graph.specs.Lists.{spliced}
+use Rattle.graph.specs.Appending.{Appended}
 
 abbrev pub space : ℕ
 space = 32
@@ -47,7 +45,10 @@ fields ns = flatMap field ns
 abbrev pub line : List ℕ → List ℕ → List ℕ
 line w ns = w ++ (fields ns ++ (newline ∷ []))
 
+-- `path`, the word of a path's line
+abbrev pub pathWord : List ℕ
+pathWord = 112 ∷ 97 ∷ 116 ∷ 104 ∷ []
+
 -- The text was written from the place `at` on, and `next` is the place after it; every other place is as before.
-pub record WrittenAt (at : ℕ) (before after text : List ℕ) (next : ℕ) : Type 0 where
-  pub next-is : next ≡ at + length text
-  pub contents : after ≡ spliced before at text
+abbrev pub WrittenAt : ℕ → List ℕ → List ℕ → List ℕ → ℕ → Type 0
+WrittenAt at before after text next = Appended before at text after next

@@ -4,7 +4,7 @@ use mathlib.Core.Path.{_≡_, refl}
 use mathlib.Core.List.{List, [], _∷_, flatMap}
 use mathlib.Core.Option.{none, some}
 use Rattle.rule.specs.Outcome.{answered, refused}
-use Rattle.text.specs.Text.{digits, places, decimal, address, line}
+use Rattle.text.specs.Text.{digits, places, decimal, address, line, pathWord}
 use Rattle.text.specs.CheckText.{checkText}
 
 -- `0`, and the greatest number of 32 bits.
@@ -22,7 +22,7 @@ unfolding digits
 address-is = refl
 
 -- `path 10 0 1 12 1 0 1`
-path-line-is : line (112 ∷ 97 ∷ 116 ∷ 104 ∷ []) (10 ∷ 0 ∷ 1 ∷ 12 ∷ 1 ∷ 0 ∷ 1 ∷ []) ≡ 112 ∷ 97 ∷ 116 ∷ 104 ∷ 32 ∷ 49 ∷ 48 ∷ 32 ∷ 48 ∷ 32 ∷ 49 ∷ 32 ∷ 49 ∷ 50 ∷ 32 ∷ 49 ∷ 32 ∷ 48 ∷ 32 ∷ 49 ∷ 10 ∷ []
+path-line-is : line pathWord (10 ∷ 0 ∷ 1 ∷ 12 ∷ 1 ∷ 0 ∷ 1 ∷ []) ≡ 112 ∷ 97 ∷ 116 ∷ 104 ∷ 32 ∷ 49 ∷ 48 ∷ 32 ∷ 48 ∷ 32 ∷ 49 ∷ 32 ∷ 49 ∷ 50 ∷ 32 ∷ 49 ∷ 32 ∷ 48 ∷ 32 ∷ 49 ∷ 10 ∷ []
 unfolding decimal digits places flatMap
 path-line-is = refl
 

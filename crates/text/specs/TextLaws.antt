@@ -3,17 +3,19 @@ use Prim.Native.Nat.{ℕ, suc, _+_, _*_, _≤_, _<_}
 use native.Mathlib.Omega.{arith}
 use mathlib.Core.Path.{_≡_, refl, sym, ap, _∙_}
 use mathlib.Core.List.{List, [], _∷_, _++_, flatMap, append-nil, append-assoc}
-use lib.ListN.{length, getD, take, set, length-append, length-set}
+use lib.ListN.{length, getD, take, set, length-set}
 use lib.Seq.{take-suc, take-all}
 use Rattle.graph.specs.Lists.{spliced}
-use Rattle.graph.specs.Splices.{length-spliced, spliced-nothing, spliced-next, spliced-twice}
+use Rattle.graph.specs.Splices.{spliced-nothing}
+use Rattle.graph.specs.Appending.{appended-length, appended-nothing, appended-both, one-word}
 use Rattle.text.specs.Text.{field, fields, WrittenAt}
 use Rattle.text.specs.DigitLaws.{length-decimal}
 
+-- Texts one after the other, where room is given by the place after the text.
 module _ {at : ℕ} {before after text : List ℕ} {next : ℕ} (w : WrittenAt at before after text next) where
   -- The list is as long as before where the text fits.
   pub written-length : next ≤ length before → length after ≡ length before
-  written-length h = ap length (w .contents) ∙ length-spliced before at text (omega (arith, w .next-is))
+  written-length h = appended-length w (omega (arith, w .end-is))
 
   -- A text written after it.
   pub written-on :
@@ -21,38 +23,19 @@ module _ {at : ℕ} {before after text : List ℕ} {next : ℕ} (w : WrittenAt a
       WrittenAt next after later more end →
       next ≤ length before →
       WrittenAt at before later (text ++ more) end
-  written-on {later} {more} {end} v h =
-      record {
-        next-is = omega (arith, w .next-is, v .next-is, length-append text more);
-        contents =
-            v .contents
-            ∙ ap (λ (t : List ℕ). spliced t next more) (w .contents)
-            ∙ ap (λ (k : ℕ). spliced (spliced before at text) k more) (w .next-is)
-            ∙ spliced-twice before at text more (omega (arith, w .next-is));
-      }
+  written-on v h = appended-both w v (omega (arith, w .end-is))
 
   -- One byte after it.
   pub written-byte : (b : ℕ) → next < length before → WrittenAt at before (set after next b) (text ++ (b ∷ [])) (next + 1)
-  written-byte b h =
-      record {
-        next-is = omega (arith, w .next-is, length-append text (b ∷ []));
-        contents =
-            ap (λ (t : List ℕ). set t next b) (w .contents)
-            ∙ ap (λ (k : ℕ). set (spliced before at text) k b) (w .next-is)
-            ∙ spliced-next before at text b (omega (arith, w .next-is));
-      }
+  written-byte b h = written-on (one-word after next b (omega (arith, written-length (omega arith)))) (omega arith)
 
   -- The same text under another name.
   pub written-as : (other : List ℕ) → text ≡ other → WrittenAt at before after other next
   written-as other e =
       record {
-        next-is = w .next-is ∙ ap (λ (t : List ℕ). at + length t) e;
-        contents = w .contents ∙ ap (spliced before at) e;
+        end-is = w .end-is ∙ ap (λ (t : List ℕ). at + length t) e;
+        words-are = w .words-are ∙ ap (spliced before at) e;
       }
-
--- Nothing is written yet.
-pub nothing-written : (at : ℕ) (before : List ℕ) → WrittenAt at before before [] at
-nothing-written at before = record { next-is = omega arith; contents = sym (spliced-nothing before at) }
 
 -- Bytes copied one after the other.
 pub record Copying (bytes before : List ℕ) (at : ℕ) (out : List ℕ) (i : ℕ) : Type 0 where
@@ -65,7 +48,7 @@ copying-starts bytes before at =
     record {
       within = omega arith;
       same-length = refl;
-      written = record { next-is = refl; contents = sym (spliced-nothing before at) };
+      written = record { end-is = refl; words-are = sym (spliced-nothing before at) };
     }
 
 module _ {bytes before : List ℕ} {at : ℕ} {out : List ℕ} {i : ℕ} (C : Copying bytes before at out i) where
@@ -74,7 +57,7 @@ module _ {bytes before : List ℕ} {at : ℕ} {out : List ℕ} {i : ℕ} (C : Co
       record {
         within = omega arith;
         same-length = length-set out (at + i) (getD bytes i 0) ∙ C .same-length;
-        written = record { next-is = (let z : at + (i + 1) ≡ at + i + 1 = omega arith in z) ∙ next .next-is ∙ ap (λ (t : List ℕ). at + length t) one-more; contents = next .contents ∙ ap (spliced before at) one-more };
+        written = record { end-is = (let z : at + (i + 1) ≡ at + i + 1 = omega arith in z) ∙ next .end-is ∙ ap (λ (t : List ℕ). at + length t) one-more; words-are = next .words-are ∙ ap (spliced before at) one-more };
       }
     where
       next : WrittenAt at before (set out (at + i) (getD bytes i 0)) (take i bytes ++ (getD bytes i 0 ∷ [])) (at + i + 1)
@@ -85,7 +68,7 @@ module _ {bytes before : List ℕ} {at : ℕ} {out : List ℕ} {i : ℕ} (C : Co
 
   pub copying-ends : (next : ℕ) → length bytes ≤ i → next ≡ at + length bytes → WrittenAt at before out bytes next
   copying-ends next h e =
-      record { next-is = e; contents = C .written .contents ∙ ap (spliced before at) (take-all i bytes h) }
+      record { end-is = e; words-are = C .written .words-are ∙ ap (spliced before at) (take-all i bytes h) }
 
 -- Fields
 
@@ -104,7 +87,7 @@ pub record Fielding (numbers before : List ℕ) (at : ℕ) (out : List ℕ) (nex
 pub fielding-starts : (numbers before : List ℕ) (at : ℕ) → Fielding numbers before at before at 0
 unfolding flatMap
 fielding-starts numbers before at =
-    record { within = omega arith; same-length = refl; room = omega arith; written = nothing-written at before }
+    record { within = omega arith; same-length = refl; room = omega arith; written = appended-nothing before at }
 
 module _ {numbers before : List ℕ} {at : ℕ} {out : List ℕ} {next i : ℕ} (F : Fielding numbers before at out next i) where
   pub fielding-goes-on :
@@ -122,7 +105,7 @@ module _ {numbers before : List ℕ} {at : ℕ} {out : List ℕ} {next i : ℕ} 
       }
     where
       within-room : end ≤ at + 11 * (i + 1)
-      within-room = omega (arith, F .room, w .next-is, length-decimal (getD numbers i 0))
+      within-room = omega (arith, F .room, w .end-is, length-decimal (getD numbers i 0))
 
       one-more : fields (take i numbers) ++ field (getD numbers i 0) ≡ fields (take (i + 1) numbers)
       one-more =

@@ -29,7 +29,7 @@ fn write_kind(kind: RecordKind, out: &mut [u8], at: usize) -> usize
 }
 
 // `counts` and the five counts.
-fn write_counts(c: Counts, out: &mut [u8], at: usize) -> usize
+pub fn write_counts(c: Counts, out: &mut [u8], at: usize) -> usize
     requires { ⌜ at + 62 ≤ length (now out) ⌝ }
     ensures { λ r. ⌜ WrittenAt at (now (out .entry)) (now (out .exit)) (line countsWord (countsFields c)) r × (r ≤ at + 62) ⌝ }
 {

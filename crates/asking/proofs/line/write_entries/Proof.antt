@@ -29,7 +29,7 @@ same-length-2 : tie.Need-same-length-2
 same-length-2 c = search needs
 
 returns : tie.Need-returns
-returns c = (written-as (written-on ((c .before .before .before .before .before .before .before .before .before .before .before .write-entries-answer .ensures .0)) (written-on ((c .before .before .before .before .before .before .write-fields .ensures .0)) ((c .before .before .write-byte .ensures)) (omega (arith, (c .before .before .before .before .before .before .before .before .before .before .before .write-entries-answer .ensures .1), (c .before .before .before .before .before .before .write-fields .ensures .1), (c .before .before .before .before .before .before .before .before .before .before .before .before .before .before .before .before .before .before .before .before .pre)))) (omega (arith, (c .before .before .before .before .before .before .before .before .before .before .before .write-entries-answer .ensures .1), (c .before .before .before .before .before .before .before .before .before .before .before .before .before .before .before .before .before .before .before .before .pre)))) _ (ap (λ (o : Outcome ℕ × List ℕ). entriesText o) ((c .before .before .before .before .before .before .before .before .before .before .before .before .before .before .before .entries .ensures))), omega (arith, (c .before .before .before .before .before .before .before .before .before .before .before .write-entries-answer .ensures .1), (c .before .before .before .before .before .before .write-fields .ensures .1), (c .before .before .write-byte .ensures .next-is), (c .before .before .before .before .before .before .before .before .before .before .before .before .before .before .before .before .before .before .before .before .pre)))
+returns c = (written-as (written-on ((c .before .before .before .before .before .before .before .before .before .before .before .write-entries-answer .ensures .0)) (written-on ((c .before .before .before .before .before .before .write-fields .ensures .0)) ((c .before .before .write-byte .ensures)) (omega (arith, (c .before .before .before .before .before .before .before .before .before .before .before .write-entries-answer .ensures .1), (c .before .before .before .before .before .before .write-fields .ensures .1), (c .before .before .before .before .before .before .before .before .before .before .before .before .before .before .before .before .before .before .before .before .pre)))) (omega (arith, (c .before .before .before .before .before .before .before .before .before .before .before .write-entries-answer .ensures .1), (c .before .before .before .before .before .before .before .before .before .before .before .before .before .before .before .before .before .before .before .before .pre)))) _ (ap (λ (o : Outcome ℕ × List ℕ). entriesText o) ((c .before .before .before .before .before .before .before .before .before .before .before .before .before .before .before .entries .ensures))), omega (arith, (c .before .before .before .before .before .before .before .before .before .before .before .write-entries-answer .ensures .1), (c .before .before .before .before .before .before .write-fields .ensures .1), (c .before .before .write-byte .ensures .end-is), (c .before .before .before .before .before .before .before .before .before .before .before .before .before .before .before .before .before .before .before .before .pre)))
 
 pub write-entries-spec : {M : Type 1} → statement M
 write-entries-spec =

@@ -18,7 +18,7 @@ same-length : tie.Need-same-length
 same-length c = search needs
 
 returns : tie.Need-returns
-returns c = (written-on ((c .before .before .before .before .before .before .write-word .ensures)) ((c .before .before .write-field .ensures .0)) (omega (arith, (c .before .before .before .before .before .before .write-word .ensures .next-is), (c .before .before .before .before .before .before .before .before .before .before .pre))), omega (arith, (c .before .before .before .before .before .before .write-word .ensures .next-is), (c .before .before .write-field .ensures .1)))
+returns c = (written-on ((c .before .before .before .before .before .before .write-word .ensures)) ((c .before .before .write-field .ensures .0)) (omega (arith, (c .before .before .before .before .before .before .write-word .ensures .end-is), (c .before .before .before .before .before .before .before .before .before .before .pre))), omega (arith, (c .before .before .before .before .before .before .write-word .ensures .end-is), (c .before .before .write-field .ensures .1)))
 
 pub write-given-entries-spec : {M : Type 1} → statement M
 write-given-entries-spec =

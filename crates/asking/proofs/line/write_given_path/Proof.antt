@@ -21,7 +21,7 @@ same-length : tie.Need-same-length
 same-length c = search needs
 
 returns : tie.Need-returns
-returns c = (written-on ((c .before .before .before .before .before .before .before .before .before .before .write-word .ensures)) (written-on ((c .before .before .before .before .before .before .write-field .ensures .0)) ((c .before .before .write-field2 .ensures .0)) (omega (arith, (c .before .before .before .before .before .before .before .before .before .before .write-word .ensures .next-is), (c .before .before .before .before .before .before .write-field .ensures .1), (c .before .before .before .before .before .before .before .before .before .before .before .before .before .before .pre)))) (omega (arith, (c .before .before .before .before .before .before .before .before .before .before .write-word .ensures .next-is), (c .before .before .before .before .before .before .before .before .before .before .before .before .before .before .pre))), omega (arith, (c .before .before .before .before .before .before .before .before .before .before .write-word .ensures .next-is), (c .before .before .before .before .before .before .write-field .ensures .1), (c .before .before .write-field2 .ensures .1)))
+returns c = (written-on ((c .before .before .before .before .before .before .before .before .before .before .write-word .ensures)) (written-on ((c .before .before .before .before .before .before .write-field .ensures .0)) ((c .before .before .write-field2 .ensures .0)) (omega (arith, (c .before .before .before .before .before .before .before .before .before .before .write-word .ensures .end-is), (c .before .before .before .before .before .before .write-field .ensures .1), (c .before .before .before .before .before .before .before .before .before .before .before .before .before .before .pre)))) (omega (arith, (c .before .before .before .before .before .before .before .before .before .before .write-word .ensures .end-is), (c .before .before .before .before .before .before .before .before .before .before .before .before .before .before .pre))), omega (arith, (c .before .before .before .before .before .before .before .before .before .before .write-word .ensures .end-is), (c .before .before .before .before .before .before .write-field .ensures .1), (c .before .before .write-field2 .ensures .1)))
 
 pub write-given-path-spec : {M : Type 1} → statement M
 write-given-path-spec =

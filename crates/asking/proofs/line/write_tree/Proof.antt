@@ -41,7 +41,7 @@ same-length-4 : tie.Need-same-length-4
 same-length-4 c = search needs
 
 returns : tie.Need-returns
-returns c = (written-as (written-on ((c .before .before .before .before .before .before .before .before .before .before .before .before .before .before .before .before .before .before .before .before .before .write-tree-answer .ensures .0)) (written-on ((c .before .before .before .before .before .before .before .before .before .before .before .before .before .before .before .before .write-fields .ensures .0)) (written-on ((c .before .before .before .before .before .before .before .before .before .before .before .write-fields2 .ensures .0)) (written-on ((c .before .before .before .before .before .before .write-fields3 .ensures .0)) ((c .before .before .write-byte .ensures)) (omega (arith, (c .before .before .before .before .before .before .before .before .before .before .before .before .before .before .before .before .before .before .before .before .before .write-tree-answer .ensures .1), (c .before .before .before .before .before .before .before .before .before .before .before .before .before .before .before .before .write-fields .ensures .1), (c .before .before .before .before .before .before .before .before .before .before .before .write-fields2 .ensures .1), (c .before .before .before .before .before .before .write-fields3 .ensures .1), (c .before .before .before .before .before .before .before .before .before .before .before .before .before .before .before .before .before .before .before .before .before .before .before .before .before .before .before .before .before .before .before .before .before .before .before .before .before .before .pre)))) (omega (arith, (c .before .before .before .before .before .before .before .before .before .before .before .before .before .before .before .before .before .before .before .before .before .write-tree-answer .ensures .1), (c .before .before .before .before .before .before .before .before .before .before .before .before .before .before .before .before .write-fields .ensures .1), (c .before .before .before .before .before .before .before .before .before .before .before .write-fields2 .ensures .1), (c .before .before .before .before .before .before .before .before .before .before .before .before .before .before .before .before .before .before .before .before .before .before .before .before .before .before .before .before .before .before .before .before .before .before .before .before .before .before .pre)))) (omega (arith, (c .before .before .before .before .before .before .before .before .before .before .before .before .before .before .before .before .before .before .before .before .before .write-tree-answer .ensures .1), (c .before .before .before .before .before .before .before .before .before .before .before .before .before .before .before .before .write-fields .ensures .1), (c .before .before .before .before .before .before .before .before .before .before .before .before .before .before .before .before .before .before .before .before .before .before .before .before .before .before .before .before .before .before .before .before .before .before .before .before .before .before .pre)))) (omega (arith, (c .before .before .before .before .before .before .before .before .before .before .before .before .before .before .before .before .before .before .before .before .before .write-tree-answer .ensures .1), (c .before .before .before .before .before .before .before .before .before .before .before .before .before .before .before .before .before .before .before .before .before .before .before .before .before .before .before .before .before .before .before .before .before .before .before .before .before .before .pre)))) _ (ap (λ (o : Outcome ℕ × List ℕ × List ℕ × List ℕ). treeText o) ((c .before .before .before .before .before .before .before .before .before .before .before .before .before .before .before .before .before .before .before .before .before .before .before .before .before .before .before .before .before .tree .ensures))), omega (arith, (c .before .before .before .before .before .before .before .before .before .before .before .before .before .before .before .before .before .before .before .before .before .write-tree-answer .ensures .1), (c .before .before .before .before .before .before .before .before .before .before .before .before .before .before .before .before .write-fields .ensures .1), (c .before .before .before .before .before .before .before .before .before .before .before .write-fields2 .ensures .1), (c .before .before .before .before .before .before .write-fields3 .ensures .1), (c .before .before .write-byte .ensures .next-is), (c .before .before .before .before .before .before .before .before .before .before .before .before .before .before .before .before .before .before .before .before .before .before .before .before .before .before .before .before .before .before .before .before .before .before .before .before .before .before .pre)))
+returns c = (written-as (written-on ((c .before .before .before .before .before .before .before .before .before .before .before .before .before .before .before .before .before .before .before .before .before .write-tree-answer .ensures .0)) (written-on ((c .before .before .before .before .before .before .before .before .before .before .before .before .before .before .before .before .write-fields .ensures .0)) (written-on ((c .before .before .before .before .before .before .before .before .before .before .before .write-fields2 .ensures .0)) (written-on ((c .before .before .before .before .before .before .write-fields3 .ensures .0)) ((c .before .before .write-byte .ensures)) (omega (arith, (c .before .before .before .before .before .before .before .before .before .before .before .before .before .before .before .before .before .before .before .before .before .write-tree-answer .ensures .1), (c .before .before .before .before .before .before .before .before .before .before .before .before .before .before .before .before .write-fields .ensures .1), (c .before .before .before .before .before .before .before .before .before .before .before .write-fields2 .ensures .1), (c .before .before .before .before .before .before .write-fields3 .ensures .1), (c .before .before .before .before .before .before .before .before .before .before .before .before .before .before .before .before .before .before .before .before .before .before .before .before .before .before .before .before .before .before .before .before .before .before .before .before .before .before .pre)))) (omega (arith, (c .before .before .before .before .before .before .before .before .before .before .before .before .before .before .before .before .before .before .before .before .before .write-tree-answer .ensures .1), (c .before .before .before .before .before .before .before .before .before .before .before .before .before .before .before .before .write-fields .ensures .1), (c .before .before .before .before .before .before .before .before .before .before .before .write-fields2 .ensures .1), (c .before .before .before .before .before .before .before .before .before .before .before .before .before .before .before .before .before .before .before .before .before .before .before .before .before .before .before .before .before .before .before .before .before .before .before .before .before .before .pre)))) (omega (arith, (c .before .before .before .before .before .before .before .before .before .before .before .before .before .before .before .before .before .before .before .before .before .write-tree-answer .ensures .1), (c .before .before .before .before .before .before .before .before .before .before .before .before .before .before .before .before .write-fields .ensures .1), (c .before .before .before .before .before .before .before .before .before .before .before .before .before .before .before .before .before .before .before .before .before .before .before .before .before .before .before .before .before .before .before .before .before .before .before .before .before .before .pre)))) (omega (arith, (c .before .before .before .before .before .before .before .before .before .before .before .before .before .before .before .before .before .before .before .before .before .write-tree-answer .ensures .1), (c .before .before .before .before .before .before .before .before .before .before .before .before .before .before .before .before .before .before .before .before .before .before .before .before .before .before .before .before .before .before .before .before .before .before .before .before .before .before .pre)))) _ (ap (λ (o : Outcome ℕ × List ℕ × List ℕ × List ℕ). treeText o) ((c .before .before .before .before .before .before .before .before .before .before .before .before .before .before .before .before .before .before .before .before .before .before .before .before .before .before .before .before .before .tree .ensures))), omega (arith, (c .before .before .before .before .before .before .before .before .before .before .before .before .before .before .before .before .before .before .before .before .before .write-tree-answer .ensures .1), (c .before .before .before .before .before .before .before .before .before .before .before .before .before .before .before .before .write-fields .ensures .1), (c .before .before .before .before .before .before .before .before .before .before .before .write-fields2 .ensures .1), (c .before .before .before .before .before .before .write-fields3 .ensures .1), (c .before .before .write-byte .ensures .end-is), (c .before .before .before .before .before .before .before .before .before .before .before .before .before .before .before .before .before .before .before .before .before .before .before .before .before .before .before .before .before .before .before .before .before .before .before .before .before .before .pre)))
 
 pub write-tree-spec : {M : Type 1} → statement M
 write-tree-spec =

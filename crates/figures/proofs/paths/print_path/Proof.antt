@@ -24,7 +24,7 @@ array-share-prefix-line : tie.Need-array-share-prefix-line
 array-share-prefix-line c = search needs
 
 slice-aggregate-write-all : tie.Need-slice-aggregate-write-all
-slice-aggregate-write-all c = simp length-take (omega (arith, (c .before .before .write-answer .ensures), (c .before .before .before .before .before .before .write-word .ensures .next-is), (c .before .before .before .before .before .before .before .before .before .before .before .before .before .before .before .pre .0), (c .before .before .before .before .before .before .before .before .before .before .before .before .before .before .before .pre .1)))
+slice-aggregate-write-all c = simp length-take (omega (arith, (c .before .before .write-answer .ensures), (c .before .before .before .before .before .before .write-word .ensures .end-is), (c .before .before .before .before .before .before .before .before .before .before .before .before .before .before .before .pre .0), (c .before .before .before .before .before .before .before .before .before .before .before .before .before .before .before .pre .1)))
 
 write-all-requires : tie.Need-write-all-requires
 write-all-requires c κs = search needs

@@ -52,7 +52,7 @@ same-length : tie.Need-same-length
 same-length c = search needs
 
 returns : tie.Need-returns
-returns c = (written-as ((c .before .before .write-word .ensures)) _ (sym (ap (λ (k : RecordKind). kindField (kindNumber k)) ((c .before .before .before .before .before .enum-told .given .1)))), omega (arith, (c .before .before .write-word .ensures .next-is)))
+returns c = (written-as ((c .before .before .write-word .ensures)) _ (sym (ap (λ (k : RecordKind). kindField (kindNumber k)) ((c .before .before .before .before .before .enum-told .given .1)))), omega (arith, (c .before .before .write-word .ensures .end-is)))
 
 same-length-2 : tie.Need-same-length-2
 same-length-2 c = search needs

@@ -15,7 +15,7 @@ same-length : tie.Need-same-length
 same-length c = search needs
 
 returns : tie.Need-returns
-returns c = (written-on ((c .before .before .before .before .before .before .write-refusal .ensures .0)) ((c .before .before .write-byte .ensures)) (omega (arith, (c .before .before .before .before .before .before .write-refusal .ensures .1), (c .before .before .before .before .before .before .before .before .before .pre))), omega (arith, (c .before .before .before .before .before .before .write-refusal .ensures .1), (c .before .before .write-byte .ensures .next-is)))
+returns c = (written-on ((c .before .before .before .before .before .before .write-refusal .ensures .0)) ((c .before .before .write-byte .ensures)) (omega (arith, (c .before .before .before .before .before .before .write-refusal .ensures .1), (c .before .before .before .before .before .before .before .before .before .pre))), omega (arith, (c .before .before .before .before .before .before .write-refusal .ensures .1), (c .before .before .write-byte .ensures .end-is)))
 
 pub write-refused-spec : {M : Type 1} → statement M
 write-refused-spec =

@@ -1,5 +1,5 @@
 -- `text::fields::write_byte` writes one byte. Assumes nothing.
-use Rattle.text.specs.TextLaws.{nothing-written, written-byte}
+use Rattle.graph.specs.Appending.{one-word}
 use borrow.Author.Needs.{needs}
 use native.Mathlib.Omega.{arith}
 use Rattle.text.proofs.fields.write_byte.Statement.{statement}
@@ -15,7 +15,7 @@ same-length : tie.Need-same-length
 same-length c = search needs
 
 returns : tie.Need-returns
-returns c = written-byte (nothing-written _ _) _ (omega (arith, (c .pre)))
+returns c = one-word _ _ _ (omega (arith, (c .pre)))
 
 pub write-byte-spec : {M : Type 1} → statement M
 write-byte-spec = tie.close (tie.spec slice-write-out add-result same-length returns)

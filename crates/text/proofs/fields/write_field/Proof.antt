@@ -16,7 +16,7 @@ same-length : tie.Need-same-length
 same-length c = search needs
 
 returns : tie.Need-returns
-returns c = (written-on ((c .before .before .before .before .before .before .write-byte .ensures)) ((c .before .before .write-decimal .ensures)) (omega (arith, (c .before .before .before .before .before .before .write-byte .ensures .next-is), (c .before .before .before .before .before .before .before .before .before .pre))), omega (arith, (c .before .before .before .before .before .before .write-byte .ensures .next-is), (c .before .before .write-decimal .ensures .next-is), length-decimal ((c .before .before .before .before .before .before .before .before .before .args .n))))
+returns c = (written-on ((c .before .before .before .before .before .before .write-byte .ensures)) ((c .before .before .write-decimal .ensures)) (omega (arith, (c .before .before .before .before .before .before .write-byte .ensures .end-is), (c .before .before .before .before .before .before .before .before .before .pre))), omega (arith, (c .before .before .before .before .before .before .write-byte .ensures .end-is), (c .before .before .write-decimal .ensures .end-is), length-decimal ((c .before .before .before .before .before .before .before .before .before .args .n))))
 
 pub write-field-spec : {M : Type 1} → statement M
 write-field-spec =

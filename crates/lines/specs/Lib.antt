@@ -1,0 +1,4 @@
+-- The listing of a table, and the laws of writing its lines.
+pub mod Listing
+pub mod ListingLaws
+pub mod ListingFigures
