@@ -5,7 +5,7 @@ use mathlib.Core.Path.{_≡_, refl, ap, _∙_}
 use mathlib.Core.List.{List, _∷_, _++_, map, append-nil}
 use lib.ListN.{length, take, drop, drop-of-length-le, length-map}
 use Rattle.graph.specs.Lists.{rising}
-use Rattle.graph.specs.ListLaws.{rising-length}
+use Rattle.graph.specs.ListLaws.{length-rising, front-of-rising}
 use Rattle.rule.specs.Calls.{treeOutcome}
 use Rattle.path.specs.Places.{Filling, filling-ends}
 use Rattle.asking.specs.AnswerText.{untouchedPlace, untouched, treeText}
@@ -18,13 +18,7 @@ all-untouched {before} {now} {i} F h =
     ∙ append-nil (untouched (length before))
   where
     many : length (untouched (length before)) ≡ length before
-    many = length-map (rising 0 (length before)) untouchedPlace ∙ rising-length 0 (length before)
-
-front-of-rising : (f : ℕ → ℕ) (k n m : ℕ) → n ≤ m → take n (map f (rising k m)) ≡ map f (rising k n)
-unfolding rising
-front-of-rising f k zero m h = refl
-front-of-rising f k (suc n) zero h = absurd (omega arith)
-front-of-rising f k (suc n) (suc m) h = ap (λ (t : List ℕ). f k ∷ t) (front-of-rising f (suc k) n m (omega arith))
+    many = length-map (rising 0 (length before)) untouchedPlace ∙ length-rising 0 (length before)
 
 -- What is lent of a list that was set has its places untouched.
 pub front-untouched : (list : List ℕ) (n m : ℕ) → list ≡ untouched m → n ≤ m → take n list ≡ untouched n

@@ -17,24 +17,16 @@ use Rattle.rule.specs.Entries.{Entry, entryWords, entriesOf, entryListOf}
 use Rattle.rule.specs.EntryLaws.{entries-decoded, entry-fits}
 use Rattle.rule.specs.Paths.{chosenPath}
 use Rattle.rule.specs.Lookup.{entriesIn}
-use Rattle.rule.specs.CallLaws.{refused-not-answered}
-use Rattle.rule.specs.Calls.{named, pathFound, planPath, planEntries}
+use Rattle.rule.specs.CallLaws.{refused-not-answered, named-asked}
+use Rattle.rule.specs.Calls.{pathFound, planPath, planEntries}
 use Rattle.lines.specs.Listing.{entryLine, entryLines}
 
 module _ (p : Plan) where
-  -- The path call's answer for a VID with a record and two bridges that the plan has.
-  named-path : (vid a b : ℕ) (v : Vid) → vidRecord p vid ≡ some v → a < length (p .bridges) → b < length (p .bridges)
-      → planPath p vid a b ≡ pathFound p (chosenPath p (v .index) a b)
-  named-path vid a b v e h l = λ i. named
-      (is-true (knownBridge p a && knownBridge p b)
-      (both (knownBridge p a) (knownBridge p b) (lt→ltb a (length (p .bridges)) h) (lt→ltb b (length (p .bridges)) l)) i)
-      (e i) λ w. pathFound p (chosenPath p (w .index) a b)
-
   -- "`none`, VID, from, to where 12": no other refusal is behind a `none` line.
   pub none-is-12 : (vid a b : ℕ) (v : Vid) → vidRecord p vid ≡ some v → a < length (p .bridges) → b < length (p .bridges)
       → (number : ℕ) (kind : Option ℕ) (at : ℕ) → planPath p vid a b ≡ refused number kind at → planPath p vid a b ≡ refusedAs 12
   none-is-12 vid a b v e h l number kind at f =
-      go (chosenPath p (v .index) a b) (named-path vid a b v e h l)
+      go (chosenPath p (v .index) a b) (named-asked p vid v e a b h l)
     where
       go : (o : Option (List ℕ)) → planPath p vid a b ≡ pathFound p o → planPath p vid a b ≡ refusedAs 12
       go none g = g

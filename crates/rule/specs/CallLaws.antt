@@ -18,7 +18,7 @@ use Rattle.rule.specs.Plan.{Plan, knownBridge, vidRecord}
 use Rattle.rule.specs.Check.{verdict}
 use Rattle.rule.specs.Paths.{chosenPath}
 use Rattle.rule.specs.Entries.{entryListOf}
-use Rattle.rule.specs.Calls.{named, pathFound, pathAnswer, entriesAnswer}
+use Rattle.rule.specs.Calls.{named, pathFound, pathAnswer, entriesAnswer, planPath}
 use Rattle.rule.specs.PlanLaws.{PlanLaws}
 use Rattle.rule.specs.OneRecord.{distinct-vids, one-vid}
 
@@ -62,23 +62,28 @@ module _ {A : Type 0} where
       go (inl h) = refused-not-answered (sym (rw (holds (length (w .words)) (length old) h) at e))
       go (inr h) = omega (arith, ap number (rw (too-short (length (w .words)) (length old) h) at e))
 
-module _ (t : List ℕ) (p : Plan) (accepted : verdict t ≡ answered p) (L : PlanLaws p) where
-  -- The record of a VID of the table.
-  vid-found : (v : Vid) → In v (p .vids) → vidRecord p (v .vid) ≡ some v
-  vid-found v k = ap (λ (vs : List Vid). getElem? vs 0) (only-one (filter (λ w. eqb (w .vid) (v .vid)) (p .vids)) v
+module _ (p : Plan) where
+  -- What the path call answers for a VID with a record and two bridges that the plan has.
+  pub named-asked : (vid : ℕ) (v : Vid) → vidRecord p vid ≡ some v → (a b : ℕ) → a < length (p .bridges) → b < length (p .bridges)
+      → planPath p vid a b ≡ pathFound p (chosenPath p (v .index) a b)
+  named-asked vid v e a b h l =
+      (λ i. named (is-true (knownBridge p a && knownBridge p b)
+      (both (knownBridge p a) (knownBridge p b) (lt→ltb a (length (p .bridges)) h) (lt→ltb b (length (p .bridges)) l)) i)
+      (e i) λ w. pathFound p (chosenPath p (w .index) a b))
+
+  -- The record of a VID of the plan.
+  pub vid-found : PlanLaws p → (v : Vid) → In v (p .vids) → vidRecord p (v .vid) ≡ some v
+  vid-found L v k = ap (λ (vs : List Vid). getElem? vs 0) (only-one (filter (λ w. eqb (w .vid) (v .vid)) (p .vids)) v
       (distinct-filter (λ w. eqb (w .vid) (v .vid)) (p .vids) (distinct-vids p L))
       (in-filter (λ w. eqb (w .vid) (v .vid)) v (p .vids) k (eq-eqb (v .vid) (v .vid) refl))
       (λ w i. let r = filter-in (λ w. eqb (w .vid) (v .vid)) w (p .vids) i in one-vid p L w v (r .0) k (eqb→eq (w .vid) (v .vid) (r .1))))
 
+module _ (t : List ℕ) (p : Plan) (accepted : verdict t ≡ answered p) (L : PlanLaws p) where
   pub path-asked : (v : Vid) → In v (p .vids) → (a b : ℕ) → a < length (p .bridges) → b < length (p .bridges)
       → pathAnswer t (v .vid) a b ≡ pathFound p (chosenPath p (v .index) a b)
   unfolding pathAnswer
   path-asked v k a b h l =
-      (λ i. andThen (accepted i) λ q. named (knownBridge q a && knownBridge q b) (vidRecord q (v .vid)) λ w. pathFound q
-      (chosenPath q (w .index) a b))
-      ∙ (λ i. named (is-true (knownBridge p a && knownBridge p b)
-      (both (knownBridge p a) (knownBridge p b) (lt→ltb a (length (p .bridges)) h) (lt→ltb b (length (p .bridges)) l)) i)
-      (vid-found v k i) λ w. pathFound p (chosenPath p (w .index) a b))
+      (λ i. andThen (accepted i) λ q. planPath q (v .vid) a b) ∙ named-asked p (v .vid) v (vid-found p L v k) a b h l
 
   pub entries-asked : (u : ℕ) → u < length (p .bridges)
       → entriesAnswer t u ≡ answered (record { values = length (entryListOf p u); words = entryListOf p u })

@@ -45,6 +45,10 @@ knownBridge p n = ltb n (length (p .bridges))
 abbrev pub bridgeAt : Plan → ℕ → Bridge
 bridgeAt p n = getD (p .bridges) n (record { spSourceId = 0; identifier = 0 })
 
+-- The VID record number `k`, counted from 0 in record order.
+abbrev pub vidAt : Plan → ℕ → Vid
+vidAt p k = getD (p .vids) k (record { vid = 0; index = 0 })
+
 abbrev pub hasVid : ℕ → Vid → Bool
 hasVid n v = eqb (v .vid) n
 

@@ -13,7 +13,7 @@ ghost use Rattle.table.specs.Positions.{planAt};
 ghost use Rattle.links.specs.Mates.{Checked};
 
 // "counts of bridges, half-links, usable links, VIDs, members" of an accepted table.
-fn counts(table: &[u8], s: Shape, links: &[u32]) -> Counts
+pub fn counts(table: &[u8], s: Shape, links: &[u32]) -> Counts
     requires { ⌜ Checked (now table) (now links) s ⌝ }
     ensures { λ r. ⌜ r ≡ countsOf (planAt (wordsOf (now (table .entry))) s) ⌝ }
 {
