@@ -21,8 +21,9 @@ use Rattle.table.specs.declared.shape.Shape.{Shape}
 use Rattle.table.specs.Positions.{vidsFrom, membersFrom, planAt}
 use Rattle.table.specs.PositionLaws.{how-many, record-in}
 use Rattle.network.specs.PlanLists.{ListsOf, Listed, indexOf}
+use Rattle.network.specs.KeptTrees.{slotOf}
 use Rattle.ports.specs.Leaving.{PlanHops, LeavingRow}
-use Rattle.ports.specs.Rows.{slotOf, rowAt, HasRow, RowOf, RowsHeld, Kept, kept-all, kept-both, plan-row}
+use Rattle.ports.specs.Rows.{rowAt, HasRow, RowOf, RowsHeld, Kept, kept-all, kept-both, plan-row}
 use Rattle.words.specs.Words.{Readable, vidNumber, memberNumber}
 use Rattle.entries.specs.PlanWords.{bridges-are}
 

@@ -98,3 +98,11 @@ module _ {n : ℕ} {starts neighbours costs identifiers marks trees : List ℕ} 
             subst (λ (t : List ℕ). TreeOfLists n starts neighbours costs identifiers index′ root′ t)
             (sym (other-words (lineOf (length marks) index′ root′) (mod-lt (slotOf index′ root′) (H .has-lines)) d))
             (H .held index′ root′ a b c (sym (getD-set-other marks line (lineOf (length marks) index′ root′) (slotOf index root + 1) 0 d) ∙ m))
+
+-- The labels as a reader is lent them, from `place` to `place + 320`.
+pub lent-tree : {n : ℕ} {starts neighbours costs identifiers : List ℕ} {index root : ℕ} (trees : List ℕ) (place : ℕ)
+    → TreeOfLists n starts neighbours costs identifiers index root (take 320 (drop place trees))
+    → TreeOfLists n starts neighbours costs identifiers index root (take (place + 320 - place) (drop place trees))
+lent-tree {n} {starts} {neighbours} {costs} {identifiers} {index} {root} trees place T =
+    let e : 320 ≡ place + 320 - place = omega arith
+    in subst (λ (k : ℕ). TreeOfLists n starts neighbours costs identifiers index root (take k (drop place trees))) e T

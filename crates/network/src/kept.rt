@@ -30,7 +30,7 @@ pub fn kept_tree(
 ) -> usize
     requires { ⌜ Listed n (now starts) (now neighbours) (now costs) (now identifiers) × (length (now identifiers) ≤ 64) ⌝ }
     requires { ⌜ (1 ≤ index) × (index ≤ 16) × (root < n) × (4096 ≤ length (now rows)) × TreesHeld n (now starts) (now neighbours) (now costs) (now identifiers) (now marks) (now trees) ⌝ }
-    ensures { λ r. ⌜ TreesHeld n (now (starts .entry)) (now (neighbours .entry)) (now (costs .entry)) (now (identifiers .entry)) (now (marks .exit)) (now (trees .exit)) ⌝ }
+    ensures { λ _. ⌜ TreesHeld n (now (starts .entry)) (now (neighbours .entry)) (now (costs .entry)) (now (identifiers .entry)) (now (marks .exit)) (now (trees .exit)) ⌝ }
     ensures { λ r. ⌜ (r + 320 ≤ length (now (trees .exit))) × TreeOfLists n (now (starts .entry)) (now (neighbours .entry)) (now (costs .entry)) (now (identifiers .entry)) index root (take 320 (drop r (now (trees .exit)))) ⌝ }
 {
     let slot = (index as usize - 1) * 64 + root;

@@ -1,6 +1,6 @@
 -- Rows kept by ECT index and start of the paths, in one list: 1,024 places that say where the row of an index and a bridge begins, 0
 -- where it has none, and after them the rows, with 64 places each. Assumes nothing.
-use Prim.Native.Nat.{ℕ, _+_, _*_, _-_, _≤_, _<_}
+use Prim.Native.Nat.{ℕ, _+_, _*_, _≤_, _<_}
 use native.Mathlib.Omega.{arith}
 use mathlib.Core.Path.{_≡_, refl, sym, ap, _∙_, subst}
 use mathlib.Core.List.{List, [], _∷_, map}
@@ -13,14 +13,12 @@ use Rattle.graph.specs.Splices.{length-spliced, place-before, place-within}
 use Rattle.graph.specs.Appending.{Appended}
 use Rattle.rule.specs.Plan.{Plan}
 use Rattle.network.specs.PlanLists.{ListsOf, TreeOfLists}
+use Rattle.network.specs.KeptTrees.{slotOf}
+use Rattle.network.specs.KeptTreeLaws.{slot-tells}
 use Rattle.ports.specs.Leaving.{PlanHops, LeavingRow, leavingBy, rowBy}
 use Rattle.ports.specs.LeavingLaws.{leaving-is}
 
--- The place that says where the row of an index and a bridge begins.
-abbrev pub slotOf : ℕ → ℕ → ℕ
-slotOf index a = (index - 1) * 64 + a
-
--- Where it begins.
+-- Where the row of an index and a bridge begins.
 abbrev pub rowAt : List ℕ → ℕ → ℕ → ℕ
 rowAt rows index a = getD rows (slotOf index a) 0
 
@@ -51,12 +49,6 @@ kept-all rows = record { same-length = refl; still = λ i l d. d }
 
 pub kept-both : {before between after : List ℕ} → Kept before between → Kept between after → Kept before after
 kept-both K M = record { same-length = M .same-length ∙ K .same-length; still = λ i l d. M .still i l (K .still i l d) }
-
-pub slot-below : (index a : ℕ) → 1 ≤ index → index ≤ 16 → a < 64 → slotOf index a < 1024
-slot-below index a h k l = omega arith
-
-slot-tells : (index a index′ a′ : ℕ) → 1 ≤ index → 1 ≤ index′ → a < 64 → a′ < 64 → slotOf index a ≡ slotOf index′ a′ → (index ≡ index′) × (a ≡ a′)
-slot-tells index a index′ a′ h k l m e = (omega arith, omega arith)
 
 -- No row yet.
 pub no-rows : (n : ℕ) (starts neighbours costs identifiers hops : List ℕ) (b : ℕ) (rows : List ℕ) → 6144 ≤ length rows

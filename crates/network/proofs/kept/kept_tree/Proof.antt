@@ -52,7 +52,7 @@ part-tree-over-lists-end : tie.Need-part-tree-over-lists-end
 part-tree-over-lists-end c = search needs
 
 tree-over-lists-requires : tie.Need-tree-over-lists-requires
-tree-over-lists-requires c κs = ((c .before .before .before .before .before .before .before .before .before .before .before .before .pre .0), ((c .before .before .before .before .before .before .before .before .before .before .before .before .pre .1 .0), (c .before .before .before .before .before .before .before .before .before .before .before .before .pre .1 .1), (c .before .before .before .before .before .before .before .before .before .before .before .before .pre .1 .2), simp (length-take, length-drop) (omega (arith, (c .before .before .before .before .before .before .before .before .before .before .before .before .pre .1 .4 .has-words), (c .before .before .before .before .line-of .ensures .1))), (c .before .before .before .before .before .before .before .before .before .before .before .before .pre .1 .3)))
+tree-over-lists-requires c κs = ((c .before .before .before .before .before .before .before .before .before .before .before .before .pre .0), (omega (arith, (c .before .before .before .before .before .before .before .before .before .before .before .before .pre .1 .0)), omega (arith, (c .before .before .before .before .before .before .before .before .before .before .before .before .pre .1 .1)), omega (arith, (c .before .before .before .before .before .before .before .before .before .before .before .before .pre .1 .2)), simp (length-take, length-drop) (omega (arith, (c .before .before .before .before .before .before .before .before .before .before .before .before .pre .1 .4 .has-words), (c .before .before .before .before .line-of .ensures .1))), (c .before .before .before .before .before .before .before .before .before .before .before .before .pre .1 .3)))
 
 cast-marks : tie.Need-cast-marks
 cast-marks c = search needs
