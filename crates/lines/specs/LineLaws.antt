@@ -34,15 +34,18 @@ module _ (labels : List ℕ) (u : ℕ) (F : Followable labels u) (old now : List
   abbrev bridges : List ℕ
   bridges = followed labels u (labelAt labels u .steps + 1)
 
-  -- What a list of 64 places holds after the call.
+  -- The call answered `o`, and the list holds what it then has to hold.
   abbrev Answered : Outcome CostAndHops → Type 0
   Answered o = _≡_ {A = Outcome CostAndHops × List ℕ} (o, now) (lentTo old (labelledPath labels u))
 
   -- A path given: the front of the list has its bridges.
-  pub given-line : (cost hops : ℕ) → Answered (answered (record { cost = cost; hops = hops }))
+  pub given-line : (o : Outcome CostAndHops) → Answered o → (cost hops : ℕ) → o ≡ answered (record { cost = cost; hops = hops })
       → (hops < 64) × (line pathWord (vid ∷ u ∷ b ∷ cost ∷ hops ∷ take (hops + 1) now) ≡ pathLine vid u b (labelledPath labels u))
-  given-line cost hops e = go (same-or-not (labelAt labels u .far) noCost)
+  given-line o a cost hops f = go (same-or-not (labelAt labels u .far) noCost)
     where
+      e : Answered (answered (record { cost = cost; hops = hops }))
+      e = (λ i. (sym f i, now)) ∙ a
+
       go : (labelAt labels u .far ≡ noCost) ⊎ (labelAt labels u .far ≡ noCost → ⊥)
           → (hops < 64) × (line pathWord (vid ∷ u ∷ b ∷ cost ∷ hops ∷ take (hops + 1) now) ≡ pathLine vid u b (labelledPath labels u))
       go (inl f) =
@@ -62,10 +65,13 @@ module _ (labels : List ℕ) (u : ℕ) (F : Followable labels u) (old now : List
           )
 
   -- No path given: 13 cannot be, for the list has a place for every bridge of a path.
-  pub none-line : (number : ℕ) (kind : Option ℕ) (at : ℕ) → Answered (refused number kind at)
+  pub none-line : (o : Outcome CostAndHops) → Answered o → (number : ℕ) (kind : Option ℕ) (at : ℕ) → o ≡ refused number kind at
       → line noneWord (vid ∷ u ∷ b ∷ []) ≡ pathLine vid u b (labelledPath labels u)
-  none-line number kind at e = go (same-or-not (labelAt labels u .far) noCost)
+  none-line o a number kind at f = go (same-or-not (labelAt labels u .far) noCost)
     where
+      e : Answered (refused number kind at)
+      e = (λ i. (sym f i, now)) ∙ a
+
       go : (labelAt labels u .far ≡ noCost) ⊎ (labelAt labels u .far ≡ noCost → ⊥)
           → line noneWord (vid ∷ u ∷ b ∷ []) ≡ pathLine vid u b (labelledPath labels u)
       go (inl f) = rw (eq-eqb (labelAt labels u .far) noCost f) refl
