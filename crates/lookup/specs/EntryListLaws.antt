@@ -26,7 +26,7 @@ faultyAt ws at = faultyEntry (entryAt ws at) (bits (word ws (at + 1)) 31 16)
 abbrev pub matchesAt : List ℕ → ℕ → ℕ → ℕ → Bool
 matchesAt ws vid address at = eqb (entryAt ws at .vid) vid && eqb (entryAt ws at .address) address
 
-three-words : (ws : List ℕ) (at : ℕ) → 3 ≤ length ws - at
+pub three-words : (ws : List ℕ) (at : ℕ) → 3 ≤ length ws - at
     → drop at ws ≡ word ws at ∷ word ws (at + 1) ∷ word ws (at + 2) ∷ drop (at + 3) ws
 three-words ws at h =
     drop-next ws at (at + 1) 0 (omega arith) (omega arith)

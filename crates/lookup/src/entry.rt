@@ -16,7 +16,7 @@ fn kind_of(first: u32) -> u32
 }
 
 // "VID in 27..16".
-fn vid_of(first: u32) -> u32
+pub fn vid_of(first: u32) -> u32
     ensures { λ r. ⌜ (r ≡ bits first 27 16) × (r < 4096) ⌝ }
 {
     first / 65536 % 4096
@@ -30,7 +30,7 @@ pub fn port_of(first: u32) -> u32
 }
 
 // "16 zero bits and the upper 16 bits of address; its lower 32 bits".
-fn address_of(upper: u32, lower: u32) -> u64
+pub fn address_of(upper: u32, lower: u32) -> u64
     ensures { λ r. ⌜ r ≡ entryOf 0 upper lower .address ⌝ }
 {
     two_words(upper % 65536, lower)
