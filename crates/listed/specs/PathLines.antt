@@ -2,26 +2,27 @@
 -- Assumes nothing.
 use Prim.Native.Nat.{ℕ, _+_, _*_, _≤_, _<_}
 use native.Mathlib.Omega.{arith}
-use mathlib.Core.Path.{_≡_, refl, sym, ap, _∙_}
+use mathlib.Core.Path.{_≡_, refl, sym, ap, subst, _∙_}
 use mathlib.Core.List.{List, [], _∷_}
 use mathlib.Core.Bool.{cond, not}
 use lib.Dec.{eqb}
 use lib.ListN.{length}
 use borrow.Author.Tests.{eq-eqb, ne-eqb}
 use Rattle.graph.specs.Lists.{rising}
+use Rattle.graph.specs.Members.{In}
 use Rattle.graph.specs.ListLaws.{flatMap-filter}
 use Rattle.graph.specs.Appending.{Appended, appended-nothing, eachOf, AppendingFew, few-ends}
 use Rattle.rule.specs.Words.{wordsOf}
+use Rattle.rule.specs.Records.{Vid, bridgeOf, vidOf}
 use Rattle.rule.specs.Plan.{Plan}
 use Rattle.rule.specs.Calls.{planPath}
 use Rattle.rule.specs.CallLaws.{named-asked, vid-found}
 use Rattle.table.specs.declared.shape.Shape.{Shape}
-use Rattle.table.specs.Positions.{planAt}
+use Rattle.table.specs.Positions.{vidsFrom, planAt}
+use Rattle.table.specs.PositionLaws.{how-many, record-in}
 use Rattle.network.specs.PlanLists.{ListsOf, Listed, TreeOfLists}
 use Rattle.path.specs.Labelled.{labelledPath, Followable, labelled-path, tree-followable}
 use Rattle.words.specs.Words.{Readable, vidNumber}
-use Rattle.entries.specs.PlanWords.{bridges-are}
-use Rattle.entries.specs.Needed.{vid-listed}
 use Rattle.lines.specs.Listing.{pathLine, pathLines}
 
 -- The neighbour lists and the identifiers of the table's plan.
@@ -48,36 +49,47 @@ module _ (p : Plan) (vid a : ℕ) where
   all-pairs = sym (flatMap-filter (λ b. pathLine vid a b (planPath p vid a b)) (λ b. not (eqb b a)) (rising 0 (length (p .bridges))))
 
 module _ {t : List ℕ} {s : Shape} {starts neighbours costs identifiers : List ℕ} (L : TableLists t s starts neighbours costs identifiers) where
+  bridges-are : length (planAt (wordsOf t) s .bridges) ≡ s .bridges
+  bridges-are = how-many bridgeOf 3 0 (wordsOf t) (s .bridges)
+
   pub lists-listed : Listed (s .bridges) starts neighbours costs identifiers
   lists-listed = record { plan = planAt (wordsOf t) s; lists = L .lists }
 
-  module _ (k a b : ℕ) (known-vid : k < s .vids) (known-a : a < s .bridges) (known-b : b < s .bridges) {labels : List ℕ}
-      (T : TreeOfLists (s .bridges) starts neighbours costs identifiers (vidNumber (wordsOf t) s k .index) b labels) where
-    abbrev plan : Plan
-    plan = planAt (wordsOf t) s
+  pub bridges-few : s .bridges ≤ 64
+  bridges-few = omega (arith, bridges-are, L .readable .laws .bridges .few)
 
-    a-below : a < length (plan .bridges)
-    a-below = omega (arith, bridges-are (L .readable))
+  -- The VID record number `k`.
+  module _ (k : ℕ) (known-vid : k < s .vids) (v : Vid) (e : v ≡ vidNumber (wordsOf t) s k) where
+    vid-in : In v (planAt (wordsOf t) s .vids)
+    vid-in = subst (λ (w : Vid). In w (planAt (wordsOf t) s .vids)) (sym e) (record-in vidOf 1 (vidsFrom s) (wordsOf t) (s .vids) k known-vid)
 
-    pub pair-followable : Followable labels a
-    pair-followable = tree-followable plan (L .readable .laws) (vidNumber (wordsOf t) s k .index) b labels (T .of-plan plan (L .lists)) a a-below
+    pub index-fits : (1 ≤ v .index) × (v .index ≤ 16)
+    index-fits = let F = L .readable .laws .vids .fits v vid-in in (F .least-index, F .greatest-index)
 
-    -- The labels answer what the path call answers.
-    pub pair-answer : labelledPath labels a ≡ planPath plan (vidNumber (wordsOf t) s k .vid) a b
-    pair-answer =
-        labelled-path plan (L .readable .laws) (vidNumber (wordsOf t) s k .index) b labels (T .of-plan plan (L .lists)) a a-below
-        ∙ sym (named-asked plan (vidNumber (wordsOf t) s k .vid) (vidNumber (wordsOf t) s k)
-        (vid-found plan (L .readable .laws) (vidNumber (wordsOf t) s k) (vid-listed (L .readable) k known-vid)) a b a-below
-        (omega (arith, bridges-are (L .readable))))
+    module _ (a b : ℕ) (known-a : a < s .bridges) (known-b : b < s .bridges) {labels : List ℕ}
+        (T : TreeOfLists (s .bridges) starts neighbours costs identifiers (v .index) b labels) where
+      abbrev plan : Plan
+      plan = planAt (wordsOf t) s
 
-    pub pair-written : (b ≡ a → ⊥) → {at next : ℕ} {before after : List ℕ}
-        → Appended before at (pathLine (vidNumber (wordsOf t) s k .vid) a b (labelledPath labels a)) after next
-        → Appended before at (pairLine plan (vidNumber (wordsOf t) s k .vid) a b) after next
-    pair-written d w = rw (two-bridges plan (vidNumber (wordsOf t) s k .vid) a b d, sym pair-answer) w
+      pub pair-followable : Followable labels a
+      pair-followable = tree-followable plan (L .readable .laws) (v .index) b labels (T .of-plan plan (L .lists)) a (omega (arith, bridges-are))
+
+      -- The labels answer what the path call answers.
+      pub pair-answer : labelledPath labels a ≡ planPath plan (v .vid) a b
+      pair-answer =
+          labelled-path plan (L .readable .laws) (v .index) b labels (T .of-plan plan (L .lists)) a (omega (arith, bridges-are))
+          ∙ sym (named-asked plan (v .vid) v (vid-found plan (L .readable .laws) v vid-in) a b (omega (arith, bridges-are)) (omega (arith, bridges-are)))
+
+      pub pair-written : (b ≡ a → ⊥) → {at next : ℕ} {before after : List ℕ}
+          → Appended before at (pathLine (v .vid) a b (labelledPath labels a)) after next
+          → Appended before at (pairLine plan (vidNumber (wordsOf t) s k .vid) a b) after next
+      pair-written d {at} {next} {before} {after} w =
+          subst (λ (x : List ℕ). Appended before at x after next)
+          (ap (pathLine (v .vid) a b) pair-answer ∙ sym (two-bridges plan (v .vid) a b d) ∙ ap (λ (w : Vid). pairLine plan (w .vid) a b) e) w
 
   -- The lines of all pairs are the path lines.
   pub pairs-written : (vid a : ℕ) {to next : ℕ} {before after : List ℕ} → AppendingFew (pairLine (planAt (wordsOf t) s) vid a) 764 (s .bridges) before 0 to after next
       → 764 * s .bridges ≤ length before → s .bridges ≤ to → Appended before 0 (pathLines (planAt (wordsOf t) s) vid a) after next × (next ≤ length after)
   pairs-written vid a {to} {next} {before} {after} A room l =
       let E = few-ends A (omega arith) l
-      in (rw (sym (all-pairs (planAt (wordsOf t) s) vid a), bridges-are (L .readable)) (E .0), omega (arith, E .1, A .same-length))
+      in (rw (sym (all-pairs (planAt (wordsOf t) s) vid a), bridges-are) (E .0), omega (arith, E .1, A .same-length))
