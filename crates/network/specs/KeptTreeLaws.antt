@@ -18,13 +18,18 @@ pub slot-tells : (index root index′ root′ : ℕ) → 1 ≤ index → 1 ≤ i
 slot-tells index root index′ root′ h k l m e = (omega arith, omega arith)
 
 -- No tree yet.
-pub no-trees : (n : ℕ) (starts neighbours costs identifiers marks trees : List ℕ) → 1 ≤ length marks → 320 * length marks ≤ length trees
-    → ((line : ℕ) → getD marks line 0 ≡ 0) → TreesHeld n starts neighbours costs identifiers marks trees
-no-trees n starts neighbours costs identifiers marks trees l m z = record {
-  has-lines = l;
-  has-words = m;
-  held = λ index root h k i e. absurd (omega (arith, z (lineOf (length marks) index root)));
-}
+pub no-trees :
+    (n : ℕ) (starts neighbours costs identifiers marks trees : List ℕ) →
+    1 ≤ length marks →
+    320 * length marks ≤ length trees →
+    ((line : ℕ) → line < length marks → getD marks line 0 ≡ 0) →
+    TreesHeld n starts neighbours costs identifiers marks trees
+no-trees n starts neighbours costs identifiers marks trees l m z =
+    record {
+      has-lines = l;
+      has-words = m;
+      held = λ index root h k i e. absurd (omega (arith, z (lineOf (length marks) index root) (mod-lt (slotOf index root) l)));
+    }
 
 -- A part that was lent, put back in its place.
 put-back : (xs part : List ℕ) (at k : ℕ) → length part ≡ k → take at xs ++ (part ++ drop k (drop at xs)) ≡ spliced xs at part
