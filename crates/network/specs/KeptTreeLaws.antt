@@ -95,8 +95,7 @@ module _ {n : ℕ} {starts neighbours costs identifiers marks trees : List ℕ} 
             → (lineOf (length marks) index′ root′ ≡ line) ⊎ (lineOf (length marks) index′ root′ ≡ line → ⊥)
             → TreeOfLists n starts neighbours costs identifiers index′ root′ (onLine trees′ (lineOf (length marks) index′ root′))
         held index′ root′ a b c m (inl q) =
-            let s : slotOf index root + 1 ≡ slotOf index′ root′ + 1 =
-            sym (getD-set-same marks line (slotOf index root + 1) 0 below) ∙ ap (λ (x : ℕ). getD marks′ x 0) (sym q) ∙ m
+            let s = sym (getD-set-same marks line (slotOf index root + 1) 0 below) ∙ ap (λ (x : ℕ). getD marks′ x 0) (sym q) ∙ m
             in let t = slot-tells index′ root′ index root a l (omega arith) (omega arith) (omega arith)
             in rw (q, t .0, t .1) new-tree
         held index′ root′ a b c m (inr d) =
