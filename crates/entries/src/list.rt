@@ -22,9 +22,11 @@ ghost use Rattle.rule.specs.Calls.{planEntries};
 ghost use Rattle.rule.specs.Entries.{entryListOf};
 ghost use Rattle.table.specs.Positions.{planAt};
 ghost use Rattle.links.specs.Mates.{Checked};
+ghost use Rattle.network.specs.KeptTrees.{TreesHeld};
 ghost use Rattle.entries.specs.Whole.{PlanOf, listAnswer};
 
-// The words of the bridge's list, over the lists of a plan, written to the front of a lent list; gives how many there are.
+// The words of the bridge's list, over the lists of a plan, written to the front of a lent list; gives how many there are. The list of the
+// search and the store of trees are lent too, so that a caller for many bridges makes each tree once.
 pub fn list_over_lists(
     table: &[u8],
     s: Shape,
@@ -34,16 +36,20 @@ pub fn list_over_lists(
     ports: &[u32],
     identifiers: &[u64],
     b: usize,
+    path_ids: &mut [u64],
+    marks: &mut [u32],
+    trees: &mut [u32],
     words: &mut [u32],
 ) -> usize
-    requires { ⌜ PlanOf (now table) s (now starts) (now neighbours) (now costs) (now ports) (now identifiers) × (b < s .bridges) × (14931 ≤ length (now words)) ⌝ }
+    requires { ⌜ PlanOf (now table) s (now starts) (now neighbours) (now costs) (now ports) (now identifiers) × (b < s .bridges) × (4096 ≤ length (now «path_ids»)) × (14931 ≤ length (now words)) ⌝ }
+    requires { ⌜ TreesHeld (s .bridges) (now starts) (now neighbours) (now costs) (now identifiers) (now marks) (now trees) ⌝ }
     ensures { λ r. ⌜ Appended (now (words .entry)) 0 (entryListOf (planAt (wordsOf (now (table .entry))) s) b) (now (words .exit)) r ⌝ }
+    ensures { λ _. ⌜ TreesHeld (s .bridges) (now (starts .entry)) (now (neighbours .entry)) (now (costs .entry)) (now (identifiers .entry)) (now (marks .exit)) (now (trees .exit)) ⌝ }
 {
     let mut hops = [0u16; 64];
     hop_ports(starts, neighbours, ports, s.bridges, b, &mut hops);
     let mut rises = [0u16; 64];
     let count = rising_ports(&hops, s.bridges, &mut rises);
-    let mut path_ids = [0u64; 4096];
     let mut rows = [0u16; 6144];
     keep_rows(
         table,
@@ -54,13 +60,15 @@ pub fn list_over_lists(
         identifiers,
         &hops,
         b,
-        &mut path_ids,
+        path_ids,
+        marks,
+        trees,
         &mut rows,
     );
     whole_list(table, s, &rows, &rises[..count], b, words)
 }
 
-// The same of a table that passed the check.
+// The same of a table that passed the check, with a store of one tree.
 fn list_of_table(table: &[u8], s: Shape, links: &[u32], b: usize, words: &mut [u32]) -> usize
     requires { ⌜ Checked (now table) (now links) s × (b < s .bridges) × (14931 ≤ length (now words)) ⌝ }
     ensures { λ r. ⌜ Appended (now (words .entry)) 0 (entryListOf (planAt (wordsOf (now (table .entry))) s) b) (now (words .exit)) r ⌝ }
@@ -82,6 +90,9 @@ fn list_of_table(table: &[u8], s: Shape, links: &[u32], b: usize, words: &mut [u
         &mut ports,
     );
     write_identifiers(table, s, &mut identifiers);
+    let mut path_ids = [0u64; 4096];
+    let mut marks = [0u32; 1];
+    let mut trees = [0u32; 320];
     list_over_lists(
         table,
         s,
@@ -91,6 +102,9 @@ fn list_of_table(table: &[u8], s: Shape, links: &[u32], b: usize, words: &mut [u
         &ports,
         &identifiers,
         b,
+        &mut path_ids,
+        &mut marks,
+        &mut trees,
         words,
     )
 }

@@ -1,5 +1,5 @@
-// The rows that the entries of a bridge need: one tree for each different ECT index and bridge among the bridge itself and the
-// transmitting members.
+// The rows that the entries of a bridge need: one for each different ECT index and bridge among the bridge itself and the
+// transmitting members, of the trees kept in the lent store.
 use network::records::index_of;
 use ports::rows::keep_row;
 use table::shape::Shape;
@@ -8,6 +8,7 @@ use words::records::vid;
 ghost use Prim.Native.Nat.{_+_, _≤_, _<_};
 ghost use lib.ListN.{length};
 ghost use Rattle.rule.specs.Words.{wordsOf};
+ghost use Rattle.network.specs.KeptTrees.{TreesHeld};
 ghost use Rattle.ports.specs.Rows.{HasRow, RowsHeld, Kept};
 ghost use Rattle.words.specs.Words.{vidNumber};
 ghost use Rattle.entries.specs.Needed.{Lists, TransmitterRow, OwnRows, MemberRows, RowsReady};
@@ -24,13 +25,17 @@ fn keep_own_row(
     b: usize,
     k: usize,
     path_ids: &mut [u64],
+    marks: &mut [u32],
+    trees: &mut [u32],
     rows: &mut [u16],
     count: usize,
 ) -> usize
     requires { ⌜ Lists (now table) s (now starts) (now neighbours) (now costs) (now identifiers) (now hops) b × (k < s .vids) × (count < 80) × (4096 ≤ length (now «path_ids»)) ⌝ }
     requires { ⌜ RowsHeld (s .bridges) (now starts) (now neighbours) (now costs) (now identifiers) (now hops) b count (now rows) ⌝ }
+    requires { ⌜ TreesHeld (s .bridges) (now starts) (now neighbours) (now costs) (now identifiers) (now marks) (now trees) ⌝ }
     ensures { λ r. ⌜ RowsHeld (s .bridges) (now (starts .entry)) (now (neighbours .entry)) (now (costs .entry)) (now (identifiers .entry)) (now (hops .entry)) b r (now (rows .exit)) ⌝ }
     ensures { λ r. ⌜ Kept (now (rows .entry)) (now (rows .exit)) × HasRow (now (rows .exit)) (vidNumber (wordsOf (now (table .entry))) s k .index) b × (r ≤ count + 1) ⌝ }
+    ensures { λ _. ⌜ TreesHeld (s .bridges) (now (starts .entry)) (now (neighbours .entry)) (now (costs .entry)) (now (identifiers .entry)) (now (marks .exit)) (now (trees .exit)) ⌝ }
 {
     let index = vid(table, s, k).index;
     keep_row(
@@ -44,6 +49,8 @@ fn keep_own_row(
         index,
         b,
         path_ids,
+        marks,
+        trees,
         rows,
         count,
     )
@@ -61,13 +68,17 @@ fn keep_member_row(
     b: usize,
     j: usize,
     path_ids: &mut [u64],
+    marks: &mut [u32],
+    trees: &mut [u32],
     rows: &mut [u16],
     count: usize,
 ) -> usize
     requires { ⌜ Lists (now table) s (now starts) (now neighbours) (now costs) (now identifiers) (now hops) b × (j < s .members) × (count < 80) × (4096 ≤ length (now «path_ids»)) ⌝ }
     requires { ⌜ RowsHeld (s .bridges) (now starts) (now neighbours) (now costs) (now identifiers) (now hops) b count (now rows) ⌝ }
+    requires { ⌜ TreesHeld (s .bridges) (now starts) (now neighbours) (now costs) (now identifiers) (now marks) (now trees) ⌝ }
     ensures { λ r. ⌜ RowsHeld (s .bridges) (now (starts .entry)) (now (neighbours .entry)) (now (costs .entry)) (now (identifiers .entry)) (now (hops .entry)) b r (now (rows .exit)) ⌝ }
     ensures { λ r. ⌜ Kept (now (rows .entry)) (now (rows .exit)) × TransmitterRow (now (table .entry)) s (now (rows .exit)) j × (r ≤ count + 1) ⌝ }
+    ensures { λ _. ⌜ TreesHeld (s .bridges) (now (starts .entry)) (now (neighbours .entry)) (now (costs .entry)) (now (identifiers .entry)) (now (marks .exit)) (now (trees .exit)) ⌝ }
 {
     let m = member(table, s, j);
     if !m.transmits {
@@ -85,6 +96,8 @@ fn keep_member_row(
         index,
         m.bridge as usize,
         path_ids,
+        marks,
+        trees,
         rows,
         count,
     )
@@ -101,12 +114,16 @@ fn keep_own_rows(
     hops: &[u16],
     b: usize,
     path_ids: &mut [u64],
+    marks: &mut [u32],
+    trees: &mut [u32],
     rows: &mut [u16],
 ) -> usize
     requires { ⌜ Lists (now table) s (now starts) (now neighbours) (now costs) (now identifiers) (now hops) b × (4096 ≤ length (now «path_ids»)) ⌝ }
     requires { ⌜ RowsHeld (s .bridges) (now starts) (now neighbours) (now costs) (now identifiers) (now hops) b 0 (now rows) ⌝ }
+    requires { ⌜ TreesHeld (s .bridges) (now starts) (now neighbours) (now costs) (now identifiers) (now marks) (now trees) ⌝ }
     ensures { λ r. ⌜ RowsHeld (s .bridges) (now (starts .entry)) (now (neighbours .entry)) (now (costs .entry)) (now (identifiers .entry)) (now (hops .entry)) b r (now (rows .exit)) ⌝ }
     ensures { λ r. ⌜ Kept (now (rows .entry)) (now (rows .exit)) × OwnRows (now (table .entry)) s b (now (rows .exit)) (s .vids) × (r ≤ s .vids) ⌝ }
+    ensures { λ _. ⌜ TreesHeld (s .bridges) (now (starts .entry)) (now (neighbours .entry)) (now (costs .entry)) (now (identifiers .entry)) (now (marks .exit)) (now (trees .exit)) ⌝ }
 {
     let mut count = 0;
     let mut k = 0;
@@ -122,6 +139,8 @@ fn keep_own_rows(
             b,
             k,
             path_ids,
+            marks,
+            trees,
             rows,
             count,
         );
@@ -141,11 +160,15 @@ pub fn keep_rows(
     hops: &[u16],
     b: usize,
     path_ids: &mut [u64],
+    marks: &mut [u32],
+    trees: &mut [u32],
     rows: &mut [u16],
 )
     requires { ⌜ Lists (now table) s (now starts) (now neighbours) (now costs) (now identifiers) (now hops) b × (4096 ≤ length (now «path_ids»)) ⌝ }
     requires { ⌜ RowsHeld (s .bridges) (now starts) (now neighbours) (now costs) (now identifiers) (now hops) b 0 (now rows) ⌝ }
+    requires { ⌜ TreesHeld (s .bridges) (now starts) (now neighbours) (now costs) (now identifiers) (now marks) (now trees) ⌝ }
     ensures { λ _. ⌜ RowsReady (now (table .entry)) s b (now (rows .exit)) ⌝ }
+    ensures { λ _. ⌜ TreesHeld (s .bridges) (now (starts .entry)) (now (neighbours .entry)) (now (costs .entry)) (now (identifiers .entry)) (now (marks .exit)) (now (trees .exit)) ⌝ }
 {
     let mut count = keep_own_rows(
         table,
@@ -157,6 +180,8 @@ pub fn keep_rows(
         hops,
         b,
         path_ids,
+        marks,
+        trees,
         rows,
     );
     let mut j = 0;
@@ -172,6 +197,8 @@ pub fn keep_rows(
             b,
             j,
             path_ids,
+            marks,
+            trees,
             rows,
             count,
         );

@@ -18,13 +18,18 @@ pub slot-tells : (index root index′ root′ : ℕ) → 1 ≤ index → 1 ≤ i
 slot-tells index root index′ root′ h k l m e = (omega arith, omega arith)
 
 -- No tree yet.
-pub no-trees : (n : ℕ) (starts neighbours costs identifiers marks trees : List ℕ) → 1 ≤ length marks → 320 * length marks ≤ length trees
-    → ((line : ℕ) → getD marks line 0 ≡ 0) → TreesHeld n starts neighbours costs identifiers marks trees
-no-trees n starts neighbours costs identifiers marks trees l m z = record {
-  has-lines = l;
-  has-words = m;
-  held = λ index root h k i e. absurd (omega (arith, z (lineOf (length marks) index root)));
-}
+pub no-trees :
+    (n : ℕ) (starts neighbours costs identifiers marks trees : List ℕ) →
+    1 ≤ length marks →
+    320 * length marks ≤ length trees →
+    ((line : ℕ) → line < length marks → getD marks line 0 ≡ 0) →
+    TreesHeld n starts neighbours costs identifiers marks trees
+no-trees n starts neighbours costs identifiers marks trees l m z =
+    record {
+      has-lines = l;
+      has-words = m;
+      held = λ index root h k i e. absurd (omega (arith, z (lineOf (length marks) index root) (mod-lt (slotOf index root) l)));
+    }
 
 -- A part that was lent, put back in its place.
 put-back : (xs part : List ℕ) (at k : ℕ) → length part ≡ k → take at xs ++ (part ++ drop k (drop at xs)) ≡ spliced xs at part
@@ -90,8 +95,7 @@ module _ {n : ℕ} {starts neighbours costs identifiers marks trees : List ℕ} 
             → (lineOf (length marks) index′ root′ ≡ line) ⊎ (lineOf (length marks) index′ root′ ≡ line → ⊥)
             → TreeOfLists n starts neighbours costs identifiers index′ root′ (onLine trees′ (lineOf (length marks) index′ root′))
         held index′ root′ a b c m (inl q) =
-            let s : slotOf index root + 1 ≡ slotOf index′ root′ + 1 =
-            sym (getD-set-same marks line (slotOf index root + 1) 0 below) ∙ ap (λ (x : ℕ). getD marks′ x 0) (sym q) ∙ m
+            let s = sym (getD-set-same marks line (slotOf index root + 1) 0 below) ∙ ap (λ (x : ℕ). getD marks′ x 0) (sym q) ∙ m
             in let t = slot-tells index′ root′ index root a l (omega arith) (omega arith) (omega arith)
             in rw (q, t .0, t .1) new-tree
         held index′ root′ a b c m (inr d) =

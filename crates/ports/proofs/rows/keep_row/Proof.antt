@@ -27,7 +27,7 @@ returns : tie.Need-returns
 returns c = ((c .before .before .before .before .before .before .before .before .before .before .before .pre .1 .0 .4), ((kept-all _, record { there = omega (arith, (c .if1 .taken)) }, omega arith), (c .before .before .before .before .before .before .before .before .before .before .before .pre .1 .1)))
 
 kept-tree-requires : tie.Need-kept-tree-requires
-kept-tree-requires c κs = search needs
+kept-tree-requires c κs = ((c .before .before .before .before .before .before .before .before .before .before .before .before .before .before .pre .0 .0, c .before .before .before .before .before .before .before .before .before .before .before .before .before .before .pre .0 .1), (c .before .before .before .before .before .before .before .before .before .before .before .before .before .before .pre .1 .0 .0, c .before .before .before .before .before .before .before .before .before .before .before .before .before .before .pre .1 .0 .1, omega (arith, c .before .before .before .before .before .before .before .before .before .before .before .before .before .before .pre .1 .0 .2), c .before .before .before .before .before .before .before .before .before .before .before .before .before .before .pre .0 .3, c .before .before .before .before .before .before .before .before .before .before .before .before .before .before .pre .1 .1))
 
 mul-place : tie.Need-mul-place
 mul-place c = search needs
@@ -60,7 +60,7 @@ part-leaving-row-end : tie.Need-part-leaving-row-end
 part-leaving-row-end c = search needs
 
 leaving-row-requires : tie.Need-leaving-row-requires
-leaving-row-requires c κs = (tree-walkable (c .before .before .before .before .before .before .before .before .before .before .before .before .before .before .before .before .before .before .before .before .before .before .before .before .pre .0 .0 .lists) (c .before .before .before .before .before .before .before .before .before .before .before .before .before .before .before .before .before .before .before .before .before .before .before .before .args .index) (c .before .before .before .before .before .before .before .before .before .before .before .before .before .before .before .before .before .before .before .before .before .before .before .before .args .a) ((lent-tree _ (c .before .before .before .before .before .before .before .before .before .kept-tree .result) (c .before .before .before .before .before .before .before .before .before .kept-tree .ensures .1 .1)) .of-plan (c .before .before .before .before .before .before .before .before .before .before .before .before .before .before .before .before .before .before .before .before .before .before .before .before .pre .0 .0 .plan) (c .before .before .before .before .before .before .before .before .before .before .before .before .before .before .before .before .before .before .before .before .before .before .before .before .pre .0 .0 .lists)), simp (length-take, length-drop) (omega (arith, (c .before .before .before .before .before .before .before .before .before .kept-tree .ensures .1 .0))), (c .before .before .before .before .before .before .before .before .before .before .before .before .before .before .before .before .before .before .before .before .before .before .before .before .pre .0 .2), simp length-set (omega (arith, (c .before .before .before .before .before .before .before .before .before .before .before .before .before .before .before .before .before .before .before .before .before .before .before .before .pre .1 .0 .4 .size), (c .before .before .before .before .before .before .before .before .before .before .before .before .before .before .before .before .before .before .before .before .before .before .before .before .pre .1 .0 .3), (c .before .before .before .before .before .before .before .before .before .before .before .before .before .before .before .before .before .before .before .before .before .before .before .before .pre .0 .0 .lists .represents .most))))
+leaving-row-requires c κs = (tree-walkable (c .before .before .before .before .before .before .before .before .before .before .before .before .before .before .before .before .before .before .before .before .before .before .before .before .pre .0 .0 .lists) (c .before .before .before .before .before .before .before .before .before .before .before .before .before .before .before .before .before .before .before .before .before .before .before .before .args .index) _ ((lent-tree _ (c .before .before .before .before .before .before .before .before .before .kept-tree .result) (c .before .before .before .before .before .before .before .before .before .kept-tree .ensures .1 .1)) .of-plan (c .before .before .before .before .before .before .before .before .before .before .before .before .before .before .before .before .before .before .before .before .before .before .before .before .pre .0 .0 .plan) (c .before .before .before .before .before .before .before .before .before .before .before .before .before .before .before .before .before .before .before .before .before .before .before .before .pre .0 .0 .lists)), simp (length-take, length-drop) (omega (arith, (c .before .before .before .before .before .before .before .before .before .kept-tree .ensures .1 .0))), (c .before .before .before .before .before .before .before .before .before .before .before .before .before .before .before .before .before .before .before .before .before .before .before .before .pre .0 .2), simp length-set (omega (arith, (c .before .before .before .before .before .before .before .before .before .before .before .before .before .before .before .before .before .before .before .before .before .before .before .before .pre .1 .0 .4 .size), (c .before .before .before .before .before .before .before .before .before .before .before .before .before .before .before .before .before .before .before .before .before .before .before .before .pre .1 .0 .3), (c .before .before .before .before .before .before .before .before .before .before .before .before .before .before .before .before .before .before .before .before .before .before .before .before .pre .0 .0 .lists .represents .most))))
 
 add-result : tie.Need-add-result
 add-result c = omega (arith, (c .before .before .before .before .before .before .before .before .before .before .before .before .before .before .before .before .before .before .before .before .before .before .before .before .before .before .before .pre .1 .0 .3))
