@@ -3,7 +3,7 @@ use borrow.Author.Needs.{needs}
 use Rattle.rule.specs.Lookup.{entryOf}
 use Rattle.text.specs.TextLaws.{written-on, written-as}
 use Rattle.text.specs.DigitLaws.{length-digits}
-use Rattle.lines.specs.LineLaws.{line-of-numbers}
+use Rattle.lines.specs.EntryLineLaws.{line-of-numbers}
 use native.Mathlib.Omega.{arith}
 use Rattle.lines.proofs.entry_line.write_entry_line.Statement.{statement}
 use Rattle.lines.proofs.entry_line.write_entry_line.Tie as tie

@@ -5,7 +5,7 @@ use mathlib.Core.List.{List, [], _∷_, _++_}
 use Prim.Native.Nat.{ℕ}
 use Rattle.text.specs.Text.{newline, pathWord}
 use Rattle.text.specs.TextLaws.{written-on, written-as}
-use Rattle.lines.specs.LineLaws.{fields-of-both}
+use Rattle.lines.specs.PathLineLaws.{fields-of-both}
 use native.Mathlib.Omega.{arith}
 use Rattle.lines.proofs.path_line.write_given_path.Statement.{statement}
 use Rattle.lines.proofs.path_line.write_given_path.Tie as tie
