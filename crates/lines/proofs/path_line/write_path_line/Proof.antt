@@ -51,13 +51,12 @@ same-length : tie.Need-same-length
 same-length c = search needs
 
 returns : tie.Need-returns
-returns c =
-    (
-      written-as (c .before .before .write-given-path .ensures .0) _
+returns c = (
+  written-as (c .before .before .write-given-path .ensures .0) _
       (ap (pathLine (c .before .before .before .before .before .before .before .before .before .before .before .before .before .before .args .vid) (c .before .before .before .before .before .before .before .before .before .before .before .before .before .before .args .from) (c .before .before .before .before .before .before .before .before .before .before .before .before .before .before .args .to))
       (given-path (c .before .before .before .before .before .before .before .before .before .before .before .before .before .before .args .labels .now) (c .before .before .before .before .before .before .before .before .before .before .before .before .before .before .args .from) (c .before .before .before .before .before .before .before .before .before .before .before .before .before .before .pre .1) (replicate 64 0) _ (length-replicate {A = ℕ} 64 0) _ (c .before .before .before .before .before .before .before .before .before .before .labelled-path .ensures) _ _ (ap pathValues (c .before .before .before .before .before .before .before .answer .given .1)) .1)),
-      (c .before .before .write-given-path .ensures .1),
-    )
+  (c .before .before .write-given-path .ensures .1),
+)
 
 same-length-2 : tie.Need-same-length-2
 same-length-2 c = search needs
