@@ -1,7 +1,7 @@
 -- Listings of document 01 by the definitions ("Diamonds and other figures", the listing program): the checker computes every byte.
 -- Assumes nothing.
 use mathlib.Core.Path.{_≡_, refl}
-use mathlib.Core.List.{List, [], _∷_, _++_, flatMap}
+use mathlib.Core.List.{[], _∷_, flatMap}
 use Rattle.graph.specs.Lists.{rising, filter, any, lowestBy}
 use Rattle.graph.specs.Order.{insert, sorted, lower}
 use Rattle.graph.specs.Graph.{costOnward}

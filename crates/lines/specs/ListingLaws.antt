@@ -4,19 +4,17 @@ use Prim.Native.Nat.{ℕ, _<_}
 use mathlib.Core.Path.{_≡_, sym, ap, _∙_}
 use mathlib.Core.List.{List, flatMap}
 use mathlib.Core.Option.{Option, none, some}
-use mathlib.Core.Bool.{Bool, true, cond, _&&_}
+use mathlib.Core.Bool.{Bool, cond, _&&_}
 use lib.Dec.{lt→ltb}
 use lib.ListN.{length}
-use Rattle.graph.specs.ListLaws.{both, is-true}
+use Rattle.graph.specs.ListLaws.{is-true}
 use Rattle.rule.specs.Records.{Vid}
-use Rattle.rule.specs.Outcome.{Outcome, answered, refused, refusedAs, Written}
-use Rattle.rule.specs.Answers.{CostAndHops}
+use Rattle.rule.specs.Outcome.{answered, refused, refusedAs}
 use Rattle.rule.specs.Plan.{Plan, knownBridge, vidRecord}
 use Rattle.rule.specs.PlanLaws.{PlanLaws}
-use Rattle.rule.specs.Entries.{Entry, entryWords, entriesOf, entryListOf}
+use Rattle.rule.specs.Entries.{Entry, entriesOf, entryListOf}
 use Rattle.rule.specs.EntryLaws.{entries-decoded, entry-fits}
 use Rattle.rule.specs.Paths.{chosenPath}
-use Rattle.rule.specs.Lookup.{entriesIn}
 use Rattle.rule.specs.CallLaws.{refused-not-answered, named-asked}
 use Rattle.rule.specs.Calls.{pathFound, planPath, planEntries}
 use Rattle.lines.specs.Listing.{entryLine, entryLines}

@@ -60,7 +60,16 @@ pub fn write_path_line(
     let answer = labelled_path(labels, from, &mut list);
     match answer {
         PathAnswer::Given { cost, hops } => {
-            write_given_path(vid, from, to, cost, hops, &list[..hops.0 as usize + 1], out, at)
+            write_given_path(
+                vid,
+                from,
+                to,
+                cost,
+                hops,
+                &list[..hops.0 as usize + 1],
+                out,
+                at,
+            )
         }
         PathAnswer::Refused { .. } => write_none(vid, from, to, out, at),
     }

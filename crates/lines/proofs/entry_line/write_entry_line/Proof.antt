@@ -3,7 +3,7 @@ use borrow.Author.Needs.{needs}
 use Rattle.rule.specs.Lookup.{entryOf}
 use Rattle.text.specs.TextLaws.{written-on, written-as}
 use Rattle.text.specs.DigitLaws.{length-digits}
-use Rattle.lines.specs.LineLaws.{line-of-numbers}
+use Rattle.lines.specs.EntryLineLaws.{line-of-numbers}
 use native.Mathlib.Omega.{arith}
 use Rattle.lines.proofs.entry_line.write_entry_line.Statement.{statement}
 use Rattle.lines.proofs.entry_line.write_entry_line.Tie as tie
@@ -50,15 +50,15 @@ returns c =
     let twelve = length-digits 16 12 (c .before .before .before .before .before .before .before .before .address-of .result) in
     let room = (c .before .before .before .before .before .before .before .before .before .before .before .before .before .before .before .before .before .before .before .before .before .before .before .before .before .before .pre) in (
       written-as
-      (written-on (c .before .before .before .before .before .before .before .before .before .before .before .before .before .before .before .before .before .before .before .before .write-word .ensures)
-      (written-on (c .before .before .before .before .before .before .before .before .before .before .before .before .before .before .before .write-fields .ensures .0)
-      (written-on (c .before .before .before .before .before .before .before .before .before .before .before .write-byte .ensures)
-      (written-on (c .before .before .before .before .before .before .write-address .ensures) (c .before .before .write-byte2 .ensures) (omega (arith, after-word, after-numbers, after-space, after-address, twelve, room)))
-      (omega (arith, after-word, after-numbers, after-space, room)))
-      (omega (arith, after-word, after-numbers, room)))
-      (omega (arith, after-word, room)))
-      _
-      (line-of-numbers (c .before .before .before .before .before .before .before .before .before .before .before .before .before .before .before .before .before .before .before .before .before .before .before .before .before .before .args .bridge) (entryOf (c .before .before .before .before .before .before .before .before .before .before .before .before .before .before .before .before .before .before .before .before .before .before .before .before .before .before .args .first) (c .before .before .before .before .before .before .before .before .before .before .before .before .before .before .before .before .before .before .before .before .before .before .before .before .before .before .args .upper) (c .before .before .before .before .before .before .before .before .before .before .before .before .before .before .before .before .before .before .before .before .before .before .before .before .before .before .args .lower)) (c .before .before .before .before .before .before .before .before .before .before .before .before .before .before .before .before .before .before .before .before .before .before .before .before .vid-of .ensures .0) (c .before .before .before .before .before .before .before .before .before .before .before .before .before .before .before .before .before .before .before .before .before .before .before .port-of .ensures .0) (c .before .before .before .before .before .before .before .before .address-of .ensures)),
+          (written-on (c .before .before .before .before .before .before .before .before .before .before .before .before .before .before .before .before .before .before .before .before .write-word .ensures)
+          (written-on (c .before .before .before .before .before .before .before .before .before .before .before .before .before .before .before .write-fields .ensures .0)
+          (written-on (c .before .before .before .before .before .before .before .before .before .before .before .write-byte .ensures)
+          (written-on (c .before .before .before .before .before .before .write-address .ensures) (c .before .before .write-byte2 .ensures) (omega (arith, after-word, after-numbers, after-space, after-address, twelve, room)))
+          (omega (arith, after-word, after-numbers, after-space, room)))
+          (omega (arith, after-word, after-numbers, room)))
+          (omega (arith, after-word, room)))
+          _
+          (line-of-numbers (c .before .before .before .before .before .before .before .before .before .before .before .before .before .before .before .before .before .before .before .before .before .before .before .before .before .before .args .bridge) (entryOf (c .before .before .before .before .before .before .before .before .before .before .before .before .before .before .before .before .before .before .before .before .before .before .before .before .before .before .args .first) (c .before .before .before .before .before .before .before .before .before .before .before .before .before .before .before .before .before .before .before .before .before .before .before .before .before .before .args .upper) (c .before .before .before .before .before .before .before .before .before .before .before .before .before .before .before .before .before .before .before .before .before .before .before .before .before .before .args .lower)) (c .before .before .before .before .before .before .before .before .before .before .before .before .before .before .before .before .before .before .before .before .before .before .before .before .vid-of .ensures .0) (c .before .before .before .before .before .before .before .before .before .before .before .before .before .before .before .before .before .before .before .before .before .before .before .port-of .ensures .0) (c .before .before .before .before .before .before .before .before .address-of .ensures)),
       omega (arith, after-word, after-numbers, after-space, after-address, twelve, (c .before .before .write-byte2 .ensures .end-is)),
     )
 

@@ -5,7 +5,7 @@ use mathlib.Core.List.{List, [], _∷_, _++_}
 use Prim.Native.Nat.{ℕ}
 use Rattle.text.specs.Text.{newline, pathWord}
 use Rattle.text.specs.TextLaws.{written-on, written-as}
-use Rattle.lines.specs.LineLaws.{fields-of-both}
+use Rattle.lines.specs.PathLineLaws.{fields-of-both}
 use native.Mathlib.Omega.{arith}
 use Rattle.lines.proofs.path_line.write_given_path.Statement.{statement}
 use Rattle.lines.proofs.path_line.write_given_path.Tie as tie
@@ -39,13 +39,13 @@ returns c =
     let few = (c .before .before .before .before .before .before .before .before .before .before .before .before .before .before .before .before .before .before .before .before .pre .0) in
     let room = (c .before .before .before .before .before .before .before .before .before .before .before .before .before .before .before .before .before .before .before .before .pre .1) in (
       written-as
-      (written-on (c .before .before .before .before .before .before .before .before .before .before .before .before .before .before .before .write-word .ensures)
-      (written-on (c .before .before .before .before .before .before .before .before .before .before .write-fields .ensures .0)
-      (written-on (c .before .before .before .before .before .before .write-fields2 .ensures .0) (c .before .before .write-byte .ensures) (omega (arith, after-word, after-numbers, after-bridges, few, room)))
-      (omega (arith, after-word, after-numbers, room)))
-      (omega (arith, after-word, room)))
-      _
-      (ap (λ (t : List ℕ). pathWord ++ t) (fields-of-both ((c .before .before .before .before .before .before .before .before .before .before .before .before .before .before .before .before .before .before .before .before .args .vid) ∷ (c .before .before .before .before .before .before .before .before .before .before .before .before .before .before .before .before .before .before .before .before .args .from) ∷ (c .before .before .before .before .before .before .before .before .before .before .before .before .before .before .before .before .before .before .before .before .args .to) ∷ (c .before .before .before .before .before .before .before .before .before .before .before .before .before .before .before .before .before .before .before .before .args .cost .0) ∷ (c .before .before .before .before .before .before .before .before .before .before .before .before .before .before .before .before .before .before .before .before .args .hops .0) ∷ []) (c .before .before .before .before .before .before .before .before .before .before .before .before .before .before .before .before .before .before .before .before .args .bridges .now) (newline ∷ []))),
+          (written-on (c .before .before .before .before .before .before .before .before .before .before .before .before .before .before .before .write-word .ensures)
+          (written-on (c .before .before .before .before .before .before .before .before .before .before .write-fields .ensures .0)
+          (written-on (c .before .before .before .before .before .before .write-fields2 .ensures .0) (c .before .before .write-byte .ensures) (omega (arith, after-word, after-numbers, after-bridges, few, room)))
+          (omega (arith, after-word, after-numbers, room)))
+          (omega (arith, after-word, room)))
+          _
+          (ap (λ (t : List ℕ). pathWord ++ t) (fields-of-both ((c .before .before .before .before .before .before .before .before .before .before .before .before .before .before .before .before .before .before .before .before .args .vid) ∷ (c .before .before .before .before .before .before .before .before .before .before .before .before .before .before .before .before .before .before .before .before .args .from) ∷ (c .before .before .before .before .before .before .before .before .before .before .before .before .before .before .before .before .before .before .before .before .args .to) ∷ (c .before .before .before .before .before .before .before .before .before .before .before .before .before .before .before .before .before .before .before .before .args .cost .0) ∷ (c .before .before .before .before .before .before .before .before .before .before .before .before .before .before .before .before .before .before .before .before .args .hops .0) ∷ []) (c .before .before .before .before .before .before .before .before .before .before .before .before .before .before .before .before .before .before .before .before .args .bridges .now) (newline ∷ []))),
       omega (arith, after-word, after-numbers, after-bridges, few, (c .before .before .write-byte .ensures .end-is)),
     )
 

@@ -5,7 +5,8 @@ use mathlib.Core.Path.{ap}
 use lib.ListN.{replicate, length-take, length-replicate}
 use Rattle.rule.specs.Answers.{pathValues}
 use Rattle.text.specs.TextLaws.{written-as}
-use Rattle.lines.specs.LineLaws.{given-line, none-line}
+use Rattle.lines.specs.Listing.{pathLine}
+use Rattle.lines.specs.PathLineLaws.{given-path, no-path-given}
 use native.Mathlib.Omega.{arith}
 use Rattle.lines.proofs.path_line.write_path_line.Statement.{statement}
 use Rattle.lines.proofs.path_line.write_path_line.Tie as tie
@@ -26,13 +27,19 @@ add-list : tie.Need-add-list
 add-list c = search needs
 
 array-share-prefix-list : tie.Need-array-share-prefix-list
-array-share-prefix-list c = omega (arith, given-line (c .before .before .before .before .before .before .before .before .before .args .labels .now) (c .before .before .before .before .before .before .before .before .before .args .from) (c .before .before .before .before .before .before .before .before .before .pre .1) (replicate 64 0) _ (length-replicate {A = ℕ} 64 0) 0 0 _ (c .before .before .before .before .before .labelled-path .ensures) _ _ (ap pathValues (c .before .before .answer .given .1)) .0)
+array-share-prefix-list c =
+    let given = given-path (c .before .before .before .before .before .before .before .before .before .args .labels .now) (c .before .before .before .before .before .before .before .before .before .args .from) (c .before .before .before .before .before .before .before .before .before .pre .1) (replicate 64 0) _ (length-replicate {A = ℕ} 64 0) _ (c .before .before .before .before .before .labelled-path .ensures) _ _ (ap pathValues (c .before .before .answer .given .1)) in
+    omega (arith, given .0)
 
 slice-aggregate-write-given-path : tie.Need-slice-aggregate-write-given-path
-slice-aggregate-write-given-path c = simp length-take (omega (arith, given-line (c .before .before .before .before .before .before .before .before .before .before .args .labels .now) (c .before .before .before .before .before .before .before .before .before .before .args .from) (c .before .before .before .before .before .before .before .before .before .before .pre .1) (replicate 64 0) _ (length-replicate {A = ℕ} 64 0) 0 0 _ (c .before .before .before .before .before .before .labelled-path .ensures) _ _ (ap pathValues (c .before .before .before .answer .given .1)) .0))
+slice-aggregate-write-given-path c =
+    let given = given-path (c .before .before .before .before .before .before .before .before .before .before .args .labels .now) (c .before .before .before .before .before .before .before .before .before .before .args .from) (c .before .before .before .before .before .before .before .before .before .before .pre .1) (replicate 64 0) _ (length-replicate {A = ℕ} 64 0) _ (c .before .before .before .before .before .before .labelled-path .ensures) _ _ (ap pathValues (c .before .before .before .answer .given .1)) in
+    simp length-take (omega (arith, given .0))
 
 write-given-path-requires : tie.Need-write-given-path-requires
-write-given-path-requires c κs = simp length-take (omega (arith, given-line (c .before .before .before .before .before .before .before .before .before .before .before .args .labels .now) (c .before .before .before .before .before .before .before .before .before .before .before .args .from) (c .before .before .before .before .before .before .before .before .before .before .before .pre .1) (replicate 64 0) _ (length-replicate {A = ℕ} 64 0) 0 0 _ (c .before .before .before .before .before .before .before .labelled-path .ensures) _ _ (ap pathValues (c .before .before .before .before .answer .given .1)) .0, (c .before .before .before .before .before .before .before .before .before .before .before .pre .2)))
+write-given-path-requires c κs =
+    let given = given-path (c .before .before .before .before .before .before .before .before .before .before .before .args .labels .now) (c .before .before .before .before .before .before .before .before .before .before .before .args .from) (c .before .before .before .before .before .before .before .before .before .before .before .pre .1) (replicate 64 0) _ (length-replicate {A = ℕ} 64 0) _ (c .before .before .before .before .before .before .before .labelled-path .ensures) _ _ (ap pathValues (c .before .before .before .before .answer .given .1)) in
+    simp length-take (omega (arith, given .0, (c .before .before .before .before .before .before .before .before .before .before .before .pre .2)))
 
 enum-told : tie.Need-enum-told
 enum-told c = search needs
@@ -44,13 +51,20 @@ same-length : tie.Need-same-length
 same-length c = search needs
 
 returns : tie.Need-returns
-returns c = (written-as (c .before .before .write-given-path .ensures .0) _ (given-line (c .before .before .before .before .before .before .before .before .before .before .before .before .before .before .args .labels .now) (c .before .before .before .before .before .before .before .before .before .before .before .before .before .before .args .from) (c .before .before .before .before .before .before .before .before .before .before .before .before .before .before .pre .1) (replicate 64 0) _ (length-replicate {A = ℕ} 64 0) (c .before .before .before .before .before .before .before .before .before .before .before .before .before .before .args .vid) (c .before .before .before .before .before .before .before .before .before .before .before .before .before .before .args .to) _ (c .before .before .before .before .before .before .before .before .before .before .labelled-path .ensures) _ _ (ap pathValues (c .before .before .before .before .before .before .before .answer .given .1)) .1), (c .before .before .write-given-path .ensures .1))
+returns c = (
+  written-as (c .before .before .write-given-path .ensures .0) _
+      (ap (pathLine (c .before .before .before .before .before .before .before .before .before .before .before .before .before .before .args .vid) (c .before .before .before .before .before .before .before .before .before .before .before .before .before .before .args .from) (c .before .before .before .before .before .before .before .before .before .before .before .before .before .before .args .to))
+      (given-path (c .before .before .before .before .before .before .before .before .before .before .before .before .before .before .args .labels .now) (c .before .before .before .before .before .before .before .before .before .before .before .before .before .before .args .from) (c .before .before .before .before .before .before .before .before .before .before .before .before .before .before .pre .1) (replicate 64 0) _ (length-replicate {A = ℕ} 64 0) _ (c .before .before .before .before .before .before .before .before .before .before .labelled-path .ensures) _ _ (ap pathValues (c .before .before .before .before .before .before .before .answer .given .1)) .1)),
+  (c .before .before .write-given-path .ensures .1),
+)
 
 same-length-2 : tie.Need-same-length-2
 same-length-2 c = search needs
 
 returns-2 : tie.Need-returns-2
-returns-2 c = (written-as (c .before .before .write-none .ensures .0) _ (none-line (c .before .before .before .before .before .before .before .before .before .before .before .args .labels .now) (c .before .before .before .before .before .before .before .before .before .before .before .args .from) (c .before .before .before .before .before .before .before .before .before .before .before .pre .1) (replicate 64 0) _ (length-replicate {A = ℕ} 64 0) (c .before .before .before .before .before .before .before .before .before .before .before .args .vid) (c .before .before .before .before .before .before .before .before .before .before .before .args .to) _ (c .before .before .before .before .before .before .before .labelled-path .ensures) _ _ _ (ap pathValues (c .before .before .before .before .enum-told .given .1))), omega (arith, (c .before .before .write-none .ensures .1)))
+returns-2 c =
+    let none = no-path-given (c .before .before .before .before .before .before .before .before .before .before .before .args .labels .now) (c .before .before .before .before .before .before .before .before .before .before .before .args .from) (c .before .before .before .before .before .before .before .before .before .before .before .pre .1) (replicate 64 0) _ (length-replicate {A = ℕ} 64 0) _ (c .before .before .before .before .before .before .before .labelled-path .ensures) _ _ _ (ap pathValues (c .before .before .before .before .enum-told .given .1)) in
+    (written-as (c .before .before .write-none .ensures .0) _ (ap (pathLine (c .before .before .before .before .before .before .before .before .before .before .before .args .vid) (c .before .before .before .before .before .before .before .before .before .before .before .args .from) (c .before .before .before .before .before .before .before .before .before .before .before .args .to)) none), omega (arith, (c .before .before .write-none .ensures .1)))
 
 pub write-path-line-spec : {M : Type 1} → statement M
 write-path-line-spec =
