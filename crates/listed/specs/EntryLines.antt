@@ -1,7 +1,7 @@
 -- The entry lines of one bridge (01, "Listing program"), by the words of its list. Assumes nothing.
-use Prim.Native.Nat.{ℕ, _/_, _*_, _≤_, _<_}
+use Prim.Native.Nat.{ℕ, _+_, _*_, _/_, _≤_, _<_}
 use native.Mathlib.Omega.{arith}
-use mathlib.Core.Path.{_≡_, sym, ap, _∙_}
+use mathlib.Core.Path.{_≡_, refl, ap, subst, _∙_}
 use mathlib.Core.List.{List, flatMap}
 use lib.ListN.{length, take, length-take}
 use borrow.Author.Tests.{lt-ltb}
@@ -16,7 +16,6 @@ use Rattle.table.specs.Positions.{planAt}
 use Rattle.words.specs.Words.{Readable}
 use Rattle.entries.specs.PlanWords.{bridges-are}
 use Rattle.entries.specs.Parts.{front-is}
-use Rattle.entries.specs.Whole.{listAnswer}
 use Rattle.lines.specs.Listing.{entryLine, entryLines}
 
 module _ {t : List ℕ} {s : Shape} (R : Readable t s) (b : ℕ) (known : b < s .bridges) {lent written : List ℕ} {count : ℕ}
@@ -29,8 +28,16 @@ module _ {t : List ℕ} {s : Shape} (R : Readable t s) (b : ℕ) (known : b < s 
     few-words (planAt (wordsOf t) s) (R .laws) b (omega (arith, bridges-are R)),
   )
 
+  -- So a line of at most 52 bytes for each 3 words has room in 258,804 bytes.
+  pub few-bytes : 0 + 52 * (length (take count written) / 3) ≤ 258804
+  few-bytes = omega (arith, few-listed, length-take count written)
+
   -- The lines of the words written are those of what the entries call answers.
-  pub lines-listed : flatMap (entryLine b) (entriesIn (take count written)) ≡ entryLines b (planEntries (planAt (wordsOf t) s) b)
-  lines-listed =
-      ap (λ (ws : List ℕ). flatMap (entryLine b) (entriesIn ws)) (front-is A)
-      ∙ rw (lt-ltb b (length (planAt (wordsOf t) s .bridges)) (omega (arith, bridges-are R))) refl
+  pub lines-listed : {out out′ : List ℕ} {next : ℕ} → Appended out 0 (flatMap (entryLine b) (entriesIn (take count written))) out′ next
+      → Appended out 0 (entryLines b (planEntries (planAt (wordsOf t) s) b)) out′ next
+  lines-listed {out} {out′} {next} W = subst (λ (x : List ℕ). Appended out 0 x out′ next) same W
+    where
+      same : flatMap (entryLine b) (entriesIn (take count written)) ≡ entryLines b (planEntries (planAt (wordsOf t) s) b)
+      same =
+          ap (λ (ws : List ℕ). flatMap (entryLine b) (entriesIn ws)) (front-is A)
+          ∙ rw (lt-ltb b (length (planAt (wordsOf t) s .bridges)) (omega (arith, bridges-are R))) refl

@@ -3,3 +3,4 @@ pub mod PathLines
 pub mod EntryLines
 pub mod Parts
 pub mod PartLaws
+pub mod TableParts

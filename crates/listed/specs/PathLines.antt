@@ -89,7 +89,7 @@ module _ {t : List ℕ} {s : Shape} {starts neighbours costs identifiers : List 
 
   -- The lines of all pairs are the path lines.
   pub pairs-written : (vid a : ℕ) {to next : ℕ} {before after : List ℕ} → AppendingFew (pairLine (planAt (wordsOf t) s) vid a) 764 (s .bridges) before 0 to after next
-      → 764 * s .bridges ≤ length before → s .bridges ≤ to → Appended before 0 (pathLines (planAt (wordsOf t) s) vid a) after next × (next ≤ length after)
+      → 764 * s .bridges ≤ length before → s .bridges ≤ to → Appended before 0 (pathLines (planAt (wordsOf t) s) vid a) after next × (next ≤ 764 * s .bridges)
   pairs-written vid a {to} {next} {before} {after} A room l =
       let E = few-ends A (omega arith) l
-      in (rw (sym (all-pairs (planAt (wordsOf t) s) vid a), bridges-are) (E .0), omega (arith, E .1, A .same-length))
+      in (rw (sym (all-pairs (planAt (wordsOf t) s) vid a), bridges-are) (E .0), omega (arith, E .1))

@@ -32,7 +32,7 @@ pub fn write_entry_lines_of(
     requires { ⌜ PlanOf (now table) s (now starts) (now neighbours) (now costs) (now ports) (now identifiers) × (b < s .bridges) × (14931 ≤ length (now words)) × (258804 ≤ length (now out)) ⌝ }
     requires { ⌜ (4096 ≤ length (now «path_ids»)) × TreesHeld (s .bridges) (now starts) (now neighbours) (now costs) (now identifiers) (now marks) (now trees) ⌝ }
     ensures { λ r. ⌜ TreesHeld (s .bridges) (now (starts .entry)) (now (neighbours .entry)) (now (costs .entry)) (now (identifiers .entry)) (now (marks .exit)) (now (trees .exit)) ⌝ }
-    ensures { λ r. ⌜ WrittenAt 0 (now (out .entry)) (now (out .exit)) (entryLines b (planEntries (planAt (wordsOf (now (table .entry))) s) b)) r × (r ≤ length (now (out .exit))) ⌝ }
+    ensures { λ r. ⌜ WrittenAt 0 (now (out .entry)) (now (out .exit)) (entryLines b (planEntries (planAt (wordsOf (now (table .entry))) s) b)) r × (r ≤ 258804) ⌝ }
 {
     let count = list_over_lists(
         table,

@@ -80,7 +80,7 @@ pub fn write_path_lines(
     requires { ⌜ TableLists (now table) s (now starts) (now neighbours) (now costs) (now identifiers) × (k < s .vids) × (from < s .bridges) ⌝ }
     requires { ⌜ (4096 ≤ length (now «path_ids»)) × TreesHeld (s .bridges) (now starts) (now neighbours) (now costs) (now identifiers) (now marks) (now trees) × (764 * s .bridges ≤ length (now out)) ⌝ }
     ensures { λ r. ⌜ TreesHeld (s .bridges) (now (starts .entry)) (now (neighbours .entry)) (now (costs .entry)) (now (identifiers .entry)) (now (marks .exit)) (now (trees .exit)) ⌝ }
-    ensures { λ r. ⌜ WrittenAt 0 (now (out .entry)) (now (out .exit)) (pathLines (planAt (wordsOf (now (table .entry))) s) (vidNumber (wordsOf (now (table .entry))) s k .vid) from) r × (r ≤ length (now (out .exit))) ⌝ }
+    ensures { λ r. ⌜ WrittenAt 0 (now (out .entry)) (now (out .exit)) (pathLines (planAt (wordsOf (now (table .entry))) s) (vidNumber (wordsOf (now (table .entry))) s k .vid) from) r × (r ≤ 764 * s .bridges) ⌝ }
 {
     let mut next = 0;
     let mut to = 0;
