@@ -1,7 +1,7 @@
 -- The parts of a listing by their numbers, of a table whose records are those of an accepted plan. Assumes nothing.
 use Prim.Native.Nat.{ℕ, zero, suc, _+_, _*_, _-_, _/_, _%_, _≤_, _<_}
 use native.Mathlib.Omega.{arith}
-use native.Mathlib.Nat.{mod-lt, div-lt-iff-lt-mul}
+use native.Mathlib.Nat.{mod-lt, div-lt-iff-lt-mul, mul-le-mul-left, mul-le-mul-right}
 use mathlib.Core.Path.{_≡_, refl, sym, ap, subst, _∙_}
 use mathlib.Core.List.{List}
 use lib.ListN.{length}
@@ -17,9 +17,20 @@ use Rattle.table.specs.PositionLaws.{how-many, record-at}
 use Rattle.text.specs.Text.{line}
 use Rattle.text.specs.CheckText.{countsWord, countsFields}
 use Rattle.words.specs.Words.{vidNumber}
+use Rattle.entries.specs.Whole.{PlanOf}
 use Rattle.lines.specs.Listing.{pathLines, entryLines}
+use Rattle.listed.specs.PathLines.{TableLists}
 use Rattle.listed.specs.Parts.{pairCount, partCount, listingPart}
 use Rattle.listed.specs.PartLaws.{path-part, entry-part}
+
+-- A plan has at most 16 VIDs and 64 bridges.
+pub few-pairs : (vids bridges : ℕ) → vids ≤ 16 → bridges ≤ 64 → vids * bridges ≤ 1024
+few-pairs vids bridges h l = omega (arith, mul-le-mul-left vids l, mul-le-mul-right 64 h)
+
+-- What the path lines need of the lists of the table's plan.
+pub table-lists : {t : List ℕ} {s : Shape} {starts neighbours costs ports identifiers : List ℕ} → PlanOf t s starts neighbours costs ports identifiers
+    → TableLists t s starts neighbours costs identifiers
+table-lists P = record { readable = P .readable; lists = P .lists; few-identifiers = P .few-identifiers }
 
 module _ (ws : List ℕ) (s : Shape) where
   abbrev plan : Plan
