@@ -7,16 +7,14 @@ use mathlib.Core.List.{List, [], _∷_}
 use mathlib.Core.Option.{Option, none, some}
 use mathlib.Core.Logic.{_⊎_, inl, inr}
 use mathlib.Core.Bool.{Bool, true, false}
-use lib.Dec.{eqb→eq}
-use lib.ListN.{length, getD, getElem?, drop}
-use Rattle.graph.specs.Lists.{filter}
+use lib.ListN.{length, getD, drop}
 use Rattle.graph.specs.Members.{In}
-use Rattle.graph.specs.ListLaws.{same-or-not, eq-eqb, filter-in, in-filter}
+use Rattle.graph.specs.ListLaws.{same-or-not}
 use Rattle.rule.specs.Words.{wordsOf}
 use Rattle.rule.specs.Records.{Vid, Member, vidOf, memberOf}
-use Rattle.rule.specs.Plan.{Plan, hasVid, vidRecord}
+use Rattle.rule.specs.Plan.{Plan, vidRecord}
 use Rattle.rule.specs.PlanLaws.{PlanLaws, VidFits, MemberFits}
-use Rattle.rule.specs.OneRecord.{one-vid}
+use Rattle.rule.specs.CallLaws.{vid-found}
 use Rattle.table.specs.declared.shape.Shape.{Shape}
 use Rattle.table.specs.Positions.{vidsFrom, membersFrom, planAt}
 use Rattle.table.specs.PositionLaws.{how-many, record-in}
@@ -40,13 +38,8 @@ pub listed : {t : List ℕ} {s : Shape} {starts neighbours costs identifiers hop
     → Listed (s .bridges) starts neighbours costs identifiers
 listed {t} {s} L = record { plan = planAt (wordsOf t) s; lists = L .lists }
 
--- The record of a VID is the one that has it.
-first-of-one : (vs : List Vid) (v : Vid) → In v vs → ((w : Vid) → In w vs → w ≡ v) → getElem? vs 0 ≡ some v
-first-of-one (w ∷ vs) v i f = ap some (f w (inl refl))
-
 record-of-vid : (p : Plan) → PlanLaws p → (v : Vid) (n : ℕ) → In v (p .vids) → v .vid ≡ n → vidRecord p n ≡ some v
-record-of-vid p L v n i e = first-of-one (filter (hasVid n) (p .vids)) v (in-filter (hasVid n) v (p .vids) i (eq-eqb (v .vid) n e))
-    (λ w j. let r = filter-in (hasVid n) w (p .vids) j in one-vid p L w v (r .0) i (eqb→eq (w .vid) n (r .1) ∙ sym e))
+record-of-vid p L v n i e = ap (vidRecord p) (sym e) ∙ vid-found p L v i
 
 module _ {t : List ℕ} {s : Shape} (R : Readable t s) where
   pub vid-listed : (k : ℕ) → k < s .vids → In (vidNumber (wordsOf t) s k) (planAt (wordsOf t) s .vids)

@@ -13,16 +13,17 @@ use Rattle.graph.specs.Members.{In}
 use Rattle.graph.specs.ListLaws.{flatMap-filter}
 use Rattle.graph.specs.Appending.{Appended, appended-nothing, eachOf, AppendingFew, few-ends}
 use Rattle.rule.specs.Words.{wordsOf}
-use Rattle.rule.specs.Records.{Vid, bridgeOf, vidOf}
+use Rattle.rule.specs.Records.{Vid}
 use Rattle.rule.specs.Plan.{Plan}
 use Rattle.rule.specs.Calls.{planPath}
 use Rattle.rule.specs.CallLaws.{named-asked, vid-found}
 use Rattle.table.specs.declared.shape.Shape.{Shape}
-use Rattle.table.specs.Positions.{vidsFrom, planAt}
-use Rattle.table.specs.PositionLaws.{how-many, record-in}
+use Rattle.table.specs.Positions.{planAt}
 use Rattle.network.specs.PlanLists.{ListsOf, Listed, TreeOfLists}
 use Rattle.path.specs.Labelled.{labelledPath, Followable, labelled-path, tree-followable}
 use Rattle.words.specs.Words.{Readable, vidNumber}
+use Rattle.entries.specs.PlanWords.{bridges-are}
+use Rattle.entries.specs.Needed.{vid-listed}
 use Rattle.lines.specs.Listing.{pathLine, pathLines}
 
 -- The neighbour lists and the identifiers of the table's plan.
@@ -49,19 +50,13 @@ module _ (p : Plan) (vid a : ℕ) where
   all-pairs = sym (flatMap-filter (λ b. pathLine vid a b (planPath p vid a b)) (λ b. not (eqb b a)) (rising 0 (length (p .bridges))))
 
 module _ {t : List ℕ} {s : Shape} {starts neighbours costs identifiers : List ℕ} (L : TableLists t s starts neighbours costs identifiers) where
-  bridges-are : length (planAt (wordsOf t) s .bridges) ≡ s .bridges
-  bridges-are = how-many bridgeOf 3 0 (wordsOf t) (s .bridges)
-
   pub lists-listed : Listed (s .bridges) starts neighbours costs identifiers
   lists-listed = record { plan = planAt (wordsOf t) s; lists = L .lists }
-
-  pub bridges-few : s .bridges ≤ 64
-  bridges-few = omega (arith, bridges-are, L .readable .laws .bridges .few)
 
   -- The VID record number `k`.
   module _ (k : ℕ) (known-vid : k < s .vids) (v : Vid) (e : v ≡ vidNumber (wordsOf t) s k) where
     vid-in : In v (planAt (wordsOf t) s .vids)
-    vid-in = subst (λ (w : Vid). In w (planAt (wordsOf t) s .vids)) (sym e) (record-in vidOf 1 (vidsFrom s) (wordsOf t) (s .vids) k known-vid)
+    vid-in = subst (λ (w : Vid). In w (planAt (wordsOf t) s .vids)) (sym e) (vid-listed (L .readable) k known-vid)
 
     pub index-fits : (1 ≤ v .index) × (v .index ≤ 16)
     index-fits = let F = L .readable .laws .vids .fits v vid-in in (F .least-index, F .greatest-index)
@@ -72,13 +67,13 @@ module _ {t : List ℕ} {s : Shape} {starts neighbours costs identifiers : List 
       plan = planAt (wordsOf t) s
 
       pub pair-followable : Followable labels a
-      pair-followable = tree-followable plan (L .readable .laws) (v .index) b labels (T .of-plan plan (L .lists)) a (omega (arith, bridges-are))
+      pair-followable = tree-followable plan (L .readable .laws) (v .index) b labels (T .of-plan plan (L .lists)) a (omega (arith, bridges-are (L .readable)))
 
       -- The labels answer what the path call answers.
       pub pair-answer : labelledPath labels a ≡ planPath plan (v .vid) a b
       pair-answer =
-          labelled-path plan (L .readable .laws) (v .index) b labels (T .of-plan plan (L .lists)) a (omega (arith, bridges-are))
-          ∙ sym (named-asked plan (v .vid) v (vid-found plan (L .readable .laws) v vid-in) a b (omega (arith, bridges-are)) (omega (arith, bridges-are)))
+          labelled-path plan (L .readable .laws) (v .index) b labels (T .of-plan plan (L .lists)) a (omega (arith, bridges-are (L .readable)))
+          ∙ sym (named-asked plan (v .vid) v (vid-found plan (L .readable .laws) v vid-in) a b (omega (arith, bridges-are (L .readable))) (omega (arith, bridges-are (L .readable))))
 
       pub pair-written : (b ≡ a → ⊥) → {at next : ℕ} {before after : List ℕ}
           → Appended before at (pathLine (v .vid) a b (labelledPath labels a)) after next
@@ -92,4 +87,4 @@ module _ {t : List ℕ} {s : Shape} {starts neighbours costs identifiers : List 
       → 764 * s .bridges ≤ length before → s .bridges ≤ to → Appended before 0 (pathLines (planAt (wordsOf t) s) vid a) after next × (next ≤ 764 * s .bridges)
   pairs-written vid a {to} {next} {before} {after} A room l =
       let E = few-ends A (omega arith) l
-      in (rw (sym (all-pairs (planAt (wordsOf t) s) vid a), bridges-are) (E .0), omega (arith, E .1))
+      in (rw (sym (all-pairs (planAt (wordsOf t) s) vid a), bridges-are (L .readable)) (E .0), omega (arith, E .1))

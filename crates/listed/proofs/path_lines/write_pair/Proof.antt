@@ -6,7 +6,8 @@ use Rattle.rule.specs.Words.{wordsOf}
 use Rattle.table.specs.Positions.{planAt}
 use Rattle.network.specs.KeptTreeLaws.{lent-tree}
 use Rattle.words.specs.Words.{vidNumber}
-use Rattle.listed.specs.PathLines.{one-bridge, bridges-few, lists-listed, index-fits, pair-followable, pair-written}
+use Rattle.entries.specs.Needed.{few-bridges}
+use Rattle.listed.specs.PathLines.{one-bridge, lists-listed, index-fits, pair-followable, pair-written}
 use Rattle.listed.proofs.path_lines.write_pair.Statement.{statement}
 use Rattle.listed.proofs.path_lines.write_pair.Tie as tie
 
@@ -35,10 +36,10 @@ part-write-path-line-end : tie.Need-part-write-path-line-end
 part-write-path-line-end c = search needs
 
 cast-write-path-line : tie.Need-cast-write-path-line
-cast-write-path-line c = omega (arith, (c .before .before .before .before .before .before .before .before .before .before .before .before .before .before .before .before .before .before .before .before .before .before .before .pre .0 .2), bridges-few (c .before .before .before .before .before .before .before .before .before .before .before .before .before .before .before .before .before .before .before .before .before .before .before .pre .0 .0))
+cast-write-path-line c = omega (arith, (c .before .before .before .before .before .before .before .before .before .before .before .before .before .before .before .before .before .before .before .before .before .before .before .pre .0 .2), few-bridges (c .before .before .before .before .before .before .before .before .before .before .before .before .before .before .before .before .before .before .before .before .before .before .before .pre .0 .0 .readable))
 
 cast-write-path-line-2 : tie.Need-cast-write-path-line-2
-cast-write-path-line-2 c = omega (arith, (c .before .before .before .before .before .before .before .before .before .before .before .before .before .before .before .before .before .before .before .before .before .before .before .pre .0 .3), bridges-few (c .before .before .before .before .before .before .before .before .before .before .before .before .before .before .before .before .before .before .before .before .before .before .before .pre .0 .0))
+cast-write-path-line-2 c = omega (arith, (c .before .before .before .before .before .before .before .before .before .before .before .before .before .before .before .before .before .before .before .before .before .before .before .pre .0 .3), few-bridges (c .before .before .before .before .before .before .before .before .before .before .before .before .before .before .before .before .before .before .before .before .before .before .before .pre .0 .0 .readable))
 
 write-path-line-requires : tie.Need-write-path-line-requires
 write-path-line-requires c κs = (search needs, pair-followable (c .before .before .before .before .before .before .before .before .before .before .before .before .before .before .before .before .before .before .before .before .before .before .before .before .pre .0 .0) (c .before .before .before .before .before .before .before .before .before .before .before .before .before .before .before .before .before .before .before .before .before .before .before .before .args .k) (c .before .before .before .before .before .before .before .before .before .before .before .before .before .before .before .before .before .before .before .before .before .before .before .before .pre .0 .1) _ (c .before .before .before .before .before .before .before .before .before .before .before .before .before .vid .ensures) (c .before .before .before .before .before .before .before .before .before .before .before .before .before .before .before .before .before .before .before .before .before .before .before .before .args .from) (c .before .before .before .before .before .before .before .before .before .before .before .before .before .before .before .before .before .before .before .before .before .before .before .before .args .to) (c .before .before .before .before .before .before .before .before .before .before .before .before .before .before .before .before .before .before .before .before .before .before .before .before .pre .0 .2) (c .before .before .before .before .before .before .before .before .before .before .before .before .before .before .before .before .before .before .before .before .before .before .before .before .pre .0 .3) (lent-tree _ (c .before .before .before .before .before .before .before .before .before .kept-tree .result) (c .before .before .before .before .before .before .before .before .before .kept-tree .ensures .1 .1)), (c .before .before .before .before .before .before .before .before .before .before .before .before .before .before .before .before .before .before .before .before .before .before .before .before .pre .1 .2))
