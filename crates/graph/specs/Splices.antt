@@ -113,3 +113,8 @@ module _ {A : Type 0} (xs : List A) (at : ℕ) where
       ∙ ap (λ (t : List A). set t j a) (append-assoc (take j xs) (getD xs j a ∷ []) (part ++ drop (at + length part) xs))
       ∙ set-at (take j xs) (getD xs j a) (part ++ drop (at + length part) xs) a j (length-take-le j xs (omega arith))
       ∙ ap (λ (k : ℕ). take j xs ++ (a ∷ (part ++ drop k xs))) (let z : at + length part ≡ j + suc (length part) = omega arith in z)
+
+-- A part that was lent, put back in its place.
+pub put-back : (xs part : List ℕ) (at k : ℕ) → length part ≡ k → take at xs ++ (part ++ drop k (drop at xs)) ≡ spliced xs at part
+put-back xs part at k e = ap (λ (t : List ℕ). take at xs ++ (part ++ t))
+    (drop-drop k at xs ∙ ap (λ (x : ℕ). drop x xs) {x = at + k} {y = at + length part} (omega arith))

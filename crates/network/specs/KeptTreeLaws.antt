@@ -6,10 +6,10 @@ use mathlib.Core.Path.{_≡_, sym, ap, _∙_, subst}
 use mathlib.Core.List.{List, _++_}
 use mathlib.Core.Logic.{_⊎_, inl, inr}
 use lib.ListN.{length, getD, set, take, drop, length-set}
-use lib.Seq.{getD-set-same, getD-set-other, drop-drop}
+use lib.Seq.{getD-set-same, getD-set-other}
 use Rattle.graph.specs.Lists.{spliced}
 use Rattle.graph.specs.ListLaws.{compared, same-or-not}
-use Rattle.graph.specs.Splices.{length-spliced, spliced-part, before-spliced, after-spliced}
+use Rattle.graph.specs.Splices.{length-spliced, put-back, spliced-part, before-spliced, after-spliced}
 use Rattle.network.specs.PlanLists.{TreeOfLists}
 use Rattle.network.specs.KeptTrees.{slotOf, lineOf, onLine, TreesHeld}
 
@@ -30,11 +30,6 @@ no-trees n starts neighbours costs identifiers marks trees l m z =
       has-words = m;
       held = λ index root h k i e. absurd (omega (arith, z (lineOf (length marks) index root) (mod-lt (slotOf index root) l)));
     }
-
--- A part that was lent, put back in its place.
-put-back : (xs part : List ℕ) (at k : ℕ) → length part ≡ k → take at xs ++ (part ++ drop k (drop at xs)) ≡ spliced xs at part
-put-back xs part at k e = ap (λ (t : List ℕ). take at xs ++ (part ++ t))
-    (drop-drop k at xs ∙ ap (λ (x : ℕ). drop x xs) {x = at + k} {y = at + length part} (omega arith))
 
 module _ {n : ℕ} {starts neighbours costs identifiers marks trees : List ℕ} (H : TreesHeld n starts neighbours costs identifiers marks trees)
     (index root : ℕ) (l : 1 ≤ index) (g : index ≤ 16) (in-n : root < n) where
