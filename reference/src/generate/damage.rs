@@ -114,12 +114,14 @@ fn pick_edit<'a>(edits: &'a [Edit], random: &mut Random) -> &'a Edit {
 }
 
 /// One or two edits. Of two faulty records the first counts; of one record's
-/// faults the lowest.
+/// faults the lowest. Two edits of one record for one number may undo each other:
+/// another link number and another far bridge can make a mirror.
 pub fn edited_twice(plan: &Plan, random: &mut Random) -> Damaged {
     let edits = edits(plan);
     let (one, other) = (pick_edit(&edits, random), pick_edit(&edits, random));
     let once = one.applied(&plan.words());
-    if one.touches_words_of(other) {
+    let undo = (one.first, one.refusal.number) == (other.first, other.refusal.number);
+    if undo || one.touches_words_of(other) {
         return Damaged::of_words(one.name, &once, one.refusal);
     }
     let counts =
