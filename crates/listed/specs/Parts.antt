@@ -11,7 +11,7 @@ use Rattle.text.specs.Text.{line}
 use Rattle.text.specs.CheckText.{countsWord, countsFields}
 use Rattle.lines.specs.Listing.{pathLines, entryLines}
 
--- How many two of a VID record and a from there are.
+-- How many pairs of a VID record and a from there are.
 abbrev pub pairCount : Plan → ℕ
 pairCount p = length (p .vids) * length (p .bridges)
 

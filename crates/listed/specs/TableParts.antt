@@ -2,12 +2,11 @@
 use Prim.Native.Nat.{ℕ, zero, suc, _+_, _*_, _-_, _/_, _%_, _≤_, _<_}
 use native.Mathlib.Omega.{arith}
 use native.Mathlib.Nat.{mod-lt, div-lt-iff-lt-mul, mul-le-mul-left, mul-le-mul-right}
-use mathlib.Core.Path.{_≡_, refl, sym, ap, subst, _∙_}
+use mathlib.Core.Path.{_≡_, sym, ap, subst, _∙_}
 use mathlib.Core.List.{List}
 use lib.ListN.{length}
 use Rattle.graph.specs.Appending.{Appended}
 use Rattle.rule.specs.declared.answer.Counts.{Counts}
-use Rattle.rule.specs.Words.{wordsOf}
 use Rattle.rule.specs.Records.{Vid, bridgeOf, vidOf}
 use Rattle.rule.specs.Plan.{Plan, vidAt}
 use Rattle.rule.specs.Calls.{countsOf, planEntries}
