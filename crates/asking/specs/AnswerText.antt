@@ -5,7 +5,7 @@ use mathlib.Core.List.{List, [], _∷_, _++_, map}
 use Rattle.graph.specs.Lists.{rising}
 use Rattle.rule.specs.Outcome.{Outcome, answered, refused}
 use Rattle.rule.specs.Answers.{CostAndHops}
-use Rattle.text.specs.Text.{newline, field, fields, pathWord}
+use Rattle.text.specs.Text.{newline, fieldText, fields, pathWord}
 use Rattle.text.specs.CheckText.{refusalText}
 
 -- `tree`
@@ -18,17 +18,17 @@ entriesWord = 101 ∷ 110 ∷ 116 ∷ 114 ∷ 105 ∷ 101 ∷ 115 ∷ []
 
 -- `path` with cost and hops, or the refusal.
 abbrev pub pathAnswerText : Outcome CostAndHops → List ℕ
-pathAnswerText (answered v) = pathWord ++ (field (v .cost) ++ field (v .hops))
+pathAnswerText (answered v) = pathWord ++ (fieldText (v .cost) ++ fieldText (v .hops))
 pathAnswerText (refused number kind at) = refusalText number kind at
 
 -- `tree` with the number of bridges, or the refusal.
 abbrev pub treeAnswerText : Outcome ℕ → List ℕ
-treeAnswerText (answered bridges) = treeWord ++ field bridges
+treeAnswerText (answered bridges) = treeWord ++ fieldText bridges
 treeAnswerText (refused number kind at) = refusalText number kind at
 
 -- `entries` with the number of words, or the refusal.
 abbrev pub entriesAnswerText : Outcome ℕ → List ℕ
-entriesAnswerText (answered words) = entriesWord ++ field words
+entriesAnswerText (answered words) = entriesWord ++ fieldText words
 entriesAnswerText (refused number kind at) = refusalText number kind at
 
 -- The line of a path.

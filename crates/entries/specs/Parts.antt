@@ -9,8 +9,8 @@ use lib.Dec.{T, eqb, eqb→eq}
 use borrow.Author.Tests.{eq-eqb, ne-eqb}
 use lib.ListN.{length, take, drop, length-take, length-drop, length-append}
 use lib.Seq.{take-append-seam}
-use Rattle.graph.specs.Lists.{rising, filter, spliced}
-use Rattle.graph.specs.ListLaws.{first-of, last-of, is-true, rising-in, flatMap-map, flatMap-flatMap, flatMap-append, flatMap-filter, flatMap-same}
+use Rattle.graph.specs.Lists.{rising, selected, spliced}
+use Rattle.graph.specs.ListLaws.{first-of, last-of, is-true, rising-in, flatMap-map, flatMap-flatMap, flatMap-append, flatMap-selected, flatMap-same}
 use Rattle.graph.specs.Appending.{Appended, Room, appended-nothing, appended-both, appended-length, eachOf}
 use Rattle.rule.specs.Words.{wordsOf}
 use Rattle.rule.specs.Records.{Bridge, Vid, Member}
@@ -85,9 +85,9 @@ module _ {t : List ℕ} {s : Shape} (R : Readable t s) {b : ℕ} {rows : List �
         flatMap-same (memberPart (wordsOf t) s rows ports v) (λ j. given (memberNumber (wordsOf t) s j)) (rising 0 (s .members))
         (λ j i. member-is j (omega (arith, rising-in 0 (s .members) j i .1)))
         ∙ sym (flatMap-map given (memberNumber (wordsOf t) s) (rising 0 (s .members)))
-        ∙ sym (flatMap-filter (memberWords p b v) (λ m. m .transmits && eqb (m .vid) (v .vid)) (p .members))
+        ∙ sym (flatMap-selected (memberWords p b v) (λ m. m .transmits && eqb (m .vid) (v .vid)) (p .members))
         ∙ sym (flatMap-flatMap entryWords (λ m. map (groupEntry p v m) (listedPorts (receiverPorts p v b (p .members) m)))
-        (filter (λ m. m .transmits && eqb (m .vid) (v .vid)) (p .members)))
+        (selected (λ m. m .transmits && eqb (m .vid) (v .vid)) (p .members)))
       where
         given : Member → List ℕ
         given m = cond (m .transmits && eqb (m .vid) (v .vid)) (memberWords p b v m) []

@@ -9,9 +9,9 @@ use mathlib.Core.Bool.{Bool, true, false, cond, not, _&&_}
 use lib.Dec.{T, eqb, eqb→eq, eqb-refl}
 use lib.ListN.{length, getD}
 use borrow.Author.Tests.{eq-eqb, ne-eqb}
-use Rattle.graph.specs.Lists.{rising, filter, any}
-use Rattle.graph.specs.Members.{In, Pairwise}
-use Rattle.graph.specs.ListLaws.{same-or-not, none-not-some, filter-in, in-filter, any-in, in-any, in-rising, rising-in, flatMap-in, in-flatMap, flatMap-map, flatMap-flatMap, flatMap-append, flatMap-filter, flatMap-same, by-places, pairwise-filter, pairwise-rising, rising-same}
+use Rattle.graph.specs.Lists.{rising, selected, anyPasses}
+use Rattle.graph.specs.Members.{In, EveryTwo}
+use Rattle.graph.specs.ListLaws.{same-or-not, none-not-some, selected-in, in-selected, any-in, in-any, in-rising, rising-in, flatMap-in, in-flatMap, flatMap-map, flatMap-flatMap, flatMap-append, flatMap-selected, flatMap-same, by-places, every-two-selected, every-two-rising, rising-same}
 use Rattle.graph.specs.ChosenPaths.{chosen-stay, chosen-first}
 use Rattle.graph.specs.Appending.{eachOf}
 use Rattle.rule.specs.Words.{wordsOf}
@@ -40,9 +40,9 @@ vidWords p b v = flatMap entryWords (individualEntries p v b ++ groupEntries p v
 abbrev pub memberWords : Plan → ℕ → Vid → Member → List ℕ
 memberWords p b v m = flatMap entryWords (map (groupEntry p v m) (listedPorts (receiverPorts p v b (p .members) m)))
 
-listed-rises : (behind : List ℕ) → Pairwise (λ x y. x < y) (listedPorts behind)
+listed-rises : (behind : List ℕ) → EveryTwo (λ x y. x < y) (listedPorts behind)
 unfolding listedPorts
-listed-rises behind = pairwise-filter (λ x y. x < y) (λ port. any (λ q. eqb q port) behind) (allWithin portLimits) (pairwise-rising 1 4095)
+listed-rises behind = every-two-selected (λ x y. x < y) (λ port. anyPasses (λ q. eqb q port) behind) (allWithin portLimits) (every-two-rising 1 4095)
 
 -- A path from a bridge leaves it by its first port.
 leaves-start : (hs : List HalfLink) (b : ℕ) (t : List ℕ) → leavingPort hs b (b ∷ t) ≡ firstPort hs (b ∷ t)
@@ -122,9 +122,9 @@ module _ {t : List ℕ} {s : Shape} (R : Readable t s) where
         flatMap-same (individualTo (wordsOf t) row (v .vid)) (λ d. cond (not (eqb d b)) (givenTo d) []) (rising 0 (s .bridges))
         (λ d i. each d (omega (arith, rising-in 0 (s .bridges) d i .1)) (same-or-not d b))
         ∙ ap (λ (n : ℕ). flatMap (λ d. cond (not (eqb d b)) (givenTo d) []) (rising 0 n)) (sym bridges-are)
-        ∙ sym (flatMap-filter givenTo (λ d. not (eqb d b)) (rising 0 (length (p .bridges))))
+        ∙ sym (flatMap-selected givenTo (λ d. not (eqb d b)) (rising 0 (length (p .bridges))))
         ∙ sym (flatMap-flatMap entryWords (λ d. map (individualEntry p v d) (portsOf (firstPort hs) (chosenPath p (v .index) b d)))
-        (filter (λ d. not (eqb d b)) (rising 0 (length (p .bridges)))))
+        (selected (λ d. not (eqb d b)) (rising 0 (length (p .bridges)))))
       where
         each : (d : ℕ) → d < s .bridges → (d ≡ b) ⊎ (d ≡ b → ⊥) → individualTo (wordsOf t) row (v .vid) d ≡ cond (not (eqb d b)) (givenTo d) []
         each d l (inl e) =
@@ -144,7 +144,7 @@ module _ {t : List ℕ} {s : Shape} (R : Readable t s) where
     receivers-are : receiverPorts p v b (p .members) m ≡ flatMap (λ j. cond (receives m (memberNumber (wordsOf t) s j)) (passing (memberNumber (wordsOf t) s j)) []) (rising 0 (s .members))
     unfolding receiverPorts recordsAt
     receivers-are =
-        flatMap-filter passing (receives m) (p .members)
+        flatMap-selected passing (receives m) (p .members)
         ∙ flatMap-map (λ r. cond (receives m r) (passing r) []) (memberNumber (wordsOf t) s) (rising 0 (s .members))
 
     from-row : (q : ℕ) (o : Option (List ℕ)) → 1 ≤ q → q ≡ portOn hs b o → In q (portsOf (leavingPort hs b) o)
@@ -196,7 +196,7 @@ module _ {t : List ℕ} {s : Shape} (R : Readable t s) where
     own-port : {ports : List ℕ} → PlanPorts p b ports → (q : ℕ) → In q (receiverPorts p v b (p .members) m) → In q ports
     unfolding receiverPorts
     own-port {ports} P q k =
-        let (r, i, h) = flatMap-in passing q (filter (receives m) (p .members)) k
+        let (r, i, h) = flatMap-in passing q (selected (receives m) (p .members)) k
         in by-path (chosenPath p (v .index) (m .bridge) (r .bridge)) h
       where
         by-path : (o : Option (List ℕ)) → In q (portsOf (leavingPort hs b) o) → In q ports
@@ -212,9 +212,9 @@ module _ {t : List ℕ} {s : Shape} (R : Readable t s) where
 
     -- "a port is listed as soon as one receiver behind it is found".
     listed-are : {ports : List ℕ} → PlanPorts p b ports
-        → filter (λ port. any (λ q. eqb q port) (portsBehind (wordsOf t) s row m)) ports ≡ listedPorts (receiverPorts p v b (p .members) m)
+        → selected (λ port. anyPasses (λ q. eqb q port) (portsBehind (wordsOf t) s row m)) ports ≡ listedPorts (receiverPorts p v b (p .members) m)
     listed-are {ports} P =
-        rising-same (filter found ports) (listedPorts received) (pairwise-filter (λ x y. x < y) found ports (P .rises)) (listed-rises received) forth back
+        rising-same (selected found ports) (listedPorts received) (every-two-selected (λ x y. x < y) found ports (P .rises)) (listed-rises received) forth back
       where
         behind : List ℕ
         behind = portsBehind (wordsOf t) s row m
@@ -223,19 +223,19 @@ module _ {t : List ℕ} {s : Shape} (R : Readable t s) where
         received = receiverPorts p v b (p .members) m
 
         found : ℕ → Bool
-        found port = any (λ q. eqb q port) (portsBehind (wordsOf t) s row m)
+        found port = anyPasses (λ q. eqb q port) (portsBehind (wordsOf t) s row m)
 
-        forth : (q : ℕ) → In q (filter found ports) → In q (listedPorts received)
+        forth : (q : ℕ) → In q (selected found ports) → In q (listedPorts received)
         forth q k =
-            let (i, h) = filter-in found q ports k
+            let (i, h) = selected-in found q ports k
             in let (x, j, e) = any-in (λ x. eqb x q) (portsBehind (wordsOf t) s row m) h
             in let (g, y) = P .fits q i
             in port-listed received q g y (behind-received q g (subst (λ (z : ℕ). In z (portsBehind (wordsOf t) s row m)) (eqb→eq x q e) j))
 
-        back : (q : ℕ) → In q (listedPorts received) → In q (filter found ports)
+        back : (q : ℕ) → In q (listedPorts received) → In q (selected found ports)
         back q k =
             let (g, y, i) = listed-port received q k
-            in in-filter found q ports (own-port P q i) (in-any (λ x. eqb x q) q (portsBehind (wordsOf t) s row m) (received-behind q i) (eqb-refl q))
+            in in-selected found q ports (own-port P q i) (in-any (λ x. eqb x q) q (portsBehind (wordsOf t) s row m) (received-behind q i) (eqb-refl q))
 
     pub group-words : {ports : List ℕ} → PlanPorts p b ports
         → groupWords ports (portsBehind (wordsOf t) s row m) (v .vid) (groupAddress (bridgeAt p (m .bridge) .spSourceId) (m .isid)) ≡ memberWords p b v m
@@ -243,9 +243,9 @@ module _ {t : List ℕ} {s : Shape} (R : Readable t s) where
     group-words {ports} P =
         sym (flatMap-map byPort (λ i. getD ports i 0) (rising 0 (length ports)))
         ∙ ap (flatMap byPort) (by-places ports 0)
-        ∙ sym (flatMap-filter (λ port. entryWords (groupEntry p v m port)) (λ port. any (λ q. eqb q port) (portsBehind (wordsOf t) s row m)) ports)
+        ∙ sym (flatMap-selected (λ port. entryWords (groupEntry p v m port)) (λ port. anyPasses (λ q. eqb q port) (portsBehind (wordsOf t) s row m)) ports)
         ∙ ap (flatMap (λ port. entryWords (groupEntry p v m port))) (listed-are P)
         ∙ sym (flatMap-map entryWords (groupEntry p v m) (listedPorts (receiverPorts p v b (p .members) m)))
       where
         byPort : ℕ → List ℕ
-        byPort port = cond (any (λ q. eqb q port) (portsBehind (wordsOf t) s row m)) (entryWords (groupEntry p v m port)) []
+        byPort port = cond (anyPasses (λ q. eqb q port) (portsBehind (wordsOf t) s row m)) (entryWords (groupEntry p v m port)) []

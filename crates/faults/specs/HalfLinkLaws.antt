@@ -8,7 +8,7 @@ use mathlib.Core.Logic.{_⊎_, inl, inr}
 use lib.Dec.{eqb}
 use lib.ListN.{drop}
 use borrow.Author.Tests.{eq-eqb, ne-eqb, eqb-true}
-use Rattle.graph.specs.Lists.{rising, any, filter}
+use Rattle.graph.specs.Lists.{rising, anyPasses, selected}
 use Rattle.graph.specs.ListLaws.{same-or-not, le-or-gt}
 use Rattle.rule.specs.Records.{HalfLink, halfLinkOf}
 use Rattle.rule.specs.Check.{repeatsPort, hasLink, mirrors, wrongHalf}
@@ -34,7 +34,7 @@ module _ {links ws : List ℕ} {from n : ℕ} (k : Keyed numberKey links ws from
   ofNumber i = hasLink (h .link) (halfLinkAt i)
 
   abbrev earlier : List HalfLink
-  earlier = filter (hasLink (h .link)) (recordsAt halfLinkOf 3 from ws n)
+  earlier = selected (hasLink (h .link)) (recordsAt halfLinkOf 3 from ws n)
 
   by-index : (m : ℕ) → m ≤ n → lastPlace (holds links (h .link)) m ≡ lastPlace ofNumber m
   by-index m l =
@@ -49,7 +49,7 @@ module _ {links ws : List ℕ} {from n : ℕ} (k : Keyed numberKey links ws from
     within : i < n
     within = omega (arith, last-within (holds links (h .link)) n)
 
-    up-to-last : earlier ≡ filter (hasLink (h .link)) (map halfLinkAt (rising 0 i)) ++ (halfLinkAt i ∷ [])
+    up-to-last : earlier ≡ selected (hasLink (h .link)) (map halfLinkAt (rising 0 i)) ++ (halfLinkAt i ∷ [])
     unfolding recordsAt
     up-to-last = last-passing halfLinkAt (hasLink (h .link)) n i (sym (by-index n (omega arith)) ∙ sym e ∙ p)
 
@@ -63,7 +63,7 @@ module _ {links ws : List ℕ} {from n : ℕ} (k : Keyed numberKey links ws from
 
     third : (q j : ℕ) → q ≡ earlierPlace links place → q ≡ suc j → true ≡ wrongHalf h earlier
     third q j f g =
-        third-is-wrong h (filter (hasLink (h .link)) (map halfLinkAt (rising 0 j))) (halfLinkAt j) (halfLinkAt i)
+        third-is-wrong h (selected (hasLink (h .link)) (map halfLinkAt (rising 0 j))) (halfLinkAt j) (halfLinkAt i)
         ∙ ap (λ (t : List HalfLink). wrongHalf h (t ++ (halfLinkAt i ∷ [])))
         (sym (last-passing halfLinkAt (hasLink (h .link)) i j (sym place-before ∙ sym f ∙ g)))
         ∙ ap (wrongHalf h) (sym up-to-last)
@@ -107,7 +107,7 @@ pub port-repeated :
     (h : HalfLink) →
     h .port < 65536 →
     not (eqb (lastPlace (holds ports (h .near * 65536 + h .port)) n) 0)
-    ≡ any (repeatsPort h) (recordsAt halfLinkOf 3 from ws n)
+    ≡ anyPasses (repeatsPort h) (recordsAt halfLinkOf 3 from ws n)
 port-repeated {ports} {ws} {from} {n} k h l =
     ap (λ (x : ℕ). not (eqb x 0))
     (last-same (holds ports (h .near * 65536 + h .port)) (λ i. repeatsPort h (recordAt halfLinkOf 3 from ws i)) n λ i s.

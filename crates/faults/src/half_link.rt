@@ -9,7 +9,7 @@ ghost use mathlib.Core.Bool.{not, _||_};
 ghost use Prim.Native.Nat.{_+_, _*_, _≤_, _<_};
 ghost use lib.Dec.{eqb, ltb};
 ghost use lib.ListN.{length};
-ghost use Rattle.graph.specs.Lists.{filter};
+ghost use Rattle.graph.specs.Lists.{selected};
 ghost use Rattle.rule.specs.Words.{wordsOf};
 ghost use Rattle.rule.specs.Records.{halfLinkOf};
 ghost use Rattle.rule.specs.Check.{mirrors, hasLink, wrongHalf};
@@ -61,7 +61,7 @@ pub fn is_port_repeated(ports: &[u32], count: usize, near: u32, port: u32) -> bo
 // Whether the half-link is "a third half-link of a link number, or the second and no mirror of the first".
 pub fn is_wrong_link(table: &[u8], from: usize, count: usize, links: &[u32], h: HalfLink) -> bool
     requires { ⌜ (4 * (from + 3 * count) ≤ length (now table)) × Keyed numberKey (now links) (wordsOf (now table)) from count ⌝ }
-    ensures { λ r. ⌜ r ≡ wrongHalf (halfLinkValues h) (filter (hasLink (h .link)) (recordsAt halfLinkOf 3 from (wordsOf (now (table .entry))) count)) ⌝ }
+    ensures { λ r. ⌜ r ≡ wrongHalf (halfLinkValues h) (selected (hasLink (h .link)) (recordsAt halfLinkOf 3 from (wordsOf (now (table .entry))) count)) ⌝ }
 {
     let place = last_place(links, count, h.link);
     if place == 0 {

@@ -8,7 +8,7 @@ use table::vid::vid_at;
 ghost use mathlib.Core.Path.{_≡_};
 ghost use Prim.Native.Nat.{_+_, _*_, _≤_};
 ghost use lib.ListN.{length};
-ghost use Rattle.graph.specs.Lists.{any};
+ghost use Rattle.graph.specs.Lists.{anyPasses};
 ghost use Rattle.rule.specs.Words.{wordsOf};
 ghost use Rattle.rule.specs.Records.{bridgeOf, vidOf, memberOf};
 ghost use Rattle.rule.specs.Plan.{hasVid};
@@ -29,7 +29,7 @@ fn repeats_bridge(b: Bridge, earlier: Bridge) -> bool
 // Whether one of the first `bridges` bridges is repeated.
 pub fn is_bridge_repeated(table: &[u8], bridges: usize, b: Bridge) -> bool
     requires { ⌜ 12 * bridges ≤ length (now table) ⌝ }
-    ensures { λ r. ⌜ r ≡ any (repeatsBridge (bridgeValues b)) (recordsAt bridgeOf 3 0 (wordsOf (now (table .entry))) bridges) ⌝ }
+    ensures { λ r. ⌜ r ≡ anyPasses (repeatsBridge (bridgeValues b)) (recordsAt bridgeOf 3 0 (wordsOf (now (table .entry))) bridges) ⌝ }
 {
     let mut i = 0;
     while i < bridges {
@@ -44,7 +44,7 @@ pub fn is_bridge_repeated(table: &[u8], bridges: usize, b: Bridge) -> bool
 // Whether one of the `vids` VID records from the word `from` on has the VID.
 pub fn is_vid_known(table: &[u8], from: usize, vids: usize, vid: u32) -> bool
     requires { ⌜ 4 * (from + vids) ≤ length (now table) ⌝ }
-    ensures { λ r. ⌜ r ≡ any (hasVid vid) (recordsAt vidOf 1 from (wordsOf (now (table .entry))) vids) ⌝ }
+    ensures { λ r. ⌜ r ≡ anyPasses (hasVid vid) (recordsAt vidOf 1 from (wordsOf (now (table .entry))) vids) ⌝ }
 {
     let mut i = 0;
     while i < vids {
@@ -72,7 +72,7 @@ fn repeats_member(m: Member, earlier: Member) -> bool
 // Whether one of the `members` members from the word `from` on is repeated.
 pub fn is_member_repeated(table: &[u8], from: usize, members: usize, m: Member) -> bool
     requires { ⌜ 4 * (from + 2 * members) ≤ length (now table) ⌝ }
-    ensures { λ r. ⌜ r ≡ any (repeatsMember (memberValues m)) (recordsAt memberOf 2 from (wordsOf (now (table .entry))) members) ⌝ }
+    ensures { λ r. ⌜ r ≡ anyPasses (repeatsMember (memberValues m)) (recordsAt memberOf 2 from (wordsOf (now (table .entry))) members) ⌝ }
 {
     let mut i = 0;
     while i < members {

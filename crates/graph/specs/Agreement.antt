@@ -8,7 +8,7 @@ use mathlib.Core.Logic.{_⊎_, inl, inr}
 use mathlib.Core.Bool.{Bool}
 use lib.Dec.{T}
 use Rattle.graph.specs.Order.{Lower, sorted}
-use Rattle.graph.specs.Graph.{Graph, GraphLaws, KeyLaws, GoesOn, Onward, Path, costOnward, cost, hops, pathId, rank}
+use Rattle.graph.specs.Graph.{Graph, GraphLaws, KeyLaws, GoesOn, Onward, IsPath, costOnward, cost, hops, pathId, rank}
 use Rattle.graph.specs.Chosen.{Chosen, chosen}
 use Rattle.graph.specs.Members.{In}
 use Rattle.graph.specs.Notions.{Agree}
@@ -31,7 +31,7 @@ module _ (g h : Graph) (A : Agree g h) where
       on [] m = tt
       on (w ∷ t) m = subst (λ (x : Bool). T x) (A .between-agree v) m
 
-  pub path-agrees : (a b : ℕ) (p : List ℕ) → Path g a b p → Path h a b p
+  pub path-agrees : (a b : ℕ) (p : List ℕ) → IsPath g a b p → IsPath h a b p
   path-agrees a b (u ∷ t) (e, o) = (e, onward-agrees u t b o)
 
   pub cost-agrees : (p : List ℕ) → cost g p ≡ cost h p
@@ -76,10 +76,10 @@ module _ (g : Graph) (L : GraphLaws g) (key key′ : ℕ → ℕ) (same : (u : �
   pub chosen-keys-agree : (a b : ℕ) (p : List ℕ) → Chosen g key a b p → Chosen g key′ a b p
   chosen-keys-agree a b p P = go (path-first g a b p (P .path))
     where
-      ranks : a < g .size → (q : List ℕ) → Path g a b q → rank g key q ≡ rank g key′ q
+      ranks : a < g .size → (q : List ℕ) → IsPath g a b q → rank g key q ≡ rank g key′ q
       ranks l q o = ap (λ (k : List ℕ). cost g q ∷ hops q ∷ sorted k) (keys-agree q (stays-inside g L a b q l o))
 
-      other : a < g .size → (q : List ℕ) → Path g a b q → (q ≡ p) ⊎ Lower (rank g key p) (rank g key q) → (q ≡ p) ⊎ Lower (rank g key′ p) (rank g key′ q)
+      other : a < g .size → (q : List ℕ) → IsPath g a b q → (q ≡ p) ⊎ Lower (rank g key p) (rank g key q) → (q ≡ p) ⊎ Lower (rank g key′ p) (rank g key′ q)
       other l q o (inl e) = inl e
       other l q o (inr h) = inr (subst (λ (z : List ℕ). Lower z (rank g key′ q)) (ranks l p (P .path))
           (subst (λ (z : List ℕ). Lower (rank g key p) z) (ranks l q o) h))

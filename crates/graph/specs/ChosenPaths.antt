@@ -9,7 +9,7 @@ use mathlib.Core.Logic.{_⊎_, inl, inr}
 use lib.Dec.{T}
 use lib.ListN.{length, length-map}
 use Rattle.graph.specs.Order.{Lower}
-use Rattle.graph.specs.Graph.{Graph, GraphLaws, KeyLaws, Onward, Path, cost, hops, pathId, rank}
+use Rattle.graph.specs.Graph.{Graph, GraphLaws, KeyLaws, Onward, IsPath, cost, hops, pathId, rank}
 use Rattle.graph.specs.Chosen.{Chosen}
 use Rattle.graph.specs.Members.{In, Distinct, lastOf, HasPart}
 use Rattle.graph.specs.Notions.{Joint, Linked, Least, RanksAbove}
@@ -43,7 +43,7 @@ module _ (g : Graph) (key : ℕ → ℕ) where
 
   -- "Every other list of bridges from a to b, each joined to the next, costs more, or ties and has more hops,
   -- or ties in both and has a higher masked PATHID" (demand 3). All lists, repeats included.
-  pub chosen-below : (a b : ℕ) (p q : List ℕ) → Chosen g key a b p → Path g a b q → (q ≡ p → ⊥) → RanksAbove g key q p
+  pub chosen-below : (a b : ℕ) (p q : List ℕ) → Chosen g key a b p → IsPath g a b q → (q ≡ p → ⊥) → RanksAbove g key q p
   chosen-below a b p q P o n = go (P .least q o)
     where
       go : (q ≡ p) ⊎ Lower (rank g key p) (rank g key q) → RanksAbove g key q p
@@ -53,7 +53,7 @@ module _ (g : Graph) (key : ℕ → ℕ) where
       go (inr (inr (h, inr k))) = inr (inr (h, k .0, k .1))
 
   -- "compared place by place" (01, "The chosen path"): PATHIDs are compared only where they have equal lengths.
-  pub pathId-lengths : (a b : ℕ) (p q : List ℕ) → Path g a b p → Path g a b q → hops p ≡ hops q → length (pathId key p) ≡ length (pathId key q)
+  pub pathId-lengths : (a b : ℕ) (p q : List ℕ) → IsPath g a b p → IsPath g a b q → hops p ≡ hops q → length (pathId key p) ≡ length (pathId key q)
   pathId-lengths a b (x ∷ p) (y ∷ q) P Q e =
       omega (arith, length-sorted (map key (x ∷ p)), length-sorted (map key (y ∷ q)), length-map p key, length-map q key)
 
@@ -63,7 +63,7 @@ module _ (g : Graph) (key : ℕ → ℕ) where
   chosen-below-linked all a b p q P o n = chosen-below a b p q P (linked-path g all a b q o) n
 
   -- No path is lower than the chosen one.
-  pub chosen-lowest : (a b : ℕ) (p q : List ℕ) → Chosen g key a b p → Path g a b q → Lower (rank g key q) (rank g key p) → ⊥
+  pub chosen-lowest : (a b : ℕ) (p q : List ℕ) → Chosen g key a b p → IsPath g a b q → Lower (rank g key q) (rank g key p) → ⊥
   chosen-lowest a b p q P o h = go (P .least q o)
     where
       go : (q ≡ p) ⊎ Lower (rank g key p) (rank g key q) → ⊥
@@ -71,7 +71,7 @@ module _ (g : Graph) (key : ℕ → ℕ) where
       go (inr k) = lower-one-way (rank g key p) (rank g key q) k h
 
   -- "The chosen path has the least cost" (01, "The chosen path").
-  pub chosen-cost : (a b : ℕ) (p q : List ℕ) → Chosen g key a b p → Path g a b q → cost g p ≤ cost g q
+  pub chosen-cost : (a b : ℕ) (p q : List ℕ) → Chosen g key a b p → IsPath g a b q → cost g p ≤ cost g q
   chosen-cost a b p q P o = not-lower-cost p q (chosen-lowest a b p q P o)
 
   -- The chosen path as its first bridge and the list after it, which is of least cost.
@@ -111,8 +111,8 @@ module _ (g : Graph) (key : ℕ → ℕ) where
       d = lastOf v t
 
       -- Where the path goes on from the part's first bridge, and with any other part in its place.
-      onward-part : (xs : List ℕ) → Path g a b (xs ++ ((c ∷ v ∷ t) ++ ys))
-          → Onward g c (v ∷ t) d × ((s : List ℕ) → Onward g c s d → Path g a b (xs ++ ((c ∷ s) ++ ys)))
+      onward-part : (xs : List ℕ) → IsPath g a b (xs ++ ((c ∷ v ∷ t) ++ ys))
+          → Onward g c (v ∷ t) d × ((s : List ℕ) → Onward g c s d → IsPath g a b (xs ++ ((c ∷ s) ++ ys)))
       onward-part [] (e, o) = let r = split g c (v ∷ t) ys b o in
           (r .0, λ s k. (e, replaced g c [] c (v ∷ t) d ys b s refl tt (r .1) (r .2) (λ f. absurd (nil-not-cons (sym f))) k))
       onward-part (x ∷ xs) (e, o) =
@@ -120,7 +120,7 @@ module _ (g : Graph) (key : ℕ → ℕ) where
           inside (lastOf x (xs ++ (c ∷ []))) (lastOf-append x xs c []) (split g x (xs ++ (c ∷ [])) ((v ∷ t) ++ ys) b o′)
         where
           inside : (c′ : ℕ) → c′ ≡ c → Onward g x (xs ++ (c ∷ [])) c′ × Onward g c′ ((v ∷ t) ++ ys) b × Joint g (xs ++ (c ∷ [])) c′ ((v ∷ t) ++ ys)
-              → Onward g c (v ∷ t) d × ((s : List ℕ) → Onward g c s d → Path g a b ((x ∷ xs) ++ ((c ∷ s) ++ ys)))
+              → Onward g c (v ∷ t) d × ((s : List ℕ) → Onward g c s d → IsPath g a b ((x ∷ xs) ++ ((c ∷ s) ++ ys)))
           inside c′ f (o₁, o₂, j₁) = let r = split g c (v ∷ t) ys b (subst (λ (z : ℕ). Onward g z ((v ∷ t) ++ ys) b) f o₂) in (
             r .0,
             λ s k. (
@@ -150,7 +150,7 @@ module _ (g : Graph) (key : ℕ → ℕ) where
           (rank-around g key xs c s (v ∷ t) ys (ends g c s d k) l))
 
       go : (xs : List ℕ) → Chosen g key a b (xs ++ ((c ∷ v ∷ t) ++ ys))
-          → Onward g c (v ∷ t) d × ((s : List ℕ) → Onward g c s d → Path g a b (xs ++ ((c ∷ s) ++ ys))) → Chosen g key c d (c ∷ v ∷ t)
+          → Onward g c (v ∷ t) d × ((s : List ℕ) → Onward g c s d → IsPath g a b (xs ++ ((c ∷ s) ++ ys))) → Chosen g key c d (c ∷ v ∷ t)
       go xs P (o, f) = record { path = (refl, o); least = λ q k. other q (path-first g c d q k) }
         where
           other : (q : List ℕ) → ((s : List ℕ) × (q ≡ c ∷ s) × Onward g c s d) → (q ≡ c ∷ v ∷ t) ⊎ Lower (rank g key (c ∷ v ∷ t)) (rank g key q)
@@ -162,7 +162,7 @@ module _ (g : Graph) (key : ℕ → ℕ) where
   chosen-rest a b xs c t P = subst (λ (z : ℕ). Chosen g key c z (c ∷ t)) (last xs (P .path))
       (chosen-part a b xs c t [] (subst (λ (z : List ℕ). Chosen g key a b (xs ++ (c ∷ z))) (sym (append-nil t)) P))
     where
-      last : (xs : List ℕ) → Path g a b (xs ++ (c ∷ t)) → lastOf c t ≡ b
+      last : (xs : List ℕ) → IsPath g a b (xs ++ (c ∷ t)) → lastOf c t ≡ b
       last [] (e, o) = ends g c t b o
       last (x ∷ xs) (e, o) = sym (lastOf-append x xs c t) ∙ ends g x (xs ++ (c ∷ t)) b o
 
@@ -230,7 +230,7 @@ module _ (g : Graph) (L : GraphLaws g) (key : ℕ → ℕ) where
 
   module _ (K : KeyLaws g key) where
     -- A path than which no other is lower is the chosen path, because no two tie (01, "The chosen path").
-    pub lowest-chosen : (a b : ℕ) (p : List ℕ) → Path g a b p → ((q : List ℕ) → Path g a b q → Lower (rank g key q) (rank g key p) → ⊥) → Chosen g key a b p
+    pub lowest-chosen : (a b : ℕ) (p : List ℕ) → IsPath g a b p → ((q : List ℕ) → IsPath g a b q → Lower (rank g key q) (rank g key p) → ⊥) → Chosen g key a b p
     lowest-chosen a b p o f = record { path = o; least = λ q k. go q k (lower-compared (rank g key p) (rank g key q)) }
       where
         tie : (q : List ℕ) → rank g key p ≡ rank g key q → ((t : List ℕ) × (p ≡ a ∷ t) × Onward g a t b) → ((s : List ℕ) × (q ≡ a ∷ s) × Onward g a s b) → q ≡ p
@@ -248,7 +248,7 @@ module _ (g : Graph) (L : GraphLaws g) (key : ℕ → ℕ) where
             ids : pathId key (a ∷ t) ≡ pathId key (a ∷ s)
             ids = ap (pathId key) (sym e₁) ∙ places .2 ∙ ap (pathId key) e₂
 
-        go : (q : List ℕ) → Path g a b q → Lower (rank g key p) (rank g key q) ⊎ (rank g key p ≡ rank g key q) ⊎ Lower (rank g key q) (rank g key p)
+        go : (q : List ℕ) → IsPath g a b q → Lower (rank g key p) (rank g key q) ⊎ (rank g key p ≡ rank g key q) ⊎ Lower (rank g key q) (rank g key p)
             → (q ≡ p) ⊎ Lower (rank g key p) (rank g key q)
         go q k (inl h) = inr h
         go q k (inr (inl e)) = inl (tie q e (path-first g a b p o) (path-first g a b q k))

@@ -9,10 +9,10 @@ use mathlib.Core.Logic.{_⊎_, inl, inr}
 use lib.ListN.{length, length-append}
 use Rattle.graph.specs.Graph.{Graph, GraphLaws, hops}
 use Rattle.graph.specs.Chosen.{Chosen}
-use Rattle.graph.specs.Members.{In, Distinct, lastOf, times}
+use Rattle.graph.specs.Members.{In, Distinct, lastOf, occurrences}
 use Rattle.graph.specs.Notions.{Least, Leaves}
 use Rattle.graph.specs.Moves.{copies, entered, Feeds, HandsDown}
-use Rattle.graph.specs.ListLaws.{le-or-gt, in-left, in-right, in-here, in-append, in-flatMap, flatMap-in, distinct-append, distinct-flatMap, nothing-in, same-last, times-none, times-one, times-at-most-one}
+use Rattle.graph.specs.ListLaws.{le-or-gt, in-left, in-right, in-here, in-append, in-flatMap, flatMap-in, distinct-append, distinct-flatMap, nothing-in, same-last, occurrences-none, occurrences-one, occurrences-at-most-one}
 use Rattle.graph.specs.Paths.{ends, stays-inside}
 use Rattle.graph.specs.ChosenPaths.{chosen-unique, chosen-first, chosen-stay, chosen-start, chosen-bounded}
 use Rattle.graph.specs.Forwarding.{leaves-split, split-leaves, arrival}
@@ -122,8 +122,8 @@ module _ (g : Graph) (key : ℕ → ℕ) (s : ℕ) where
           go : (v : ℕ) → In v (copies children s (suc n)) → ((m : ℕ) × (0 < m) × (m ≤ n) × In v (copies children s m)) → ⊥
           go v k (m, i, l, h) = omega (arith, one-round m (suc n) v h k)
 
-      pub at-most-once : (n v : ℕ) → times v (entered children s n) ≤ 1
-      at-most-once n v = times-at-most-one v (entered children s n) (entered-distinct n)
+      pub at-most-once : (n v : ℕ) → occurrences v (entered children s n) ≤ 1
+      at-most-once n v = occurrences-at-most-one v (entered children s n) (entered-distinct n)
 
       -- "and never comes back to its sender" (demand 3), for every number of rounds.
       pub sender-not-entered : (n : ℕ) → In s (entered children s n) → ⊥
@@ -133,8 +133,8 @@ module _ (g : Graph) (key : ℕ → ℕ) (s : ℕ) where
           go : ((m : ℕ) × (0 < m) × (m ≤ n) × In s (copies children s m)) → ⊥
           go (m, i, l, k) = omega (arith, one-round m 0 s k (inl refl))
 
-      pub sender-never : (n : ℕ) → times s (entered children s n) ≡ 0
-      sender-never n = times-none s (entered children s n) (sender-not-entered n)
+      pub sender-never : (n : ℕ) → occurrences s (entered children s n) ≡ 0
+      sender-never n = occurrences-none s (entered children s n) (sender-not-entered n)
 
       -- From as many rounds as the graph has bridges on no copy is left ("With no such entry it ends there": 01, "Frames").
       pub no-copy-left : (n : ℕ) → g .size ≤ n → copies children s n ≡ []
@@ -176,6 +176,6 @@ module _ (g : Graph) (key : ℕ → ℕ) (s : ℕ) where
 
       -- The same from as many rounds as the graph has bridges on, counted: "A bridge is reached once for each copy that enters it"
       -- (01, "Frames").
-      pub receiver-once : (r : ℕ) → Receives r → (r ≡ s → ⊥) → (p : List ℕ) → Chosen g key s r p → (n : ℕ) → g .size ≤ n → times r (entered children s n) ≡ 1
-      receiver-once r k f p P n l = times-one r (entered children s n) (entered-distinct n)
+      pub receiver-once : (r : ℕ) → Receives r → (r ≡ s → ⊥) → (p : List ℕ) → Chosen g key s r p → (n : ℕ) → g .size ≤ n → occurrences r (entered children s n) ≡ 1
+      receiver-once r k f p P n l = occurrences-one r (entered children s n) (entered-distinct n)
           (receiver-entered r k f p P n (omega (arith, chosen-bounded g L key s r p P)))

@@ -8,12 +8,12 @@ use mathlib.Core.Option.{Option, none, some}
 use mathlib.Core.Logic.{_⊎_, inl, inr}
 use lib.Dec.{T, ltb, eqb, ltb→lt, lt→ltb, eqb→eq}
 use lib.ListN.{length}
-use Rattle.graph.specs.Lists.{rising, filter}
-use Rattle.graph.specs.Order.{Lower, lower}
-use Rattle.graph.specs.Graph.{Graph, GraphLaws, KeyLaws, Joined, GoesOn, Onward, Path, costOnward, cost, rank}
+use Rattle.graph.specs.Lists.{rising, selected}
+use Rattle.graph.specs.Order.{Lower, isLower}
+use Rattle.graph.specs.Graph.{Graph, GraphLaws, KeyLaws, Joined, GoesOn, Onward, IsPath, costOnward, cost, rank}
 use Rattle.graph.specs.Chosen.{Chosen, neighbours, goesOn, onward, paths, chosen}
 use Rattle.graph.specs.Members.{In, Distinct}
-use Rattle.graph.specs.ListLaws.{in-map, map-in, in-flatMap, flatMap-in, filter-in, in-filter, in-consIf, consIf-here, consIf-there, in-rising, lowest-none, eq-eqb}
+use Rattle.graph.specs.ListLaws.{in-map, map-in, in-flatMap, flatMap-in, selected-in, in-selected, in-consIf, consIf-here, consIf-there, in-rising, lowest-none, eq-eqb}
 use Rattle.graph.specs.OrderLaws.{lowest-ranked}
 use Rattle.graph.specs.Paths.{entered-inside, path-first}
 use Rattle.graph.specs.LeastPaths.{without-repeats, distinct-bounded}
@@ -31,16 +31,16 @@ module _ (g : Graph) where
   -- "Two bridges are joined when a usable link connects them" (01, "Links"): the neighbours of a bridge are those that a hop joins to it.
   pub neighbour-joined : (u v : ℕ) → In v (neighbours g u) → Joined g u v
   unfolding neighbours
-  neighbour-joined u v h = ltb→lt 0 (g .hop u v) (filter-in (λ v. ltb 0 (g .hop u v)) v (rising 0 (g .size)) h .1)
+  neighbour-joined u v h = ltb→lt 0 (g .hop u v) (selected-in (λ v. ltb 0 (g .hop u v)) v (rising 0 (g .size)) h .1)
 
   pub joined-neighbour : GraphLaws g → (u v : ℕ) → Joined g u v → In v (neighbours g u)
   unfolding neighbours
-  joined-neighbour L u v j = in-filter (λ v. ltb 0 (g .hop u v)) v (rising 0 (g .size))
+  joined-neighbour L u v j = in-selected (λ v. ltb 0 (g .hop u v)) v (rising 0 (g .size))
       (in-rising 0 (g .size) v (omega arith) (omega (arith, entered-inside g L u v j))) (lt→ltb 0 (g .hop u v) j)
 
   -- The lists that go on from `u` by a hop to `v`.
   abbrev through : ℕ → ℕ → ℕ → List (List ℕ)
-  through n b v = map (λ t. v ∷ t) (filter (goesOn g v) (onward g n v b))
+  through n b v = map (λ t. v ∷ t) (selected (goesOn g v) (onward g n v b))
 
   -- What is enumerated leads on to `b` by at most `n` hops.
   abbrev Sound : ℕ → Type 0
@@ -62,8 +62,8 @@ module _ (g : Graph) where
 
       hop : ((v : ℕ) × In v (neighbours g u) × In t (through n b v))
           → Sound n → Onward g u t b × (length t ≤ suc n)
-      hop (v, k, l) ih = let r = map-in (λ t. v ∷ t) t (filter (goesOn g v) (onward g n v b)) l in
-          step v (r .0) (neighbour-joined u v k) (filter-in (goesOn g v) (r .0) (onward g n v b) (r .1)) (r .2) ih
+      hop (v, k, l) ih = let r = map-in (λ t. v ∷ t) t (selected (goesOn g v) (onward g n v b)) l in
+          step v (r .0) (neighbour-joined u v k) (selected-in (goesOn g v) (r .0) (onward g n v b) (r .1)) (r .2) ih
 
       go : (T (eqb u b) × (t ≡ [])) ⊎ In t (flatMap (through n b) (neighbours g u))
           → Sound n → Onward g u t b × (length t ≤ suc n)
@@ -79,8 +79,8 @@ module _ (g : Graph) where
   onward-enumerated L (suc n) u b (v ∷ t) (j, m, o) l =
       consIf-there (eqb u b) (v ∷ t) [] (flatMap (through n b) (neighbours g u))
       (in-flatMap (through n b) (v ∷ t) v (neighbours g u) (joined-neighbour L u v j)
-      (in-map (λ t. v ∷ t) t (filter (goesOn g v) (onward g n v b))
-      (in-filter (goesOn g v) t (onward g n v b) (onward-enumerated L n v b t o (omega arith)) (goes-on-test v t m))))
+      (in-map (λ t. v ∷ t) t (selected (goesOn g v) (onward g n v b))
+      (in-selected (goesOn g v) t (onward g n v b) (onward-enumerated L n v b t o (omega arith)) (goes-on-test v t m))))
 
   -- Every path without a bridge twice is enumerated.
   pub path-enumerated : GraphLaws g → (a b : ℕ) (t : List ℕ) → Onward g a t b → Distinct (a ∷ t) → In (a ∷ t) (paths g a b)
@@ -89,22 +89,22 @@ module _ (g : Graph) where
       (onward-enumerated L (g .size - 1) a b t o (distinct-bounded g L a t b o d))
 
   -- Every path of the enumeration is a path.
-  pub enumerated-path : (a b : ℕ) (p : List ℕ) → In p (paths g a b) → Path g a b p
+  pub enumerated-path : (a b : ℕ) (p : List ℕ) → In p (paths g a b) → IsPath g a b p
   unfolding paths
   enumerated-path a b p h = go (map-in (λ t. a ∷ t) p (onward g (g .size - 1) a b) h)
     where
-      go : ((t : List ℕ) × In t (onward g (g .size - 1) a b) × (p ≡ a ∷ t)) → Path g a b p
-      go (t, k, e) = subst (λ (z : List ℕ). Path g a b z) (sym e) (refl, enumerated-onward (g .size - 1) a b t k .0)
+      go : ((t : List ℕ) × In t (onward g (g .size - 1) a b) × (p ≡ a ∷ t)) → IsPath g a b p
+      go (t, k, e) = subst (λ (z : List ℕ). IsPath g a b z) (sym e) (refl, enumerated-onward (g .size - 1) a b t k .0)
 
 module _ (g : Graph) (L : GraphLaws g) (key : ℕ → ℕ) where
   -- What the enumeration gives is a path, and no path at all is lower, repeats included.
   pub enumerated-lowest : (a b : ℕ) (p : List ℕ) → chosen g key a b ≡ some p
-      → Path g a b p × ((q : List ℕ) → Path g a b q → Lower (rank g key q) (rank g key p) → ⊥)
+      → IsPath g a b p × ((q : List ℕ) → IsPath g a b q → Lower (rank g key q) (rank g key p) → ⊥)
   unfolding chosen
-  enumerated-lowest a b p e = go (lowest-ranked (rank g key) (λ p q. lower (rank g key p) (rank g key q)) (λ p q. refl) (paths g a b) p e)
+  enumerated-lowest a b p e = go (lowest-ranked (rank g key) (λ p q. isLower (rank g key p) (rank g key q)) (λ p q. refl) (paths g a b) p e)
     where
       go : In p (paths g a b) × ((q : List ℕ) → In q (paths g a b) → Lower (rank g key q) (rank g key p) → ⊥)
-          → Path g a b p × ((q : List ℕ) → Path g a b q → Lower (rank g key q) (rank g key p) → ⊥)
+          → IsPath g a b p × ((q : List ℕ) → IsPath g a b q → Lower (rank g key q) (rank g key p) → ⊥)
       go (k, f) = (enumerated-path g a b p k, λ q o h. any q (path-first g a b q o) h)
         where
           listed : (s : List ℕ) → Onward g a s b → Distinct (a ∷ s) → Lower (rank g key (a ∷ s)) (rank g key p) → ⊥
@@ -119,16 +119,16 @@ module _ (g : Graph) (L : GraphLaws g) (key : ℕ → ℕ) where
           any q (t, e, o) h = shorter q t e h (without-repeats g a t b o)
 
   -- "12. No path exists." (01, "Refusals in checking order"): the enumeration gives none exactly where no path exists.
-  pub none-no-path : (a b : ℕ) → chosen g key a b ≡ none → (p : List ℕ) → Path g a b p → ⊥
+  pub none-no-path : (a b : ℕ) → chosen g key a b ≡ none → (p : List ℕ) → IsPath g a b p → ⊥
   unfolding chosen
   none-no-path a b e p o = go (path-first g a b p o)
     where
       go : ((t : List ℕ) × (p ≡ a ∷ t) × Onward g a t b) → ⊥
       go (t, f, o) = let r = without-repeats g a t b o in
-          subst (λ (z : List (List ℕ)). In (a ∷ r .0) z) (lowest-none (λ p q. lower (rank g key p) (rank g key q)) (paths g a b) e)
+          subst (λ (z : List (List ℕ)). In (a ∷ r .0) z) (lowest-none (λ p q. isLower (rank g key p) (rank g key q)) (paths g a b) e)
           (path-enumerated g L a b (r .0) (r .1) (r .2))
 
-  pub no-path-none : (a b : ℕ) → ((p : List ℕ) → Path g a b p → ⊥) → chosen g key a b ≡ none
+  pub no-path-none : (a b : ℕ) → ((p : List ℕ) → IsPath g a b p → ⊥) → chosen g key a b ≡ none
   no-path-none a b f = go (chosen g key a b) refl
     where
       go : (o : Option (List ℕ)) → chosen g key a b ≡ o → o ≡ none
@@ -149,18 +149,18 @@ module _ (g : Graph) (L : GraphLaws g) (key : ℕ → ℕ) where
         go (some q) e = ap some (chosen-unique g key a b q p (chosen-is a b q e) P)
 
     -- Of two bridges either one path between them is chosen, or no path exists.
-    pub chosen-or-no-path : (a b : ℕ) → ((p : List ℕ) × Chosen g key a b p) ⊎ ((p : List ℕ) → Path g a b p → ⊥)
+    pub chosen-or-no-path : (a b : ℕ) → ((p : List ℕ) × Chosen g key a b p) ⊎ ((p : List ℕ) → IsPath g a b p → ⊥)
     chosen-or-no-path a b = go (chosen g key a b) refl
       where
-        go : (c : Option (List ℕ)) → chosen g key a b ≡ c → ((p : List ℕ) × Chosen g key a b p) ⊎ ((p : List ℕ) → Path g a b p → ⊥)
+        go : (c : Option (List ℕ)) → chosen g key a b ≡ c → ((p : List ℕ) × Chosen g key a b p) ⊎ ((p : List ℕ) → IsPath g a b p → ⊥)
         go none e = inr (none-no-path a b e)
         go (some p) e = inl (p, chosen-is a b p e)
 
     -- Where a path exists one is chosen.
-    pub path-chosen : (a b : ℕ) (q : List ℕ) → Path g a b q → (p : List ℕ) × Chosen g key a b p
+    pub path-chosen : (a b : ℕ) (q : List ℕ) → IsPath g a b q → (p : List ℕ) × Chosen g key a b p
     path-chosen a b q o = go (chosen-or-no-path a b)
       where
-        go : ((p : List ℕ) × Chosen g key a b p) ⊎ ((p : List ℕ) → Path g a b p → ⊥) → (p : List ℕ) × Chosen g key a b p
+        go : ((p : List ℕ) × Chosen g key a b p) ⊎ ((p : List ℕ) → IsPath g a b p → ⊥) → (p : List ℕ) × Chosen g key a b p
         go (inl r) = r
         go (inr f) = absurd (f q o)
 

@@ -8,8 +8,8 @@ use mathlib.Core.Option.{Option, none, some}
 use mathlib.Core.Bool.{true, cond, _||_, _&&_}
 use lib.Dec.{eqb}
 use lib.ListN.{getD}
-use Rattle.graph.specs.Lists.{rising, filter, lowestBy}
-use Rattle.graph.specs.Order.{insert, sorted, lower}
+use Rattle.graph.specs.Lists.{rising, selected, lowestBy}
+use Rattle.graph.specs.Order.{insertUpward, sorted, isLower}
 use Rattle.graph.specs.Graph.{Graph, costOnward}
 use Rattle.graph.specs.Chosen.{neighbours, onward, paths, chosen}
 
@@ -88,5 +88,5 @@ figures =
     ∷ []
 
 figures-hold : map computed figures ≡ map (λ f. f .expected) figures
-unfolding chosen paths onward neighbours costOnward rising filter lowestBy insert sorted lower flatMap
+unfolding chosen paths onward neighbours costOnward rising selected lowestBy insertUpward sorted isLower flatMap
 figures-hold = refl

@@ -40,9 +40,9 @@ Onward g u (v ∷ t) b = Joined g u v × GoesOn g v t × Onward g v t b
 
 -- "A path is a list of bridges, each joined to the next": here from `a` to `b`.
 -- "a path from a bridge to itself is that bridge".
-abbrev pub Path : Graph → ℕ → ℕ → List ℕ → Type 0
-Path g a b [] = ⊥
-Path g a b (u ∷ t) = (u ≡ a) × Onward g u t b
+abbrev pub IsPath : Graph → ℕ → ℕ → List ℕ → Type 0
+IsPath g a b [] = ⊥
+IsPath g a b (u ∷ t) = (u ≡ a) × Onward g u t b
 
 -- "Its cost is the sum of its hops' costs": from the bridge `u` through the list after it.
 unfoldable pub costOnward : Graph → ℕ → List ℕ → ℕ

@@ -8,13 +8,13 @@ use mathlib.Core.Option.{Option, none, some}
 use mathlib.Core.Logic.{inl, inr}
 use mathlib.Core.Bool.{Bool, true, false, _&&_, _||_}
 use lib.Dec.{T, eqb, eqb→eq}
-use Rattle.graph.specs.Lists.{rising, filter, any}
+use Rattle.graph.specs.Lists.{rising, selected, anyPasses}
 use Rattle.graph.specs.Graph.{Graph, GraphLaws, KeyLaws}
 use Rattle.graph.specs.Chosen.{Chosen, chosen}
 use Rattle.graph.specs.Members.{In}
 use Rattle.graph.specs.Notions.{Leaves}
 use Rattle.graph.specs.Moves.{leaves, leavesOn, handed, Feeds, HandsDown}
-use Rattle.graph.specs.ListLaws.{filter-in, in-filter, any-in, in-any, in-rising, distinct-filter, distinct-rising, eq-eqb, both, first-of, last-of}
+use Rattle.graph.specs.ListLaws.{selected-in, in-selected, any-in, in-any, in-rising, distinct-selected, distinct-rising, eq-eqb, both, first-of, last-of}
 use Rattle.graph.specs.Paths.{entered-inside, end-inside}
 use Rattle.graph.specs.Enumeration.{chosen-is, is-chosen}
 use Rattle.graph.specs.Forwarding.{departure}
@@ -54,8 +54,8 @@ pub handed-hands-down : (g : Graph) → GraphLaws g → (key : ℕ → ℕ) → 
     → HandsDown g key s (λ r. T (receives r)) (handed g key s receives)
 unfolding handed
 handed-hands-down g L key K s receives = record {
-  once = λ c l. distinct-filter (wanted c) (rising 0 (g .size)) (distinct-rising 0 (g .size));
-  fed = λ c v l h. found c v (any-in (passes c v) (rising 0 (g .size)) (filter-in (wanted c) v (rising 0 (g .size)) h .1));
+  once = λ c l. distinct-selected (wanted c) (rising 0 (g .size)) (distinct-rising 0 (g .size));
+  fed = λ c v l h. found c v (any-in (passes c v) (rising 0 (g .size)) (selected-in (wanted c) v (rising 0 (g .size)) h .1));
   feeds = λ c v l h. listed c v h;
 }
   where
@@ -63,7 +63,7 @@ handed-hands-down g L key K s receives = record {
     passes c v r = receives r && leavesOn c v (chosen g key s r)
 
     wanted : ℕ → ℕ → Bool
-    wanted c v = any (passes c v) (rising 0 (g .size))
+    wanted c v = anyPasses (passes c v) (rising 0 (g .size))
 
     path : (c v r : ℕ) → T (receives r) → (o : Option (List ℕ)) → chosen g key s r ≡ o → T (leavesOn c v o) → Feeds g key s (λ r. T (receives r)) c v
     path c v r k none e h = absurd h
@@ -76,13 +76,13 @@ handed-hands-down g L key K s receives = record {
     inside : (u : ℕ) → u < g .size → In u (rising 0 (g .size))
     inside u l = in-rising 0 (g .size) u (omega arith) (omega arith)
 
-    listed : (c v : ℕ) → Feeds g key s (λ r. T (receives r)) c v → In v (filter (wanted c) (rising 0 (g .size)))
+    listed : (c v : ℕ) → Feeds g key s (λ r. T (receives r)) c v → In v (selected (wanted c) (rising 0 (g .size)))
     listed c v (r, k, p, P, h) = go (departure g key s r p c v P h)
       where
         test : T (leavesOn c v (chosen g key s r))
         test = subst (λ (o : Option (List ℕ)). T (leavesOn c v o)) (sym (is-chosen g L key K s r p P)) (leaves-test c v p h)
 
-        go : ((t : List ℕ) × Chosen g key c r (c ∷ v ∷ t)) → In v (filter (wanted c) (rising 0 (g .size)))
-        go (t, D) = in-filter (wanted c) v (rising 0 (g .size)) (inside v (entered-inside g L c v (D .path .1 .0)))
+        go : ((t : List ℕ) × Chosen g key c r (c ∷ v ∷ t)) → In v (selected (wanted c) (rising 0 (g .size)))
+        go (t, D) = in-selected (wanted c) v (rising 0 (g .size)) (inside v (entered-inside g L c v (D .path .1 .0)))
             (in-any (passes c v) r (rising 0 (g .size)) (inside r (end-inside g L c v t r (D .path .1)))
             (both (receives r) (leavesOn c v (chosen g key s r)) k test))

@@ -6,7 +6,7 @@ use mathlib.Core.Path.{_≡_}
 use mathlib.Core.List.{List, _∷_}
 use mathlib.Core.Option.{none, some}
 use mathlib.Core.Logic.{_⊎_, inl, inr}
-use Rattle.graph.specs.Graph.{Graph, GraphLaws, KeyLaws, Path, cost}
+use Rattle.graph.specs.Graph.{Graph, GraphLaws, KeyLaws, IsPath, cost}
 use Rattle.graph.specs.Chosen.{Chosen, chosen}
 use Rattle.graph.specs.Search.{Settling, Candidate, Labels}
 use Rattle.graph.specs.ChosenPaths.{not-lower-cost}
@@ -31,7 +31,7 @@ module _ (g : Graph) (key : ℕ → ℕ) (r : ℕ) (Open : ℕ → Type 0) (Sett
 
     -- With no label left, every bridge with a path to the root is settled.
     pub none-left : GraphLaws g → Settling g key r Open Settled → ((u v : ℕ) (p : List ℕ) → Label u v p → ⊥)
-        → (u : ℕ) (q : List ℕ) → Path g u r q → (p : List ℕ) × Settled u p
+        → (u : ℕ) (q : List ℕ) → IsPath g u r q → (p : List ℕ) × Settled u p
     none-left L S no-label = complete g L key r Open Settled S (λ u v p C. go (M .labelled u v p C))
       where
         go : {u : ℕ} → ((v : ℕ) × (p : List ℕ) × Label u v p) → ⊥

@@ -11,8 +11,8 @@ use lib.Dec.{T, leb, eqb, leb→le, nleb→lt, eqb→eq, eqb-refl}
 use lib.ListN.{length, getD, getElem?, take, drop, length-append, length-map}
 use lib.Arith.{digits-div, digits-mod}
 use lib.Seq.{drop-cons, ext-getD}
-use Rattle.graph.specs.Lists.{rising, consIf, filter, any, lowerOf, lowestBy}
-use Rattle.graph.specs.Members.{In, Distinct, Pairwise, lastOf, HasPart, total, along, times}
+use Rattle.graph.specs.Lists.{rising, consIf, selected, anyPasses, lowerOf, lowestBy}
+use Rattle.graph.specs.Members.{In, Distinct, EveryTwo, lastOf, HasPart, sumOver, along, occurrences}
 
 -- Numbers
 
@@ -257,42 +257,42 @@ module _ {A : Type 0} where
   consIf-there false a x xs h = h
 
   -- Exactly those of a list that pass the test are in what is left.
-  pub filter-in : (test : A → Bool) (a : A) (xs : List A) → In a (filter test xs) → In a xs × T (test a)
-  unfolding filter
-  filter-in test a (x ∷ xs) h = go (in-consIf (test x) a x (filter test xs) h) (filter-in test a xs)
+  pub selected-in : (test : A → Bool) (a : A) (xs : List A) → In a (selected test xs) → In a xs × T (test a)
+  unfolding selected
+  selected-in test a (x ∷ xs) h = go (in-consIf (test x) a x (selected test xs) h) (selected-in test a xs)
     where
-      go : (T (test x) × (a ≡ x)) ⊎ In a (filter test xs) → (In a (filter test xs) → In a xs × T (test a))
+      go : (T (test x) × (a ≡ x)) ⊎ In a (selected test xs) → (In a (selected test xs) → In a xs × T (test a))
           → In a (x ∷ xs) × T (test a)
       go (inl (p, e)) ih = (inl e, subst (λ (y : A). T (test y)) (sym e) p)
       go (inr k) ih = (inr (ih k .0), ih k .1)
 
-  pub in-filter : (test : A → Bool) (a : A) (xs : List A) → In a xs → T (test a) → In a (filter test xs)
-  unfolding filter
-  in-filter test a (x ∷ xs) (inl e) p = subst (λ (y : A). In y (consIf (test x) x (filter test xs))) (sym e)
-      (consIf-here (test x) x (filter test xs) (subst (λ (y : A). T (test y)) e p))
-  in-filter test a (x ∷ xs) (inr h) p = consIf-there (test x) a x (filter test xs) (in-filter test a xs h p)
+  pub in-selected : (test : A → Bool) (a : A) (xs : List A) → In a xs → T (test a) → In a (selected test xs)
+  unfolding selected
+  in-selected test a (x ∷ xs) (inl e) p = subst (λ (y : A). In y (consIf (test x) x (selected test xs))) (sym e)
+      (consIf-here (test x) x (selected test xs) (subst (λ (y : A). T (test y)) e p))
+  in-selected test a (x ∷ xs) (inr h) p = consIf-there (test x) a x (selected test xs) (in-selected test a xs h p)
 
   -- A test that one of a list passes.
-  pub any-in : (test : A → Bool) (xs : List A) → T (any test xs) → (a : A) × In a xs × T (test a)
-  unfolding any
+  pub any-in : (test : A → Bool) (xs : List A) → T (anyPasses test xs) → (a : A) × In a xs × T (test a)
+  unfolding anyPasses
   any-in test [] h = absurd h
   any-in test (x ∷ xs) h = go (test x) (λ p. p) h (any-in test xs)
     where
-      go : (b : Bool) → (T b → T (test x)) → T (b || any test xs) → (T (any test xs) → (a : A) × In a xs × T (test a))
+      go : (b : Bool) → (T b → T (test x)) → T (b || anyPasses test xs) → (T (anyPasses test xs) → (a : A) × In a xs × T (test a))
           → (a : A) × In a (x ∷ xs) × T (test a)
       go true f h ih = (x, inl refl, f tt)
       go false f h ih = let r = ih h in (r .0, inr (r .1), r .2)
 
-  pub in-any : (test : A → Bool) (a : A) (xs : List A) → In a xs → T (test a) → T (any test xs)
-  unfolding any
+  pub in-any : (test : A → Bool) (a : A) (xs : List A) → In a xs → T (test a) → T (anyPasses test xs)
+  unfolding anyPasses
   in-any test a (x ∷ xs) (inl e) p = go (test x) (subst (λ (y : A). T (test y)) e p)
     where
-      go : (b : Bool) → T b → T (b || any test xs)
+      go : (b : Bool) → T b → T (b || anyPasses test xs)
       go true h = tt
       go false h = absurd h
   in-any test a (x ∷ xs) (inr h) p = go (test x) (in-any test a xs h p)
     where
-      go : (b : Bool) → T (any test xs) → T (b || any test xs)
+      go : (b : Bool) → T (anyPasses test xs) → T (b || anyPasses test xs)
       go true h = tt
       go false h = h
 
@@ -354,13 +354,13 @@ module _ {A : Type 0} where
           other y k (inr (inl f)) = absurd (d .0 (subst (λ (z : A). In z xs) f k))
           other y k (inr (inr m)) = in-right y us vs m
 
-  pub distinct-filter : (test : A → Bool) (xs : List A) → Distinct xs → Distinct (filter test xs)
-  unfolding filter
-  distinct-filter test [] d = tt
-  distinct-filter test (x ∷ xs) d = go (test x) (distinct-filter test xs (d .1))
+  pub distinct-selected : (test : A → Bool) (xs : List A) → Distinct xs → Distinct (selected test xs)
+  unfolding selected
+  distinct-selected test [] d = tt
+  distinct-selected test (x ∷ xs) d = go (test x) (distinct-selected test xs (d .1))
     where
-      go : (b : Bool) → Distinct (filter test xs) → Distinct (consIf b x (filter test xs))
-      go true e = (λ k. d .0 (filter-in test x xs k .0), e)
+      go : (b : Bool) → Distinct (selected test xs) → Distinct (consIf b x (selected test xs))
+      go true e = (λ k. d .0 (selected-in test x xs k .0), e)
       go false e = e
 
 pub distinct-rising : (k n : ℕ) → Distinct (rising k n)
@@ -415,30 +415,30 @@ module _ {A : Type 0} where
 
 -- How often
 
-pub times-none : (x : ℕ) (xs : List ℕ) → (In x xs → ⊥) → times x xs ≡ 0
-unfolding times
-times-none x [] f = refl
-times-none x (y ∷ ys) f = omega (arith, eqb-other {A = ℕ} x y 1 0 (λ e. f (inl e)), times-none x ys (λ k. f (inr k)))
+pub occurrences-none : (x : ℕ) (xs : List ℕ) → (In x xs → ⊥) → occurrences x xs ≡ 0
+unfolding occurrences
+occurrences-none x [] f = refl
+occurrences-none x (y ∷ ys) f = omega (arith, eqb-other {A = ℕ} x y 1 0 (λ e. f (inl e)), occurrences-none x ys (λ k. f (inr k)))
 
 -- In a list with nothing twice, what is in it is there exactly once.
-pub times-one : (x : ℕ) (xs : List ℕ) → Distinct xs → In x xs → times x xs ≡ 1
-unfolding times
-times-one x (y ∷ ys) d h = go (same-or-not x y) h (times-one x ys (d .1))
+pub occurrences-one : (x : ℕ) (xs : List ℕ) → Distinct xs → In x xs → occurrences x xs ≡ 1
+unfolding occurrences
+occurrences-one x (y ∷ ys) d h = go (same-or-not x y) h (occurrences-one x ys (d .1))
   where
-    go : (x ≡ y) ⊎ (x ≡ y → ⊥) → In x (y ∷ ys) → (In x ys → times x ys ≡ 1) → cond (eqb x y) 1 0 + times x ys ≡ 1
-    go (inl e) h ih = omega (arith, here, times-none x ys (λ k. d .0 (subst (λ (z : ℕ). In z ys) e k)))
+    go : (x ≡ y) ⊎ (x ≡ y → ⊥) → In x (y ∷ ys) → (In x ys → occurrences x ys ≡ 1) → cond (eqb x y) 1 0 + occurrences x ys ≡ 1
+    go (inl e) h ih = omega (arith, here, occurrences-none x ys (λ k. d .0 (subst (λ (z : ℕ). In z ys) e k)))
       where
         here : _≡_ {A = ℕ} (cond (eqb x y) 1 0) 1
         here = subst (λ (z : ℕ). _≡_ {A = ℕ} (cond (eqb x z) 1 0) 1) e (eqb-same {A = ℕ} x 1 0)
     go (inr f) (inl e) ih = absurd (f e)
     go (inr f) (inr k) ih = omega (arith, eqb-other {A = ℕ} x y 1 0 f, ih k)
 
-pub times-at-most-one : (x : ℕ) (xs : List ℕ) → Distinct xs → times x xs ≤ 1
-times-at-most-one x xs d = go (in-or-not x xs)
+pub occurrences-at-most-one : (x : ℕ) (xs : List ℕ) → Distinct xs → occurrences x xs ≤ 1
+occurrences-at-most-one x xs d = go (in-or-not x xs)
   where
-    go : In x xs ⊎ (In x xs → ⊥) → times x xs ≤ 1
-    go (inl k) = omega (arith, times-one x xs d k)
-    go (inr f) = omega (arith, times-none x xs f)
+    go : In x xs ⊎ (In x xs → ⊥) → occurrences x xs ≤ 1
+    go (inl k) = omega (arith, occurrences-one x xs d k)
+    go (inr f) = omega (arith, occurrences-none x xs f)
 
 -- The lowest of a list
 
@@ -498,9 +498,9 @@ module _ {A : Type 0} (before : A → A → Bool)
 -- Relations along a list
 
 module _ {A : Type 0} (R : A → A → Type 0) where
-  pub pairwise-end : (xs : List A) (a : A) → Pairwise R xs → ((x : A) → In x xs → R x a) → Pairwise R (xs ++ (a ∷ []))
-  pairwise-end [] a d h = (λ y k. absurd k, tt)
-  pairwise-end (x ∷ xs) a d h = (λ y k. go y (in-append y xs (a ∷ []) k), pairwise-end xs a (d .1) (λ y k. h y (inr k)))
+  pub every-two-end : (xs : List A) (a : A) → EveryTwo R xs → ((x : A) → In x xs → R x a) → EveryTwo R (xs ++ (a ∷ []))
+  every-two-end [] a d h = (λ y k. absurd k, tt)
+  every-two-end (x ∷ xs) a d h = (λ y k. go y (in-append y xs (a ∷ []) k), every-two-end xs a (d .1) (λ y k. h y (inr k)))
     where
       go : (y : A) → In y xs ⊎ In y (a ∷ []) → R x y
       go y (inl k) = d .0 y k
@@ -508,15 +508,15 @@ module _ {A : Type 0} (R : A → A → Type 0) where
       go y (inr (inr k)) = absurd k
 
   -- Any two of the list are equal or so related, one way or the other.
-  pub pairwise-in : (xs : List A) → Pairwise R xs → (a b : A) → In a xs → In b xs → (a ≡ b) ⊎ R a b ⊎ R b a
-  pairwise-in (x ∷ xs) d a b (inl e) (inl f) = inl (e ∙ sym f)
-  pairwise-in (x ∷ xs) d a b (inl e) (inr k) = inr (inl (rw e (d .0 b k)))
-  pairwise-in (x ∷ xs) d a b (inr h) (inl f) = inr (inr (rw f (d .0 a h)))
-  pairwise-in (x ∷ xs) d a b (inr h) (inr k) = pairwise-in xs (d .1) a b h k
+  pub every-two-in : (xs : List A) → EveryTwo R xs → (a b : A) → In a xs → In b xs → (a ≡ b) ⊎ R a b ⊎ R b a
+  every-two-in (x ∷ xs) d a b (inl e) (inl f) = inl (e ∙ sym f)
+  every-two-in (x ∷ xs) d a b (inl e) (inr k) = inr (inl (rw e (d .0 b k)))
+  every-two-in (x ∷ xs) d a b (inr h) (inl f) = inr (inr (rw f (d .0 a h)))
+  every-two-in (x ∷ xs) d a b (inr h) (inr k) = every-two-in xs (d .1) a b h k
 
   -- Two that are so related neither way are one.
-  pub pairwise-one : (xs : List A) → Pairwise R xs → (a b : A) → In a xs → In b xs → (R a b → ⊥) → (R b a → ⊥) → a ≡ b
-  pairwise-one xs d a b i j f g = go (pairwise-in xs d a b i j)
+  pub every-two-one : (xs : List A) → EveryTwo R xs → (a b : A) → In a xs → In b xs → (R a b → ⊥) → (R b a → ⊥) → a ≡ b
+  every-two-one xs d a b i j f g = go (every-two-in xs d a b i j)
     where
       go : (a ≡ b) ⊎ R a b ⊎ R b a → a ≡ b
       go (inl e) = e
@@ -524,9 +524,9 @@ module _ {A : Type 0} (R : A → A → Type 0) where
       go (inr (inr r)) = absurd (g r)
 
   -- A relation that nothing has to itself leaves nothing twice.
-  pub pairwise-distinct : (xs : List A) → Pairwise R xs → ((x : A) → In x xs → R x x → ⊥) → Distinct xs
-  pairwise-distinct [] d f = tt
-  pairwise-distinct (x ∷ xs) d f = (λ k. f x (inl refl) (d .0 x k), pairwise-distinct xs (d .1) (λ y k. f y (inr k)))
+  pub every-two-distinct : (xs : List A) → EveryTwo R xs → ((x : A) → In x xs → R x x → ⊥) → Distinct xs
+  every-two-distinct [] d f = tt
+  every-two-distinct (x ∷ xs) d f = (λ k. f x (inl refl) (d .0 x k), every-two-distinct xs (d .1) (λ y k. f y (inr k)))
 
 -- Places and fronts of a list
 
@@ -563,41 +563,41 @@ module _ {A : Type 0} where
 
   -- All of a list, none of it, and its parts under a test
 
-  pub filter-all : (test : A → Bool) (xs : List A) → ((x : A) → In x xs → T (test x)) → filter test xs ≡ xs
-  unfolding filter
-  filter-all test [] f = refl
-  filter-all test (x ∷ xs) f = rw (is-true (test x) (f x (inl refl))) (ap (λ (t : List A). x ∷ t) (filter-all test xs (λ y k. f y (inr k))))
+  pub selected-all : (test : A → Bool) (xs : List A) → ((x : A) → In x xs → T (test x)) → selected test xs ≡ xs
+  unfolding selected
+  selected-all test [] f = refl
+  selected-all test (x ∷ xs) f = rw (is-true (test x) (f x (inl refl))) (ap (λ (t : List A). x ∷ t) (selected-all test xs (λ y k. f y (inr k))))
 
-  pub filter-none : (test : A → Bool) (xs : List A) → ((x : A) → In x xs → T (test x) → ⊥) → filter test xs ≡ []
-  filter-none test xs f = nothing-in (filter test xs) (λ a k. let r = filter-in test a xs k in f a (r .0) (r .1))
+  pub selected-none : (test : A → Bool) (xs : List A) → ((x : A) → In x xs → T (test x) → ⊥) → selected test xs ≡ []
+  selected-none test xs f = nothing-in (selected test xs) (λ a k. let r = selected-in test a xs k in f a (r .0) (r .1))
 
-  pub filter-append : (test : A → Bool) (xs ys : List A) → filter test (xs ++ ys) ≡ filter test xs ++ filter test ys
-  unfolding filter
-  filter-append test [] ys = refl
-  filter-append test (x ∷ xs) ys = rw (filter-append test xs ys) (go (test x))
+  pub selected-append : (test : A → Bool) (xs ys : List A) → selected test (xs ++ ys) ≡ selected test xs ++ selected test ys
+  unfolding selected
+  selected-append test [] ys = refl
+  selected-append test (x ∷ xs) ys = rw (selected-append test xs ys) (go (test x))
     where
-      go : (b : Bool) → consIf b x (filter test xs ++ filter test ys) ≡ consIf b x (filter test xs) ++ filter test ys
+      go : (b : Bool) → consIf b x (selected test xs ++ selected test ys) ≡ consIf b x (selected test xs) ++ selected test ys
       go true = refl
       go false = refl
 
   -- Each of a list passes the test or its negation.
-  pub filter-parts : (test : A → Bool) (xs : List A) → length (filter test xs) + length (filter (λ x. not (test x)) xs) ≡ length xs
-  unfolding filter
-  filter-parts test [] = refl
-  filter-parts test (x ∷ xs) = go (test x) (filter-parts test xs)
+  pub selected-parts : (test : A → Bool) (xs : List A) → length (selected test xs) + length (selected (λ x. not (test x)) xs) ≡ length xs
+  unfolding selected
+  selected-parts test [] = refl
+  selected-parts test (x ∷ xs) = go (test x) (selected-parts test xs)
     where
-      go : (b : Bool) → length (filter test xs) + length (filter (λ x. not (test x)) xs) ≡ length xs
-          → length (consIf b x (filter test xs)) + length (consIf (not b) x (filter (λ x. not (test x)) xs)) ≡ suc (length xs)
+      go : (b : Bool) → length (selected test xs) + length (selected (λ x. not (test x)) xs) ≡ length xs
+          → length (consIf b x (selected test xs)) + length (consIf (not b) x (selected (λ x. not (test x)) xs)) ≡ suc (length xs)
       go true e = omega arith
       go false e = omega arith
 
 -- What a list gives for each of its own
 
 module _ {A B : Type 0} where
-  pub filter-flatMap : (test : B → Bool) (f : A → List B) (xs : List A) → filter test (flatMap f xs) ≡ flatMap (λ x. filter test (f x)) xs
-  unfolding filter flatMap
-  filter-flatMap test f [] = refl
-  filter-flatMap test f (x ∷ xs) = filter-append test (f x) (flatMap f xs) ∙ ap (λ (t : List B). filter test (f x) ++ t) (filter-flatMap test f xs)
+  pub selected-flatMap : (test : B → Bool) (f : A → List B) (xs : List A) → selected test (flatMap f xs) ≡ flatMap (λ x. selected test (f x)) xs
+  unfolding selected flatMap
+  selected-flatMap test f [] = refl
+  selected-flatMap test f (x ∷ xs) = selected-append test (f x) (flatMap f xs) ∙ ap (λ (t : List B). selected test (f x) ++ t) (selected-flatMap test f xs)
 
   pub flatMap-none : (f : A → List B) (xs : List A) → ((x : A) → In x xs → f x ≡ []) → flatMap f xs ≡ []
   flatMap-none f xs h = nothing-in (flatMap f xs) (λ b k. let r = flatMap-in f b xs k in subst (λ (t : List B). In b t) (h (r .0) (r .1)) (r .2))
@@ -609,7 +609,7 @@ module _ {A B : Type 0} where
   flatMap-only f a (x ∷ xs) d (inr k) h = rw (h x (inl refl) (λ e. d .0 (subst (λ (z : A). In z xs) (sym e) k))) (flatMap-only f a xs (d .1) k (λ y l. h y (inr l)))
 
   -- Where all that one of a list gives passes a test, and nothing that another gives, what passes is what that one gives.
-  pub filter-flatMap-only :
+  pub selected-flatMap-only :
       (test : B → Bool)
       (f : A → List B)
       (a : A)
@@ -618,11 +618,11 @@ module _ {A B : Type 0} where
       In a xs →
       ((b : B) → In b (f a) → T (test b)) →
       ((x : A) → In x xs → (x ≡ a → ⊥) → (b : B) → In b (f x) → T (test b) → ⊥) →
-      filter test (flatMap f xs) ≡ f a
-  filter-flatMap-only test f a xs d k h n =
-      filter-flatMap test f xs
-      ∙ flatMap-only (λ x. filter test (f x)) a xs d k (λ x i m. filter-none test (f x) (n x i m))
-      ∙ filter-all test (f a) h
+      selected test (flatMap f xs) ≡ f a
+  selected-flatMap-only test f a xs d k h n =
+      selected-flatMap test f xs
+      ∙ flatMap-only (λ x. selected test (f x)) a xs d k (λ x i m. selected-none test (f x) (n x i m))
+      ∙ selected-all test (f a) h
 
   pub length-flatMap-each : (f : A → List B) (n : ℕ) (xs : List A) → ((x : A) → In x xs → length (f x) ≡ n) → length (flatMap f xs) ≡ length xs * n
   unfolding flatMap
@@ -656,51 +656,51 @@ module _ {A B C : Type 0} where
 -- Sums
 
 module _ {A : Type 0} where
-  pub total-add : (f g : A → ℕ) (xs : List A) → total (λ x. f x + g x) xs ≡ total f xs + total g xs
-  total-add f g [] = refl
-  total-add f g (x ∷ xs) = omega (arith, total-add f g xs)
+  pub sum-add : (f g : A → ℕ) (xs : List A) → sumOver (λ x. f x + g x) xs ≡ sumOver f xs + sumOver g xs
+  sum-add f g [] = refl
+  sum-add f g (x ∷ xs) = omega (arith, sum-add f g xs)
 
-  pub total-append : (f : A → ℕ) (xs ys : List A) → total f (xs ++ ys) ≡ total f xs + total f ys
-  total-append f [] ys = omega arith
-  total-append f (x ∷ xs) ys = omega (arith, total-append f xs ys)
+  pub sum-append : (f : A → ℕ) (xs ys : List A) → sumOver f (xs ++ ys) ≡ sumOver f xs + sumOver f ys
+  sum-append f [] ys = omega arith
+  sum-append f (x ∷ xs) ys = omega (arith, sum-append f xs ys)
 
-  pub total-most : (f g : A → ℕ) (xs : List A) → ((x : A) → In x xs → f x ≤ g x) → total f xs ≤ total g xs
-  total-most f g [] h = omega arith
-  total-most f g (x ∷ xs) h = omega (arith, h x (inl refl), total-most f g xs (λ y k. h y (inr k)))
+  pub sum-most : (f g : A → ℕ) (xs : List A) → ((x : A) → In x xs → f x ≤ g x) → sumOver f xs ≤ sumOver g xs
+  sum-most f g [] h = omega arith
+  sum-most f g (x ∷ xs) h = omega (arith, h x (inl refl), sum-most f g xs (λ y k. h y (inr k)))
 
   -- Where no term of a sum rises and one falls, the sum falls.
-  pub total-falls : (f g : A → ℕ) (xs : List A) → ((x : A) → f x ≤ g x) → (a : A) → In a xs → f a < g a → total f xs < total g xs
-  total-falls f g (x ∷ xs) h a (inl e) l = omega (arith, ap f e, ap g e, total-most f g xs (λ y k. h y))
-  total-falls f g (x ∷ xs) h a (inr k) l = omega (arith, h x, total-falls f g xs h a k l)
+  pub sum-falls : (f g : A → ℕ) (xs : List A) → ((x : A) → f x ≤ g x) → (a : A) → In a xs → f a < g a → sumOver f xs < sumOver g xs
+  sum-falls f g (x ∷ xs) h a (inl e) l = omega (arith, ap f e, ap g e, sum-most f g xs (λ y k. h y))
+  sum-falls f g (x ∷ xs) h a (inr k) l = omega (arith, h x, sum-falls f g xs h a k l)
 
-  pub total-bounded : (f : A → ℕ) (n : ℕ) (xs : List A) → ((x : A) → In x xs → f x ≤ n) → total f xs ≤ length xs * n
-  total-bounded f n [] h = omega arith
-  total-bounded f n (x ∷ xs) h = omega (arith, h x (inl refl), total-bounded f n xs (λ y k. h y (inr k)))
+  pub sum-bounded : (f : A → ℕ) (n : ℕ) (xs : List A) → ((x : A) → In x xs → f x ≤ n) → sumOver f xs ≤ length xs * n
+  sum-bounded f n [] h = omega arith
+  sum-bounded f n (x ∷ xs) h = omega (arith, h x (inl refl), sum-bounded f n xs (λ y k. h y (inr k)))
 
   -- The sum over a list is the sum over those that pass a test and over those that do not.
-  pub total-parts : (f : A → ℕ) (test : A → Bool) (xs : List A) → total f xs ≡ total f (filter test xs) + total f (filter (λ x. not (test x)) xs)
-  unfolding filter
-  total-parts f test [] = refl
-  total-parts f test (x ∷ xs) = go (test x) (total-parts f test xs)
+  pub sum-parts : (f : A → ℕ) (test : A → Bool) (xs : List A) → sumOver f xs ≡ sumOver f (selected test xs) + sumOver f (selected (λ x. not (test x)) xs)
+  unfolding selected
+  sum-parts f test [] = refl
+  sum-parts f test (x ∷ xs) = go (test x) (sum-parts f test xs)
     where
-      go : (b : Bool) → total f xs ≡ total f (filter test xs) + total f (filter (λ x. not (test x)) xs)
-          → f x + total f xs ≡ total f (consIf b x (filter test xs)) + total f (consIf (not b) x (filter (λ x. not (test x)) xs))
+      go : (b : Bool) → sumOver f xs ≡ sumOver f (selected test xs) + sumOver f (selected (λ x. not (test x)) xs)
+          → f x + sumOver f xs ≡ sumOver f (consIf b x (selected test xs)) + sumOver f (consIf (not b) x (selected (λ x. not (test x)) xs))
       go true e = omega arith
       go false e = omega arith
 
 module _ {A B : Type 0} where
-  pub length-flatMap : (f : A → List B) (xs : List A) → length (flatMap f xs) ≡ total (λ x. length (f x)) xs
+  pub length-flatMap : (f : A → List B) (xs : List A) → length (flatMap f xs) ≡ sumOver (λ x. length (f x)) xs
   unfolding flatMap
   length-flatMap f [] = refl
   length-flatMap f (x ∷ xs) = omega (arith, length-append (f x) (flatMap f xs), length-flatMap f xs)
 
-  pub total-flatMap : (h : B → ℕ) (f : A → List B) (xs : List A) → total h (flatMap f xs) ≡ total (λ x. total h (f x)) xs
+  pub sum-flatMap : (h : B → ℕ) (f : A → List B) (xs : List A) → sumOver h (flatMap f xs) ≡ sumOver (λ x. sumOver h (f x)) xs
   unfolding flatMap
-  total-flatMap h f [] = refl
-  total-flatMap h f (x ∷ xs) = omega (arith, total-append h (f x) (flatMap f xs), total-flatMap h f xs)
+  sum-flatMap h f [] = refl
+  sum-flatMap h f (x ∷ xs) = omega (arith, sum-append h (f x) (flatMap f xs), sum-flatMap h f xs)
 
   pub length-flatMap-most : (f : A → List B) (n : ℕ) (xs : List A) → ((x : A) → In x xs → length (f x) ≤ n) → length (flatMap f xs) ≤ length xs * n
-  length-flatMap-most f n xs h = omega (arith, length-flatMap f xs, total-bounded (λ x. length (f x)) n xs h)
+  length-flatMap-most f n xs h = omega (arith, length-flatMap f xs, sum-bounded (λ x. length (f x)) n xs h)
 
 -- What lists give, made of other lists
 
@@ -718,12 +718,12 @@ module _ {A B : Type 0} where
       ap (λ (t : List B). t ++ flatMap f xs) (h x (inl refl)) ∙ ap (λ (t : List B). g x ++ t) (flatMap-same f g xs (λ y k. h y (inr k)))
 
   -- Those that pass a test give, the others give nothing.
-  pub flatMap-filter : (f : A → List B) (test : A → Bool) (xs : List A) → flatMap f (filter test xs) ≡ flatMap (λ x. cond (test x) (f x) []) xs
-  unfolding flatMap filter
-  flatMap-filter f test [] = refl
-  flatMap-filter f test (x ∷ xs) = go (test x) ∙ ap (λ (t : List B). cond (test x) (f x) [] ++ t) (flatMap-filter f test xs)
+  pub flatMap-selected : (f : A → List B) (test : A → Bool) (xs : List A) → flatMap f (selected test xs) ≡ flatMap (λ x. cond (test x) (f x) []) xs
+  unfolding flatMap selected
+  flatMap-selected f test [] = refl
+  flatMap-selected f test (x ∷ xs) = go (test x) ∙ ap (λ (t : List B). cond (test x) (f x) [] ++ t) (flatMap-selected f test xs)
     where
-      go : (b : Bool) → flatMap f (consIf b x (filter test xs)) ≡ cond b (f x) [] ++ flatMap f (filter test xs)
+      go : (b : Bool) → flatMap f (consIf b x (selected test xs)) ≡ cond b (f x) [] ++ flatMap f (selected test xs)
       go true = refl
       go false = refl
 
@@ -753,24 +753,24 @@ module _ {A : Type 0} where
       same-length : length (map (λ i. getD xs i d) (rising 0 (length xs))) ≡ length xs
       same-length = length-map (rising 0 (length xs)) (λ i. getD xs i d) ∙ length-rising 0 (length xs)
 
-  pub pairwise-filter : (R : A → A → Type 0) (test : A → Bool) (xs : List A) → Pairwise R xs → Pairwise R (filter test xs)
-  unfolding filter
-  pairwise-filter R test [] P = tt
-  pairwise-filter R test (x ∷ xs) P = go (test x) (pairwise-filter R test xs (P .1))
+  pub every-two-selected : (R : A → A → Type 0) (test : A → Bool) (xs : List A) → EveryTwo R xs → EveryTwo R (selected test xs)
+  unfolding selected
+  every-two-selected R test [] P = tt
+  every-two-selected R test (x ∷ xs) P = go (test x) (every-two-selected R test xs (P .1))
     where
-      go : (b : Bool) → Pairwise R (filter test xs) → Pairwise R (consIf b x (filter test xs))
-      go true Q = (λ y k. P .0 y (filter-in test y xs k .0), Q)
+      go : (b : Bool) → EveryTwo R (selected test xs) → EveryTwo R (consIf b x (selected test xs))
+      go true Q = (λ y k. P .0 y (selected-in test y xs k .0), Q)
       go false Q = Q
 
 -- Lists of rising numbers
 
-pub pairwise-rising : (k n : ℕ) → Pairwise (λ x y. x < y) (rising k n)
+pub every-two-rising : (k n : ℕ) → EveryTwo (λ x y. x < y) (rising k n)
 unfolding rising
-pairwise-rising k zero = tt
-pairwise-rising k (suc n) = (λ y i. omega (arith, rising-in (suc k) n y i .0), pairwise-rising (suc k) n)
+every-two-rising k zero = tt
+every-two-rising k (suc n) = (λ y i. omega (arith, rising-in (suc k) n y i .0), every-two-rising (suc k) n)
 
 -- Two lists of rising numbers with the same numbers are equal.
-pub rising-same : (xs ys : List ℕ) → Pairwise (λ x y. x < y) xs → Pairwise (λ x y. x < y) ys → ((a : ℕ) → In a xs → In a ys)
+pub rising-same : (xs ys : List ℕ) → EveryTwo (λ x y. x < y) xs → EveryTwo (λ x y. x < y) ys → ((a : ℕ) → In a xs → In a ys)
     → ((a : ℕ) → In a ys → In a xs) → xs ≡ ys
 rising-same [] [] P Q f g = refl
 rising-same [] (y ∷ ys) P Q f g = absurd (g y (inl refl))

@@ -1,4 +1,5 @@
--- The few functions of lists that the definitions use and the toolchain's library lacks. Their laws stand in ListLaws.
+-- The few functions of lists that the definitions use. Each has a name of its own: the library of the toolchain has `filter` and `any` over another
+-- kind of test, and `insert` for sets. Their laws stand in ListLaws.
 -- Assumes nothing.
 use Prim.Native.Nat.{ℕ, zero, suc, _+_}
 use mathlib.Core.List.{List, [], _∷_, _++_}
@@ -18,14 +19,14 @@ module _ {A : Type 0} where
   consIf false x xs = xs
 
   -- Those that pass the test, in their order.
-  unfoldable pub filter : (A → Bool) → List A → List A
-  filter test [] = []
-  filter test (x ∷ xs) = consIf (test x) x (filter test xs)
+  unfoldable pub selected : (A → Bool) → List A → List A
+  selected test [] = []
+  selected test (x ∷ xs) = consIf (test x) x (selected test xs)
 
   -- Whether one passes the test.
-  unfoldable pub any : (A → Bool) → List A → Bool
-  any test [] = false
-  any test (x ∷ xs) = test x || any test xs
+  unfoldable pub anyPasses : (A → Bool) → List A → Bool
+  anyPasses test [] = false
+  anyPasses test (x ∷ xs) = test x || anyPasses test xs
 
   -- `x`, or the one found already where the test puts it before `x`.
   abbrev pub lowerOf : (A → A → Bool) → A → Option A → Option A

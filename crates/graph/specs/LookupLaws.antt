@@ -9,7 +9,7 @@ use mathlib.Core.Logic.{_⊎_, inl, inr}
 use mathlib.Core.Bool.{Bool, true, false}
 use lib.Dec.{T}
 use lib.ListN.{length}
-use Rattle.graph.specs.Order.{Lower, insert}
+use Rattle.graph.specs.Order.{Lower, insertUpward}
 use Rattle.graph.specs.Graph.{Graph, GraphLaws, KeyLaws, Joined, cost, hops, pathId, rank}
 use Rattle.graph.specs.Chosen.{Chosen, chosen}
 use Rattle.graph.specs.Notions.{Least}
@@ -128,7 +128,7 @@ module _ (g : Graph) (L : GraphLaws g) (key : ℕ → ℕ) (r : ℕ) (st : State
   pub kept-settles : KeyLaws g key → (u : ℕ) → u < g .size → (T (st .settled u) → ⊥) → T (st .labelled u)
       → ((x : ℕ) → x < g .size → (T (st .settled x) → ⊥) → T (st .labelled x) → st .far u ≤ st .far x)
       → (q : List ℕ) × Settled g key r st (st .next u) q × Chosen g key u r (u ∷ q) × (st .far u ≡ cost g (u ∷ q)) × (st .steps u ≡ hops (u ∷ q))
-      × (insert (key u) (st .row (st .next u)) ≡ pathId key (u ∷ q))
+      × (insertUpward (key u) (st .row (st .next u)) ≡ pathId key (u ∷ q))
   kept-settles K u l w h near = go (label-of u (l, w) h)
     where
       nearest : (p : List ℕ) → Label g key r st u (st .next u) p → (x y : ℕ) (q : List ℕ) → Label g key r st x y q → cost g (u ∷ p) ≤ cost g (x ∷ q)
@@ -136,7 +136,7 @@ module _ (g : Graph) (L : GraphLaws g) (key : ℕ → ℕ) (r : ℕ) (st : State
 
       go : ((p : List ℕ) × Label g key r st u (st .next u) p)
           → (q : List ℕ) × Settled g key r st (st .next u) q × Chosen g key u r (u ∷ q) × (st .far u ≡ cost g (u ∷ q)) × (st .steps u ≡ hops (u ∷ q))
-          × (insert (key u) (st .row (st .next u)) ≡ pathId key (u ∷ q))
+          × (insertUpward (key u) (st .row (st .next u)) ≡ pathId key (u ∷ q))
       go (p, k) =
           let e : label st u ≡ candidateRank g key u p = label-is u p (l, w) h (k .3) in
           let rows : st .row (st .next u) ≡ pathId key p = cc in (
@@ -145,7 +145,7 @@ module _ (g : Graph) (L : GraphLaws g) (key : ℕ → ℕ) (r : ℕ) (st : State
             nearest-settles g key r (Open g st) (Settled g key r st) (Label g key r st) kept-labels L K kept-settling u (st .next u) p k (nearest p k),
             label-far u (st .next u) p k,
             cc,
-            ap (insert (key u)) rows ∙ sym (candidate-pathId g key u p),
+            ap (insertUpward (key u)) rows ∙ sym (candidate-pathId g key u p),
           )
 
   -- The nearest labelled bridge offers a settled one nothing: the way through it costs more, because every hop costs at least 1.
@@ -227,7 +227,7 @@ module _ (g : Graph) (L : GraphLaws g) (key : ℕ → ℕ) (K : KeyLaws g key) (
           side (z, f, W) = cc
 
       go : ((q : List ℕ) × Settled g key r st (st .next u) q × Chosen g key u r (u ∷ q) × (st .far u ≡ cost g (u ∷ q)) × (st .steps u ≡ hops (u ∷ q))
-          × (insert (key u) (st .row (st .next u)) ≡ pathId key (u ∷ q)))
+          × (insertUpward (key u) (st .row (st .next u)) ≡ pathId key (u ∷ q)))
           → (p : List ℕ) × Chosen g key u r p × Says g key st′ u p
       go (q, k, P, c, n, i) = (
         u ∷ q,

@@ -6,7 +6,7 @@ use mathlib.Core.List.{List, [], _∷_}
 use mathlib.Core.Logic.{_⊎_}
 use mathlib.Core.Bool.{Bool}
 use lib.Dec.{T}
-use Rattle.graph.specs.Order.{Lower, insert}
+use Rattle.graph.specs.Order.{Lower, insertUpward}
 use Rattle.graph.specs.Graph.{Graph, Joined, cost, hops, pathId}
 use Rattle.graph.specs.Chosen.{Chosen}
 
@@ -95,5 +95,5 @@ pub record Advances (g : Graph) (key : ℕ → ℕ) (r u : ℕ) (st st′ : Stat
   pub steps-kept : (v : ℕ) → T (st′ .settled v) → st′ .steps v ≡ st .steps v
   pub next-kept : (v : ℕ) → T (st′ .settled v) → st′ .next v ≡ st .next v
   pub row-kept : (v : ℕ) → T (st .settled v) → st′ .row v ≡ st .row v
-  pub row-new : st′ .row u ≡ insert (key u) (st .row (st .next u))
+  pub row-new : st′ .row u ≡ insertUpward (key u) (st .row (st .next u))
   pub relaxed : (x : ℕ) → x < g .size → (T (st′ .settled x) → ⊥) → Stays g r u st st′ x ⊎ Takes g r u st st′ x

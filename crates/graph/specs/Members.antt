@@ -19,9 +19,9 @@ module _ {A : Type 0} where
   Distinct (x ∷ xs) = (In x xs → ⊥) × Distinct xs
 
   -- The relation holds between each of the list and every later one.
-  abbrev pub Pairwise : (A → A → Type 0) → List A → Type 0
-  Pairwise R [] = Unit {0}
-  Pairwise R (x ∷ xs) = ((y : A) → In y xs → R x y) × Pairwise R xs
+  abbrev pub EveryTwo : (A → A → Type 0) → List A → Type 0
+  EveryTwo R [] = Unit {0}
+  EveryTwo R (x ∷ xs) = ((y : A) → In y xs → R x y) × EveryTwo R xs
 
   -- The last of `u` and the list after it.
   abbrev pub lastOf : A → List A → A
@@ -33,9 +33,9 @@ module _ {A : Type 0} where
   HasPart a b p = (xs : List A) × (t : List A) × (ys : List A) × (p ≡ xs ++ ((a ∷ t) ++ ys)) × (lastOf a t ≡ b)
 
   -- The sum of what `f` gives for each of the list.
-  abbrev pub total : (A → ℕ) → List A → ℕ
-  total f [] = 0
-  total f (x ∷ xs) = f x + total f xs
+  abbrev pub sumOver : (A → ℕ) → List A → ℕ
+  sumOver f [] = 0
+  sumOver f (x ∷ xs) = f x + sumOver f xs
 
 module _ {A B : Type 0} where
   -- What `f` gives for each two neighbours of a list, in order: with `f` the link of a hop, the links that a path crosses.
@@ -45,6 +45,6 @@ module _ {A B : Type 0} where
   along f (x ∷ y ∷ t) = f x y ∷ along f (y ∷ t)
 
 -- How often `x` is in the list.
-unfoldable pub times : ℕ → List ℕ → ℕ
-times x [] = 0
-times x (y ∷ ys) = cond (eqb x y) 1 0 + times x ys
+unfoldable pub occurrences : ℕ → List ℕ → ℕ
+occurrences x [] = 0
+occurrences x (y ∷ ys) = cond (eqb x y) 1 0 + occurrences x ys

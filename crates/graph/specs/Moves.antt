@@ -5,7 +5,7 @@ use mathlib.Core.List.{List, [], _∷_, _++_, flatMap}
 use mathlib.Core.Option.{Option, none, some}
 use mathlib.Core.Bool.{Bool, false, cond, _&&_, _||_}
 use lib.Dec.{eqb}
-use Rattle.graph.specs.Lists.{rising, filter, any}
+use Rattle.graph.specs.Lists.{rising, selected, anyPasses}
 use Rattle.graph.specs.Graph.{Graph}
 use Rattle.graph.specs.Chosen.{Chosen, chosen}
 use Rattle.graph.specs.Members.{In, Distinct}
@@ -62,7 +62,7 @@ leavesOn c v (some p) = leaves c v p
 -- The bridges that a copy from `s` at the bridge `c` enters next, by number: "as soon as one receiver behind it is found".
 unfoldable pub handed : Graph → (ℕ → ℕ) → ℕ → (ℕ → Bool) → ℕ → List ℕ
 handed g key s receives c =
-    filter (λ v. any (λ r. receives r && leavesOn c v (chosen g key s r)) (rising 0 (g .size))) (rising 0 (g .size))
+    selected (λ v. anyPasses (λ r. receives r && leavesOn c v (chosen g key s r)) (rising 0 (g .size))) (rising 0 (g .size))
 
 -- What every way of handing copies down meets: at each bridge of the graph it lists once each bridge to which
 -- the chosen path from the sender to some receiver goes from there, and no other.

@@ -7,7 +7,7 @@ use mathlib.Core.List.{List, [], _∷_, _++_, reverse, reverse-cons}
 use mathlib.Core.Logic.{_⊎_, inl, inr}
 use lib.Dec.{T}
 use lib.ListN.{length, length-append}
-use Rattle.graph.specs.Graph.{Graph, GraphLaws, Joined, GoesOn, Onward, Path, costOnward}
+use Rattle.graph.specs.Graph.{Graph, GraphLaws, Joined, GoesOn, Onward, IsPath, costOnward}
 use Rattle.graph.specs.Members.{In, lastOf}
 use Rattle.graph.specs.Notions.{Joint, Chain, Linked}
 use Rattle.graph.specs.ListLaws.{nil-not-cons, append-empty}
@@ -43,11 +43,11 @@ module _ (g : Graph) where
   join u (v ∷ w ∷ t) c s b (j, m, p) o h = (j, m, join v (w ∷ t) c s b p o h)
 
   -- The same for whole paths.
-  pub path-part : (a b : ℕ) (xs : List ℕ) (c : ℕ) (t ys : List ℕ) → Path g a b (xs ++ ((c ∷ t) ++ ys)) → Path g c (lastOf c t) (c ∷ t)
+  pub path-part : (a b : ℕ) (xs : List ℕ) (c : ℕ) (t ys : List ℕ) → IsPath g a b (xs ++ ((c ∷ t) ++ ys)) → IsPath g c (lastOf c t) (c ∷ t)
   path-part a b [] c t ys (e, o) = (refl, split c t ys b o .0)
   path-part a b (x ∷ xs) c t ys (e, o) = (refl, split c t ys b (split x xs (c ∷ (t ++ ys)) b o .1 .2) .0)
 
-  pub path-join : (a c b : ℕ) (p s : List ℕ) → Path g a c p → Path g c b (c ∷ s) → T (g .between c) ⊎ (length p ≡ 1) ⊎ (s ≡ []) → Path g a b (p ++ s)
+  pub path-join : (a c b : ℕ) (p s : List ℕ) → IsPath g a c p → IsPath g c b (c ∷ s) → T (g .between c) ⊎ (length p ≡ 1) ⊎ (s ≡ []) → IsPath g a b (p ++ s)
   path-join a c b (u ∷ t) s (e, o) (f, o′) h = (e, join u t c s b o o′ (joint t s h))
     where
       joint : (t s : List ℕ) → T (g .between c) ⊎ (length (u ∷ t) ≡ 1) ⊎ (s ≡ []) → Joint g t c s
@@ -91,10 +91,10 @@ module _ (g : Graph) where
       on [] = tt
       on (w ∷ t) = all v
 
-  pub path-linked : (a b : ℕ) (p : List ℕ) → Path g a b p → Linked g a b p
+  pub path-linked : (a b : ℕ) (p : List ℕ) → IsPath g a b p → Linked g a b p
   path-linked a b (u ∷ t) (e, o) = (e, onward-chain u t b o)
 
-  pub linked-path : ((v : ℕ) → T (g .between v)) → (a b : ℕ) (p : List ℕ) → Linked g a b p → Path g a b p
+  pub linked-path : ((v : ℕ) → T (g .between v)) → (a b : ℕ) (p : List ℕ) → Linked g a b p → IsPath g a b p
   linked-path all a b (u ∷ t) (e, o) = (e, chain-onward all u t b o)
 
   -- Cost along a path
@@ -131,7 +131,7 @@ module _ (g : Graph) where
       go (s, p, l) = (s, p, omega (arith, cost-step g u v t))
 
   -- A path as its first bridge and the list after it.
-  pub path-first : (a b : ℕ) (p : List ℕ) → Path g a b p → (t : List ℕ) × (p ≡ a ∷ t) × Onward g a t b
+  pub path-first : (a b : ℕ) (p : List ℕ) → IsPath g a b p → (t : List ℕ) × (p ≡ a ∷ t) × Onward g a t b
   path-first a b (u ∷ t) (e, o) = (t, ap (λ (x : ℕ). x ∷ t) e, subst (λ (x : ℕ). Onward g x t b) e o)
 
 module _ (g : Graph) (L : GraphLaws g) where
@@ -152,7 +152,7 @@ module _ (g : Graph) (L : GraphLaws g) where
   end-inside u v (w ∷ t) b (j, m, o) = end-inside v w t b o
 
   -- A path from a bridge of the graph stays among the bridges of the graph.
-  pub stays-inside : (a b : ℕ) (p : List ℕ) → a < g .size → Path g a b p → (x : ℕ) → In x p → x < g .size
+  pub stays-inside : (a b : ℕ) (p : List ℕ) → a < g .size → IsPath g a b p → (x : ℕ) → In x p → x < g .size
   stays-inside a b (u ∷ t) h (e, o) x (inl f) = rw (f, e) h
   stays-inside a b (u ∷ t) h (e, o) x (inr k) = rest-inside u t b o x k
 
@@ -176,8 +176,8 @@ module _ (g : Graph) (L : GraphLaws g) where
         omega (arith, length-append s (u ∷ [])),
       )
 
-  pub path-reverse : (a b : ℕ) (p : List ℕ) → Path g a b p → Path g b a (reverse p)
+  pub path-reverse : (a b : ℕ) (p : List ℕ) → IsPath g a b p → IsPath g b a (reverse p)
   path-reverse a b (u ∷ t) (e, o) = go (onward-reverse u t b o)
     where
-      go : ((s : List ℕ) × (reverse (u ∷ t) ≡ b ∷ s) × Onward g b s u × (length s ≡ length t)) → Path g b a (reverse (u ∷ t))
-      go (s, f, p, l) = subst (λ (q : List ℕ). Path g b a q) (sym f) (refl, subst (λ (x : ℕ). Onward g b s x) e p)
+      go : ((s : List ℕ) × (reverse (u ∷ t) ≡ b ∷ s) × Onward g b s u × (length s ≡ length t)) → IsPath g b a (reverse (u ∷ t))
+      go (s, f, p, l) = subst (λ (q : List ℕ). IsPath g b a q) (sym f) (refl, subst (λ (x : ℕ). Onward g b s x) e p)

@@ -5,29 +5,29 @@ use native.Mathlib.Omega.{arith}
 use mathlib.Core.Path.{_≡_, refl, sym, ap, _∙_}
 use mathlib.Core.List.{List, [], _∷_, _++_}
 use mathlib.Core.Bool.{Bool, true, false, _||_}
-use Rattle.graph.specs.Lists.{rising, any}
+use Rattle.graph.specs.Lists.{rising, anyPasses}
 
 -- The search has come to `j`: what is left to search has one that passes where the whole has.
 pub record Searching (test : ℕ → Bool) (n j : ℕ) : Type 0 where
   pub within : j ≤ n
-  pub rest : any test (rising j (n - j)) ≡ any test (rising 0 n)
+  pub rest : anyPasses test (rising j (n - j)) ≡ anyPasses test (rising 0 n)
 
 pub search-starts : (test : ℕ → Bool) (n : ℕ) → Searching test n 0
-search-starts test n = record { within = omega arith; rest = ap (λ (k : ℕ). any test (rising 0 k)) (omega arith) }
+search-starts test n = record { within = omega arith; rest = ap (λ (k : ℕ). anyPasses test (rising 0 k)) (omega arith) }
 
-step : (test : ℕ → Bool) (n j : ℕ) → j < n → any test (rising j (n - j)) ≡ test j || any test (rising (j + 1) (n - (j + 1)))
-unfolding any rising
+step : (test : ℕ → Bool) (n j : ℕ) → j < n → anyPasses test (rising j (n - j)) ≡ test j || anyPasses test (rising (j + 1) (n - (j + 1)))
+unfolding anyPasses rising
 step test n j h = rw (let e : n - j ≡ suc (n - (j + 1)) = omega arith in e, let f : j + 1 ≡ suc j = omega arith in f) refl
 
 module _ {test : ℕ → Bool} {n j : ℕ} (s : Searching test n j) where
   pub search-on : j < n → test j ≡ false → Searching test n (j + 1)
   search-on h e = record { within = omega arith; rest = simp e at (sym (step test n j h)) ∙ s .rest }
 
-  pub search-finds : j < n → test j ≡ true → true ≡ any test (rising 0 n)
+  pub search-finds : j < n → test j ≡ true → true ≡ anyPasses test (rising 0 n)
   search-finds h e = simp e at (sym (step test n j h)) ∙ s .rest
 
-  pub search-ends : n ≤ j → false ≡ any test (rising 0 n)
-  unfolding any rising
+  pub search-ends : n ≤ j → false ≡ anyPasses test (rising 0 n)
+  unfolding anyPasses rising
   search-ends h = rw (let e : n - j ≡ 0 = omega arith in e) at (s .rest)
 
 -- One number more.

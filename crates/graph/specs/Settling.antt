@@ -7,8 +7,8 @@ use mathlib.Core.List.{List, [], _∷_, map}
 use mathlib.Core.Logic.{_⊎_, inl, inr}
 use lib.Dec.{T}
 use lib.ListN.{length, length-map}
-use Rattle.graph.specs.Order.{Lower, insert}
-use Rattle.graph.specs.Graph.{Graph, GraphLaws, KeyLaws, Joined, GoesOn, Onward, Path, costOnward, cost, hops, pathId, rank}
+use Rattle.graph.specs.Order.{Lower, insertUpward}
+use Rattle.graph.specs.Graph.{Graph, GraphLaws, KeyLaws, Joined, GoesOn, Onward, IsPath, costOnward, cost, hops, pathId, rank}
 use Rattle.graph.specs.Chosen.{Chosen}
 use Rattle.graph.specs.Notions.{Least}
 use Rattle.graph.specs.Search.{Settling, Candidate, candidateRank}
@@ -21,7 +21,7 @@ use Rattle.graph.specs.ChosenPaths.{lower-cost, chosen-first, chosen-sel
 
 module _ (g : Graph) (key : ℕ → ℕ) where
   -- The PATHID of a candidate: its own key inserted into its next hop's.
-  pub candidate-pathId : (u : ℕ) (p : List ℕ) → pathId key (u ∷ p) ≡ insert (key u) (pathId key p)
+  pub candidate-pathId : (u : ℕ) (p : List ℕ) → pathId key (u ∷ p) ≡ insertUpward (key u) (pathId key p)
   candidate-pathId u p = sorted-cons (key u) (map key p)
 
   -- "the least cost, then the fewest hops, then the lowest masked PATHID" (01, "The chosen path"): two candidates of one bridge compare as
@@ -56,8 +56,8 @@ module _ (g : Graph) (key : ℕ → ℕ) where
           steps : hops (u ∷ v ∷ t) ≡ hops (u ∷ w ∷ s)
           steps = cc
 
-          ids : insert (key u) (pathId key (v ∷ t)) ≡ insert (key u) (pathId key (w ∷ s))
-          ids = let f : pathId key (v ∷ t) ≡ pathId key (w ∷ s) = cc in ap (insert (key u)) f
+          ids : insertUpward (key u) (pathId key (v ∷ t)) ≡ insertUpward (key u) (pathId key (w ∷ s))
+          ids = let f : pathId key (v ∷ t) ≡ pathId key (w ∷ s) = cc in ap (insertUpward (key u)) f
 
       go : Lower (candidateRank g key u (v ∷ t)) (candidateRank g key u (w ∷ s)) ⊎ (candidateRank g key u (v ∷ t) ≡ candidateRank g key u (w ∷ s))
           ⊎ Lower (candidateRank g key u (w ∷ s)) (candidateRank g key u (v ∷ t))
@@ -69,7 +69,7 @@ module _ (g : Graph) (key : ℕ → ℕ) where
 module _ (g : Graph) (L : GraphLaws g) (key : ℕ → ℕ) (r : ℕ) (Open : ℕ → Type 0) (Settled : ℕ → List ℕ → Type 0)
     (S : Settling g key r Open Settled) where
   -- The path of a candidate is a path.
-  pub candidate-path : (u v : ℕ) (p : List ℕ) → Candidate g r Open Settled u v p → Path g u r (u ∷ p)
+  pub candidate-path : (u v : ℕ) (p : List ℕ) → Candidate g r Open Settled u v p → IsPath g u r (u ∷ p)
   candidate-path u v p C = go (chosen-first g key v r p (S .final v p (C .settled))) (C .passes)
     where
       on : (t : List ℕ) → p ≡ v ∷ t → (v ≡ r) ⊎ T (g .between v) → GoesOn g v t
@@ -80,8 +80,8 @@ module _ (g : Graph) (L : GraphLaws g) (key : ℕ → ℕ) (r : ℕ) (Open : ℕ
           long : v ∷ x ∷ t ≡ v ∷ []
           long = sym e ∙ chosen-self g key v p (subst (λ (z : ℕ). Chosen g key v z p) (sym f) (S .final v p (C .settled)))
 
-      go : ((t : List ℕ) × (p ≡ v ∷ t) × Least g v t r) → (v ≡ r) ⊎ T (g .between v) → Path g u r (u ∷ p)
-      go (t, e, W) h = subst (λ (z : List ℕ). Path g u r (u ∷ z)) (sym e) (refl, (C .joined, on t e h, W .way))
+      go : ((t : List ℕ) × (p ≡ v ∷ t) × Least g v t r) → (v ≡ r) ⊎ T (g .between v) → IsPath g u r (u ∷ p)
+      go (t, e, W) h = subst (λ (z : List ℕ). IsPath g u r (u ∷ z)) (sym e) (refl, (C .joined, on t e h, W .way))
 
   -- A settled neighbour on a path from an open bridge gives a candidate that costs no more than the path.
   first-hop : (u v : ℕ) (t p : List ℕ) → Open u → Onward g u (v ∷ t) r → Settled v p → Candidate g r Open Settled u v p
@@ -150,7 +150,7 @@ module _ (g : Graph) (L : GraphLaws g) (key : ℕ → ℕ) (r : ℕ) (Open : ℕ
     settled-apart v w p q h k e = chosen-apart g L key K v w r p q (S .final v p h) (S .final w q k) e
 
   -- With no candidate left, every bridge with a path to the root is settled,
-  pub complete : ((u v : ℕ) (p : List ℕ) → Candidate g r Open Settled u v p → ⊥) → (u : ℕ) (q : List ℕ) → Path g u r q → (p : List ℕ) × Settled u p
+  pub complete : ((u v : ℕ) (p : List ℕ) → Candidate g r Open Settled u v p → ⊥) → (u : ℕ) (q : List ℕ) → IsPath g u r q → (p : List ℕ) × Settled u p
   complete no-more u q o = go (path-first g u r q o)
     where
       found : (t : List ℕ) → Onward g u t r → ((x : ℕ) × (v : ℕ) × (p : List ℕ) × Candidate g r Open Settled x v p × (cost g (x ∷ p) ≤ costOnward g u t)) → ⊥
@@ -165,7 +165,7 @@ module _ (g : Graph) (L : GraphLaws g) (key : ℕ → ℕ) (r : ℕ) (Open : ℕ
       go (v ∷ t, e, o) = side (v ∷ t) o (S .each u (L .inside u v (o .0)))
 
   -- and no open bridge has one.
-  pub open-no-path : ((u v : ℕ) (p : List ℕ) → Candidate g r Open Settled u v p → ⊥) → (u : ℕ) → Open u → (q : List ℕ) → Path g u r q → ⊥
+  pub open-no-path : ((u v : ℕ) (p : List ℕ) → Candidate g r Open Settled u v p → ⊥) → (u : ℕ) → Open u → (q : List ℕ) → IsPath g u r q → ⊥
   open-no-path no-more u w q o = go (complete no-more u q o)
     where
       go : ((p : List ℕ) × Settled u p) → ⊥

@@ -4,7 +4,7 @@ use mathlib.Core.List.{List, [], _∷_, _++_, flatMap}
 use mathlib.Core.Bool.{not}
 use lib.Dec.{eqb}
 use lib.ListN.{length}
-use Rattle.graph.specs.Lists.{rising, filter}
+use Rattle.graph.specs.Lists.{rising, selected}
 use Rattle.rule.specs.Outcome.{Outcome, answered, refused, Written}
 use Rattle.rule.specs.Answers.{CostAndHops}
 use Rattle.rule.specs.Plan.{Plan}
@@ -32,7 +32,7 @@ pathLine vid a b (refused number kind at) = line noneWord (vid ∷ a ∷ b ∷ [
 -- The path lines of a VID from the bridge `a`, "by to".
 unfoldable pub pathLines : Plan → ℕ → ℕ → List ℕ
 pathLines p vid a =
-    flatMap (λ b. pathLine vid a b (planPath p vid a b)) (filter (λ b. not (eqb b a)) (rising 0 (length (p .bridges))))
+    flatMap (λ b. pathLine vid a b (planPath p vid a b)) (selected (λ b. not (eqb b a)) (rising 0 (length (p .bridges))))
 
 -- "an entry line by bridge (bridge, VID, port, address in hexadecimal)".
 abbrev pub entryLine : ℕ → Entry → List ℕ

@@ -2,8 +2,8 @@
 -- Assumes nothing.
 use mathlib.Core.Path.{_≡_, refl}
 use mathlib.Core.List.{[], _∷_, flatMap}
-use Rattle.graph.specs.Lists.{rising, filter, any, lowestBy}
-use Rattle.graph.specs.Order.{insert, sorted, lower}
+use Rattle.graph.specs.Lists.{rising, selected, anyPasses, lowestBy}
+use Rattle.graph.specs.Order.{insertUpward, sorted, isLower}
 use Rattle.graph.specs.Graph.{costOnward}
 use Rattle.graph.specs.Chosen.{neighbours, onward, paths, chosen}
 use Rattle.rule.specs.Words.{wordsOf}
@@ -16,7 +16,7 @@ use Rattle.rule.specs.Paths.{chosenPath}
 use Rattle.rule.specs.Entries.{entryListOf, entriesOf, individualEntries, groupEntries, listedPorts, receiverPorts, leavingPort}
 use Rattle.rule.specs.Lookup.{entriesIn}
 use Rattle.rule.specs.Worked.{worked}
-use Rattle.text.specs.Text.{digits, places, decimal}
+use Rattle.text.specs.Text.{digitsOf, places, decimal}
 use Rattle.lines.specs.Listing.{pathLines, planListing, listing}
 
 -- The six lines of the example:
@@ -34,26 +34,26 @@ pub worked-listing :
     101 ∷ 110 ∷ 116 ∷ 114 ∷ 121 ∷ 32 ∷ 48 ∷ 32 ∷ 49 ∷ 48 ∷ 32 ∷ 49 ∷ 32 ∷ 48 ∷ 50 ∷ 48 ∷ 48 ∷ 48 ∷ 48 ∷ 48 ∷ 48 ∷ 48 ∷ 48 ∷ 48 ∷ 50 ∷ 10 ∷
     101 ∷ 110 ∷ 116 ∷ 114 ∷ 121 ∷ 32 ∷ 48 ∷ 32 ∷ 49 ∷ 48 ∷ 32 ∷ 49 ∷ 32 ∷ 48 ∷ 51 ∷ 48 ∷ 48 ∷ 48 ∷ 49 ∷ 48 ∷ 48 ∷ 48 ∷ 49 ∷ 48 ∷ 48 ∷ 10 ∷
     101 ∷ 110 ∷ 116 ∷ 114 ∷ 121 ∷ 32 ∷ 49 ∷ 32 ∷ 49 ∷ 48 ∷ 32 ∷ 50 ∷ 32 ∷ 48 ∷ 50 ∷ 48 ∷ 48 ∷ 48 ∷ 48 ∷ 48 ∷ 48 ∷ 48 ∷ 48 ∷ 48 ∷ 49 ∷ 10 ∷ []
-unfolding listing planListing pathLines decimal digits places entriesIn
+unfolding listing planListing pathLines decimal digitsOf places entriesIn
     wordsOf layoutOf lowestFault readOn verdict linksOf usableLinks countUsable linksBetween hopLink
     maskedBytes maskedIdentifier chosenPath entryListOf entriesOf individualEntries groupEntries listedPorts receiverPorts leavingPort
-    rising filter any lowestBy insert sorted lower costOnward neighbours onward paths chosen flatMap
+    rising selected anyPasses lowestBy insertUpward sorted isLower costOnward neighbours onward paths chosen flatMap
 worked-listing = refl
 
 -- The table of one word F0000000: `counts 0 0 0 0 0`.
 pub no-records-listing :
     listing (table ((0xf0000000 ∷ []) ∷ [])) ≡
     99 ∷ 111 ∷ 117 ∷ 110 ∷ 116 ∷ 115 ∷ 32 ∷ 48 ∷ 32 ∷ 48 ∷ 32 ∷ 48 ∷ 32 ∷ 48 ∷ 32 ∷ 48 ∷ 10 ∷ []
-unfolding listing planListing pathLines decimal digits places entriesIn
-    wordsOf layoutOf lowestFault readOn verdict linksOf usableLinks countUsable rising filter any flatMap
+unfolding listing planListing pathLines decimal digitsOf places entriesIn
+    wordsOf layoutOf lowestFault readOn verdict linksOf usableLinks countUsable rising selected anyPasses flatMap
 no-records-listing = refl
 
 -- An empty file: `refused 1 0`.
 pub no-table-listing :
     listing [] ≡
     114 ∷ 101 ∷ 102 ∷ 117 ∷ 115 ∷ 101 ∷ 100 ∷ 32 ∷ 49 ∷ 32 ∷ 48 ∷ 10 ∷ []
-unfolding listing planListing pathLines decimal digits places entriesIn
-    wordsOf layoutOf lowestFault readOn verdict linksOf usableLinks countUsable rising filter any flatMap
+unfolding listing planListing pathLines decimal digitsOf places entriesIn
+    wordsOf layoutOf lowestFault readOn verdict linksOf usableLinks countUsable rising selected anyPasses flatMap
 no-table-listing = refl
 
 -- Two bridges without a link:
@@ -70,8 +70,8 @@ pub apart-listing :
     99 ∷ 111 ∷ 117 ∷ 110 ∷ 116 ∷ 115 ∷ 32 ∷ 50 ∷ 32 ∷ 48 ∷ 32 ∷ 48 ∷ 32 ∷ 49 ∷ 32 ∷ 48 ∷ 10 ∷
     110 ∷ 111 ∷ 110 ∷ 101 ∷ 32 ∷ 49 ∷ 48 ∷ 32 ∷ 48 ∷ 32 ∷ 49 ∷ 10 ∷
     110 ∷ 111 ∷ 110 ∷ 101 ∷ 32 ∷ 49 ∷ 48 ∷ 32 ∷ 49 ∷ 32 ∷ 48 ∷ 10 ∷ []
-unfolding listing planListing pathLines decimal digits places entriesIn
+unfolding listing planListing pathLines decimal digitsOf places entriesIn
     wordsOf layoutOf lowestFault readOn verdict linksOf usableLinks countUsable linksBetween hopLink
     maskedBytes maskedIdentifier chosenPath entryListOf entriesOf individualEntries groupEntries listedPorts receiverPorts leavingPort
-    rising filter any lowestBy insert sorted lower costOnward neighbours onward paths chosen flatMap
+    rising selected anyPasses lowestBy insertUpward sorted isLower costOnward neighbours onward paths chosen flatMap
 apart-listing = refl

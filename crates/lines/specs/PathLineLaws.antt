@@ -16,12 +16,12 @@ use Rattle.rule.specs.CallLaws.{refused-not-answered, lent-says}
 use Rattle.tree.specs.Labels.{noCost, labelAt}
 use Rattle.path.specs.Followed.{followed, followed-length}
 use Rattle.path.specs.Labelled.{labelledPath, Followable}
-use Rattle.text.specs.Text.{field, fields}
+use Rattle.text.specs.Text.{fieldText, fields}
 
 -- Fields of two lists, and what follows them.
 pub fields-of-both : (ms ns after : List ℕ) → fields ms ++ (fields ns ++ after) ≡ fields (ms ++ ns) ++ after
 fields-of-both ms ns after =
-    sym (append-assoc (fields ms) (fields ns) after) ∙ ap (λ (t : List ℕ). t ++ after) (sym (flatMap-append field ms ns))
+    sym (append-assoc (fields ms) (fields ns) after) ∙ ap (λ (t : List ℕ). t ++ after) (sym (flatMap-append fieldText ms ns))
 
 module _ (labels : List ℕ) (u : ℕ) (F : Followable labels u) (old now : List ℕ) (places : length old ≡ 64) where
   abbrev bridges : List ℕ

@@ -8,9 +8,9 @@ use mathlib.Core.Bool.{Bool, true, false, cond}
 use lib.Dec.{ltb}
 use lib.ListN.{length}
 use borrow.Author.Tests.{lt-ltb, le-ltb}
-use Rattle.graph.specs.Lists.{filter, consIf}
-use Rattle.graph.specs.Members.{total}
-use Rattle.graph.specs.ListLaws.{filter-flatMap, length-flatMap, total-most, total-append}
+use Rattle.graph.specs.Lists.{selected, consIf}
+use Rattle.graph.specs.Members.{sumOver}
+use Rattle.graph.specs.ListLaws.{selected-flatMap, length-flatMap, sum-most, sum-append}
 use Rattle.rule.specs.Records.{HalfLink, halfLinkOf, unusableMetric}
 use Rattle.rule.specs.Plan.{Plan}
 use Rattle.rule.specs.Links.{Link, mates, linksOf, from, to, linkCost, usableMetric, usableLinks, countUsable}
@@ -40,17 +40,17 @@ module _ (p : Plan) (L : PlanLaws p) where
   isLower l = ltb (from l) (to l)
 
   abbrev seen : HalfLink → List Link
-  seen h = map (λ m. record { here = h; there = m }) (filter (mates h) hs)
+  seen h = map (λ m. record { here = h; there = m }) (selected (mates h) hs)
 
   -- Of the links that a half-link has with these mates, those counted.
   abbrev among : HalfLink → List HalfLink → ℕ
-  among h ms = length (filter isLower (filter isUsable (map (λ m. record { here = h; there = m }) ms)))
+  among h ms = length (selected isLower (selected isUsable (map (λ m. record { here = h; there = m }) ms)))
 
   abbrev value : HalfLink → List HalfLink → ℕ
   value h ms = cond (ltb (h .near) (h .far)) (cond (usableMetric (metricWith h ms)) 1 0) 0
 
   alone : (h : HalfLink) → among h [] ≡ value h []
-  unfolding filter
+  unfolding selected
   alone h = either (ltb (h .near) (h .far))
     where
       either : (b : Bool) → _≡_ {A = ℕ} 0 (cond b (cond (usableMetric unusableMetric) 1 0) 0)
@@ -58,46 +58,46 @@ module _ (p : Plan) (L : PlanLaws p) where
       either false = refl
 
   linked : (h m : HalfLink) → among h (m ∷ []) ≡ value h (m ∷ [])
-  unfolding filter
+  unfolding selected
   linked h m = either (record { here = h; there = m }) (usableMetric (metricWith h (m ∷ []))) (ltb (h .near) (h .far)) refl
     where
-      either : (l : Link) (u b : Bool) → isLower l ≡ b → length (filter isLower (consIf u l [])) ≡ cond b (cond u 1 0) 0
+      either : (l : Link) (u b : Bool) → isLower l ≡ b → length (selected isLower (consIf u l [])) ≡ cond b (cond u 1 0) 0
       either l true true e = rw e refl
       either l true false e = rw e refl
       either l false true e = refl
       either l false false e = refl
 
   -- One is counted where the one link is usable and is seen from the lower bridge.
-  counted-one : (h : HalfLink) → among h (filter (mates h) hs) ≡ counted hs h
+  counted-one : (h : HalfLink) → among h (selected (mates h) hs) ≡ counted hs h
   counted-one h = go (mates-at-most-one p L h)
     where
       go :
-          (filter (mates h) hs ≡ []) ⊎ ((m : HalfLink) × (filter (mates h) hs ≡ m ∷ [])) →
-          among h (filter (mates h) hs) ≡ value h (filter (mates h) hs)
+          (selected (mates h) hs ≡ []) ⊎ ((m : HalfLink) × (selected (mates h) hs ≡ m ∷ [])) →
+          among h (selected (mates h) hs) ≡ value h (selected (mates h) hs)
       go (inl e) = rw e (alone h)
       go (inr (m, e)) = rw e (linked h m)
 
-  pub count-by-half-links : total (counted hs) hs ≡ countUsable hs
+  pub count-by-half-links : sumOver (counted hs) hs ≡ countUsable hs
   unfolding countUsable usableLinks linksOf
   count-by-half-links =
       omega (
         arith,
-        total-most (counted hs) each hs (λ h k. omega (arith, counted-one h)),
-        total-most each (counted hs) hs (λ h k. omega (arith, counted-one h)),
+        sum-most (counted hs) each hs (λ h k. omega (arith, counted-one h)),
+        sum-most each (counted hs) hs (λ h k. omega (arith, counted-one h)),
       )
-      ∙ sym (length-flatMap (λ h. filter isLower (filter isUsable (seen h))) hs)
-      ∙ ap length (sym (filter-flatMap isLower (λ h. filter isUsable (seen h)) hs))
-      ∙ ap (λ (t : List Link). length (filter isLower t)) (sym (filter-flatMap isUsable seen hs))
+      ∙ sym (length-flatMap (λ h. selected isLower (selected isUsable (seen h))) hs)
+      ∙ ap length (sym (selected-flatMap isLower (λ h. selected isUsable (seen h)) hs))
+      ∙ ap (λ (t : List Link). length (selected isLower t)) (sym (selected-flatMap isUsable seen hs))
     where
       each : HalfLink → ℕ
-      each h = length (filter isLower (filter isUsable (seen h)))
+      each h = length (selected isLower (selected isUsable (seen h)))
 
 -- The first `i` half-links have been counted.
 module _ (ws : List ℕ) (s : Shape) where
   pub record Counting (i count : ℕ) : Type 0 where
     pub within : i ≤ s .«half_links»
     pub most : count ≤ i
-    pub so-far : count ≡ total (counted (planAt ws s .halfLinks)) (recordsAt halfLinkOf 3 (halfLinksFrom s) ws i)
+    pub so-far : count ≡ sumOver (counted (planAt ws s .halfLinks)) (recordsAt halfLinkOf 3 (halfLinksFrom s) ws i)
 
   pub counting-starts : Counting 0 0
   counting-starts =
@@ -105,7 +105,7 @@ module _ (ws : List ℕ) (s : Shape) where
         within = omega arith;
         most = omega arith;
         so-far =
-            sym (ap (λ (t : List HalfLink). total (counted (planAt ws s .halfLinks)) t) (no-records halfLinkOf 3 (halfLinksFrom s) ws));
+            sym (ap (λ (t : List HalfLink). sumOver (counted (planAt ws s .halfLinks)) t) (no-records halfLinkOf 3 (halfLinksFrom s) ws));
       }
 
   module _ {i count : ℕ} (C : Counting i count) where
@@ -118,9 +118,9 @@ module _ (ws : List ℕ) (s : Shape) where
               omega (
                 arith,
                 C .so-far,
-                total-append (counted (planAt ws s .halfLinks)) (recordsAt halfLinkOf 3 (halfLinksFrom s) ws i) (halfLinkAt ws s i ∷ []),
+                sum-append (counted (planAt ws s .halfLinks)) (recordsAt halfLinkOf 3 (halfLinksFrom s) ws i) (halfLinkAt ws s i ∷ []),
               )
-              ∙ ap (λ (t : List HalfLink). total (counted (planAt ws s .halfLinks)) t) (sym (one-more halfLinkOf 3 (halfLinksFrom s) ws i));
+              ∙ ap (λ (t : List HalfLink). sumOver (counted (planAt ws s .halfLinks)) t) (sym (one-more halfLinkOf 3 (halfLinksFrom s) ws i));
         }
 
     pub counting-ends : PlanLaws (planAt ws s) → s .«half_links» ≤ i → count ≡ countUsable (planAt ws s .halfLinks)

@@ -9,27 +9,27 @@ use mathlib.Core.Bool.{Bool, true, false, cond}
 use lib.ListN.{length, getD, set, length-append}
 use lib.Seq.{getD-set-same, getD-set-other}
 use native.Mathlib.Numerals.{add-one}
-use Rattle.graph.specs.Lists.{rising, filter, consIf}
+use Rattle.graph.specs.Lists.{rising, selected, consIf}
 use Rattle.graph.specs.Members.{In}
-use Rattle.graph.specs.ListLaws.{le-or-gt, is-true, filter-in, filter-append, distinct-within, distinct-filter, distinct-rising, rising-in}
+use Rattle.graph.specs.ListLaws.{le-or-gt, is-true, selected-in, selected-append, distinct-within, distinct-selected, distinct-rising, rising-in}
 use Rattle.graph.specs.Searching.{rising-more}
 
 -- How many numbers below `k` pass: the place of `k` in the list, where it passes.
 unfoldable pub howMany : (ℕ → Bool) → ℕ → ℕ
-howMany test k = length (filter test (rising 0 k))
+howMany test k = length (selected test (rising 0 k))
 
 module _ (test : ℕ → Bool) where
   pub how-many-none : howMany test 0 ≡ 0
-  unfolding howMany rising filter
+  unfolding howMany rising selected
   how-many-none = refl
 
   more : (k : ℕ) (b : Bool) → test k ≡ b → howMany test (suc k) ≡ howMany test k + cond b 1 0
-  unfolding howMany filter
+  unfolding howMany selected
   more k b e =
-      ap (λ (t : List ℕ). length (filter test t)) (rising-more 0 k)
-      ∙ ap length (filter-append test (rising 0 k) ((0 + k) ∷ []))
-      ∙ length-append (filter test (rising 0 k)) (consIf (test (0 + k)) (0 + k) [])
-      ∙ ap (λ (n : ℕ). length (filter test (rising 0 k)) + n) (one (0 + k) (test (0 + k)) b (ap test (omega arith) ∙ e))
+      ap (λ (t : List ℕ). length (selected test t)) (rising-more 0 k)
+      ∙ ap length (selected-append test (rising 0 k) ((0 + k) ∷ []))
+      ∙ length-append (selected test (rising 0 k)) (consIf (test (0 + k)) (0 + k) [])
+      ∙ ap (λ (n : ℕ). length (selected test (rising 0 k)) + n) (one (0 + k) (test (0 + k)) b (ap test (omega arith) ∙ e))
     where
       one : (j : ℕ) (c b : Bool) → c ≡ b → length (consIf c j []) ≡ cond b 1 0
       one j true b e = ap (λ (x : Bool). cond x 1 0) e
@@ -87,9 +87,9 @@ module _ (test : ℕ → Bool) where
   pub how-many-most : (xs : List ℕ) (k : ℕ) → ((j : ℕ) → j < k → test j ≡ true → In j xs) → howMany test k ≤ length xs
   unfolding howMany
   how-many-most xs k h =
-      distinct-within (filter test (rising 0 k)) xs (distinct-filter test (rising 0 k) (distinct-rising 0 k))
+      distinct-within (selected test (rising 0 k)) xs (distinct-selected test (rising 0 k) (distinct-rising 0 k))
       λ j i.
-      let r = filter-in test j (rising 0 k) i
+      let r = selected-in test j (rising 0 k) i
       in h j (omega (arith, rising-in 0 k j (r .0) .1)) (is-true (test j) (r .1))
 
   -- The list holds a value for each number below `k` that passes.

@@ -8,9 +8,9 @@ use mathlib.Core.Logic.{_⊎_, inl, inr}
 use mathlib.Core.Bool.{Bool, true, not, _&&_}
 use lib.Dec.{T, eqb}
 use borrow.Author.Tests.{eq-eqb, ne-eqb, eqb-true}
-use Rattle.graph.specs.Lists.{filter}
+use Rattle.graph.specs.Lists.{selected}
 use Rattle.graph.specs.Members.{In}
-use Rattle.graph.specs.ListLaws.{compared, first-of, last-of, true-test, is-true, equal-three, three-equal, filter-in, in-filter, filter-none, only-one, distinct-filter}
+use Rattle.graph.specs.ListLaws.{compared, first-of, last-of, true-test, is-true, equal-three, three-equal, selected-in, in-selected, selected-none, only-one, distinct-selected}
 use Rattle.rule.specs.Words.{wordsOf}
 use Rattle.rule.specs.Records.{HalfLink, halfLinkOf}
 use Rattle.rule.specs.Plan.{Plan}
@@ -20,7 +20,7 @@ use Rattle.rule.specs.OneRecord.{distinct-half-links}
 use Rattle.rule.specs.LinkLaws.{one-half}
 use Rattle.table.specs.declared.shape.Shape.{Shape}
 use Rattle.table.specs.Positions.{halfLinksFrom, planAt}
-use Rattle.table.specs.PositionLaws.{record-in, in-records, pairwise-records}
+use Rattle.table.specs.PositionLaws.{record-in, in-records, every-two-records}
 use Rattle.index.specs.Places.{last-within, last-passes, none-passes}
 use Rattle.index.specs.Index.{keyAt, holds, otherPlace}
 use Rattle.links.specs.Mates.{Checked, halfLinkAt, metricWith, linkMetric}
@@ -32,11 +32,11 @@ pub one-mate :
     (h m : HalfLink) →
     In m (p .halfLinks) →
     T (mates h m) →
-    filter (mates h) (p .halfLinks) ≡ m ∷ []
+    selected (mates h) (p .halfLinks) ≡ m ∷ []
 one-mate p L h m i t =
-    only-one (filter (mates h) (p .halfLinks)) m (distinct-filter (mates h) (p .halfLinks) (distinct-half-links p L))
-    (in-filter (mates h) m (p .halfLinks) i t)
-    λ k j. same k (filter-in (mates h) k (p .halfLinks) j)
+    only-one (selected (mates h) (p .halfLinks)) m (distinct-selected (mates h) (p .halfLinks) (distinct-half-links p L))
+    (in-selected (mates h) m (p .halfLinks) i t)
+    λ k j. same k (selected-in (mates h) k (p .halfLinks) j)
   where
     says : (k : HalfLink) → T (mates h k) → (h .link ≡ k .link) × (h .near ≡ k .far) × (h .far ≡ k .near)
     says k = three-equal (h .link) (k .link) (h .near) (k .far) (h .far) (k .near)
@@ -49,16 +49,16 @@ pub mates-at-most-one :
     (p : Plan) →
     PlanLaws p →
     (h : HalfLink) →
-    (filter (mates h) (p .halfLinks) ≡ []) ⊎ ((m : HalfLink) × (filter (mates h) (p .halfLinks) ≡ m ∷ []))
-mates-at-most-one p L h = go (filter (mates h) (p .halfLinks)) refl
+    (selected (mates h) (p .halfLinks) ≡ []) ⊎ ((m : HalfLink) × (selected (mates h) (p .halfLinks) ≡ m ∷ []))
+mates-at-most-one p L h = go (selected (mates h) (p .halfLinks)) refl
   where
     go :
         (ms : List HalfLink) →
-        filter (mates h) (p .halfLinks) ≡ ms →
-        (filter (mates h) (p .halfLinks) ≡ []) ⊎ ((m : HalfLink) × (filter (mates h) (p .halfLinks) ≡ m ∷ []))
+        selected (mates h) (p .halfLinks) ≡ ms →
+        (selected (mates h) (p .halfLinks) ≡ []) ⊎ ((m : HalfLink) × (selected (mates h) (p .halfLinks) ≡ m ∷ []))
     go [] e = inl e
     go (m ∷ ms) e =
-        let r = filter-in (mates h) m (p .halfLinks) (subst (λ (t : List HalfLink). In m t) (sym e) (inl refl))
+        let r = selected-in (mates h) m (p .halfLinks) (subst (λ (t : List HalfLink). In m t) (sym e) (inl refl))
         in inr (m, one-mate p L h m (r .0) (r .1))
 
 -- By the index: the other place of the link number.
@@ -83,7 +83,7 @@ module _ {t links : List ℕ} {s : Shape} (C : Checked t links s) where
   mated-at i j h l d e = go (compared i j)
     where
       earlier : (i j : ℕ) → i < j → j < n → Mirrors (at i) (at j)
-      earlier = pairwise-records halfLinkOf 3 (halfLinksFrom s) ws Mirrors n (C .laws .half-links .mirrored)
+      earlier = every-two-records halfLinkOf 3 (halfLinksFrom s) ws Mirrors n (C .laws .half-links .mirrored)
 
       go : (i < j) ⊎ (i ≡ j) ⊎ (j < i) → T (mates (at i) (at j))
       go (inl b) =
@@ -113,15 +113,15 @@ module _ {t links : List ℕ} {s : Shape} (C : Checked t links s) where
     says-other k l d e =
         rw (eq-eqb (keyAt links k) (keyAt links i) (C .by-number .keys k l ∙ e ∙ sym (C .by-number .keys i h)), ne-eqb k i d) refl
 
-    pub has-mate : (j : ℕ) → otherPlace links n (suc i) ≡ suc j → filter (mates (at i)) hs ≡ at j ∷ []
+    pub has-mate : (j : ℕ) → otherPlace links n (suc i) ≡ suc j → selected (mates (at i)) hs ≡ at j ∷ []
     has-mate j e =
         let l : j < n = omega (arith, last-within other n)
         in let o = other-says j l (last-passes other n j e)
         in one-mate (planAt ws s) (C .laws) (at i) (at j) (listed j l) (mated-at i j h l (o .0) (o .1))
 
-    pub has-no-mate : otherPlace links n (suc i) ≡ 0 → filter (mates (at i)) hs ≡ []
+    pub has-no-mate : otherPlace links n (suc i) ≡ 0 → selected (mates (at i)) hs ≡ []
     has-no-mate e =
-        filter-none (mates (at i)) hs λ m k u. none (in-records halfLinkOf 3 (halfLinksFrom s) ws n m k) u
+        selected-none (mates (at i)) hs λ m k u. none (in-records halfLinkOf 3 (halfLinksFrom s) ws n m k) u
       where
         none : {m : HalfLink} → ((k : ℕ) × (k < n) × (m ≡ at k)) → T (mates (at i) m) → ⊥
         none {m} (k, l, f) u =

@@ -4,7 +4,7 @@ use mathlib.Core.List.{List, [], _∷_}
 use mathlib.Core.Bool.{cond}
 use lib.Dec.{ltb}
 use lib.ListN.{length}
-use Rattle.graph.specs.Lists.{filter}
+use Rattle.graph.specs.Lists.{selected}
 use Rattle.rule.specs.Words.{wordsOf}
 use Rattle.rule.specs.Records.{HalfLink, halfLinkOf, unusableMetric}
 use Rattle.rule.specs.Links.{mates, combinedMetric, usableMetric}
@@ -29,7 +29,7 @@ metricWith h [] = unusableMetric
 metricWith h (m ∷ ms) = combinedMetric (h .metric) (m .metric)
 
 abbrev pub linkMetric : List HalfLink → HalfLink → ℕ
-linkMetric hs h = metricWith h (filter (mates h) hs)
+linkMetric hs h = metricWith h (selected (mates h) hs)
 
 -- 1 where the half-link is of a usable link and is seen from its lower bridge.
 abbrev pub counted : List HalfLink → HalfLink → ℕ

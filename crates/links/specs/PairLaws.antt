@@ -10,9 +10,9 @@ use mathlib.Core.Bool.{Bool, true, false, cond}
 use lib.Dec.{T, ltb, ltb→lt, lt→ltb}
 use lib.ListN.{length, getD, set, length-set}
 use lib.Seq.{getD-set-same, getD-set-other}
-use Rattle.graph.specs.Lists.{filter}
+use Rattle.graph.specs.Lists.{selected}
 use Rattle.graph.specs.Members.{In}
-use Rattle.graph.specs.ListLaws.{le-or-gt, compared, same-or-not, in-append, in-left, in-here, true-test, equal-three, three-equal, filter-in}
+use Rattle.graph.specs.ListLaws.{le-or-gt, compared, same-or-not, in-append, in-left, in-here, true-test, equal-three, three-equal, selected-in}
 use Rattle.rule.specs.Words.{wordsOf}
 use Rattle.rule.specs.Records.{HalfLink, halfLinkOf, bridgeOf, unusableMetric}
 use Rattle.rule.specs.Plan.{Plan}
@@ -265,11 +265,11 @@ module _ (p : Plan) (L : PlanLaws p) where
   link-of-metric h i u = go (mates-at-most-one p L h)
     where
       go :
-          (filter (mates h) (p .halfLinks) ≡ []) ⊎ ((m : HalfLink) × (filter (mates h) (p .halfLinks) ≡ m ∷ [])) →
+          (selected (mates h) (p .halfLinks) ≡ []) ⊎ ((m : HalfLink) × (selected (mates h) (p .halfLinks) ≡ m ∷ [])) →
           (l : Link) × Usable (p .halfLinks) l × (l .here ≡ h)
       go (inl e) = absurd (omega (arith, ap (metricWith h) e))
       go (inr (m, e)) =
-          let r = filter-in (mates h) m (p .halfLinks) (subst (λ (t : List HalfLink). In m t) (sym e) (inl refl))
+          let r = selected-in (mates h) m (p .halfLinks) (subst (λ (t : List HalfLink). In m t) (sym e) (inl refl))
           in let s = three-equal (h .link) (m .link) (h .near) (m .far) (h .far) (m .near) (r .1)
           in (
             record { here = h; there = m },

@@ -10,7 +10,7 @@ use lib.ListN.{length}
 use borrow.Author.Tests.{eq-eqb, ne-eqb}
 use Rattle.graph.specs.Lists.{rising}
 use Rattle.graph.specs.Members.{In}
-use Rattle.graph.specs.ListLaws.{flatMap-filter}
+use Rattle.graph.specs.ListLaws.{flatMap-selected}
 use Rattle.graph.specs.Appending.{Appended, appended-nothing, eachOf, AppendingFew, few-ends}
 use Rattle.rule.specs.Words.{wordsOf}
 use Rattle.rule.specs.Records.{Vid}
@@ -47,7 +47,7 @@ module _ (p : Plan) (vid a : ℕ) where
 
   pub all-pairs : eachOf (pairLine p vid a) (length (p .bridges)) ≡ pathLines p vid a
   unfolding pairLine pathLines
-  all-pairs = sym (flatMap-filter (λ b. pathLine vid a b (planPath p vid a b)) (λ b. not (eqb b a)) (rising 0 (length (p .bridges))))
+  all-pairs = sym (flatMap-selected (λ b. pathLine vid a b (planPath p vid a b)) (λ b. not (eqb b a)) (rising 0 (length (p .bridges))))
 
 module _ {t : List ℕ} {s : Shape} {starts neighbours costs identifiers : List ℕ} (L : TableLists t s starts neighbours costs identifiers) where
   pub lists-listed : Listed (s .bridges) starts neighbours costs identifiers

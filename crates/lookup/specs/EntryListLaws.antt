@@ -10,7 +10,7 @@ use mathlib.Core.Bool.{Bool, true, false, _||_, _&&_}
 use lib.Dec.{eqb, ltb}
 use lib.ListN.{length, drop, getElem?, length-drop}
 use borrow.Author.Tests.{lt-ltb, le-ltb}
-use Rattle.graph.specs.Lists.{consIf, filter}
+use Rattle.graph.specs.Lists.{consIf, selected}
 use Rattle.graph.specs.ListLaws.{le-or-gt, drop-next}
 use Rattle.rule.specs.Words.{word, bits}
 use Rattle.rule.specs.Entries.{Entry}
@@ -83,13 +83,13 @@ module _ (vid address : ℕ) where
   ports-step : (ws : List ℕ) (at : ℕ) → 3 ≤ length ws - at
       → matchingPorts (drop at ws) vid address
       ≡ consIf (matchesAt ws vid address at) (entryAt ws at .port) (matchingPorts (drop (at + 3) ws) vid address)
-  unfolding matchingPorts entriesIn filter
+  unfolding matchingPorts entriesIn selected
   ports-step ws at h =
       ap (λ (t : List ℕ). matchingPorts t vid address) (three-words ws at h)
-      ∙ ports-after (entryAt ws at) (filter (λ e. eqb (e .vid) vid && eqb (e .address) address) (entriesIn (drop (at + 3) ws)))
+      ∙ ports-after (entryAt ws at) (selected (λ e. eqb (e .vid) vid && eqb (e .address) address) (entriesIn (drop (at + 3) ws)))
 
   ports-short : (ws : List ℕ) → length ws < 3 → matchingPorts ws vid address ≡ []
-  unfolding matchingPorts entriesIn filter
+  unfolding matchingPorts entriesIn selected
   ports-short [] h = refl
   ports-short (w ∷ []) h = refl
   ports-short (w ∷ upper ∷ []) h = refl

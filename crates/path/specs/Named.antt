@@ -9,9 +9,9 @@ use mathlib.Core.Bool.{Bool, true, false, cond, _&&_}
 use lib.Dec.{ltb}
 use lib.ListN.{length, getElem?}
 use borrow.Author.Tests.{ltb-true, lt-ltb, le-ltb}
-use Rattle.graph.specs.Lists.{filter}
+use Rattle.graph.specs.Lists.{selected}
 use Rattle.graph.specs.Members.{In}
-use Rattle.graph.specs.ListLaws.{filter-in}
+use Rattle.graph.specs.ListLaws.{selected-in}
 use Rattle.rule.specs.Records.{Vid}
 use Rattle.rule.specs.Outcome.{Outcome, refusedAs}
 use Rattle.rule.specs.Plan.{Plan, knownBridge, hasVid, vidRecord}
@@ -36,7 +36,7 @@ module _ (p : Plan) (L : PlanLaws p) (vid : ℕ) where
   -- The record of a VID has an index of a mask.
   index-fits : (v : Vid) → vidRecord p vid ≡ some v → (1 ≤ v .index) × (v .index ≤ 16)
   index-fits v e =
-      let F = L .vids .fits v (filter-in (hasVid vid) v (p .vids) (first-in (filter (hasVid vid) (p .vids)) v e) .0)
+      let F = L .vids .fits v (selected-in (hasVid vid) v (p .vids) (first-in (selected (hasVid vid) (p .vids)) v e) .0)
       in (F .least-index, F .greatest-index)
 
   pub named-fits : (index : ℕ) → index ≡ indexOf (vidRecord p vid) → (index ≡ 0 → ⊥) → (1 ≤ index) × (index ≤ 16)

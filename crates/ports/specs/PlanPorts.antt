@@ -6,7 +6,7 @@ use mathlib.Core.Path.{_≡_, refl, sym, ap, _∙_, subst}
 use mathlib.Core.List.{List}
 use mathlib.Core.Option.{Option, none, some, Option·map}
 use lib.ListN.{length, getD}
-use Rattle.graph.specs.Members.{In, Pairwise}
+use Rattle.graph.specs.Members.{In, EveryTwo}
 use Rattle.graph.specs.ListLaws.{none-not-some}
 use Rattle.rule.specs.Plan.{Plan}
 use Rattle.rule.specs.PlanLaws.{PlanLaws}
@@ -22,7 +22,7 @@ some-one {l} {k} e = let f : l ≡ k = cc in f
 
 -- The ports of a bridge of a plan, rising: those of its hops, all within their range.
 pub record PlanPorts (p : Plan) (b : ℕ) (ports : List ℕ) : Type 0 where
-  pub rises : Pairwise (λ x y. x < y) ports
+  pub rises : EveryTwo (λ x y. x < y) ports
   pub fits : (q : ℕ) → In q ports → (1 ≤ q) × (q ≤ 4095)
   pub all : (u : ℕ) (l : Link) → hopLink (p .halfLinks) b u ≡ some l → In (l .here .port) ports
 

@@ -9,9 +9,9 @@ use mathlib.Core.Logic.{_⊎_, inl, inr}
 use mathlib.Core.Bool.{Bool, true, false, cond, not, _&&_, _||_}
 use lib.Dec.{T, leb, eqb, ltb, le→leb, leb→le, eqb→eq, ltb→lt}
 use lib.ListN.{length, drop, length-append}
-use Rattle.graph.specs.Lists.{filter}
+use Rattle.graph.specs.Lists.{selected}
 use Rattle.graph.specs.Members.{In}
-use Rattle.graph.specs.ListLaws.{le-or-gt, first-of, last-of, equal-two, two-equal, equal-three, either-left, either-right, passes, eq-eqb, in-append, in-left, filter-in, in-filter, any-in, in-any, pairwise-end, first-in, none-not-some}
+use Rattle.graph.specs.ListLaws.{le-or-gt, first-of, last-of, equal-two, two-equal, equal-three, either-left, either-right, passes, eq-eqb, in-append, in-left, selected-in, in-selected, any-in, in-any, every-two-end, first-in, none-not-some}
 use Rattle.rule.specs.Words.{wordsOf, bits}
 use Rattle.rule.specs.Records.{Bridge, HalfLink, Vid, Member, Record, bridge, halfLink, vid, member, end, address, endCount, Layout, Range, inLimits, bridgeOf, halfLinkOf, vidOf, memberOf, layouts, layoutOf, bridgeLayout, halfLinkLayout, vidLayout, memberLayout}
 use Rattle.rule.specs.Outcome.{Outcome, answered, refused, refusedAs}
@@ -106,7 +106,7 @@ module _ (p : Plan) (L : PlanLaws p) where
   with-bridge b l s f = record {
     bridges = record {
       few = omega (arith, longer (p .bridges) b);
-      apart = pairwise-end BridgesApart (p .bridges) b (L .bridges .apart) apart;
+      apart = every-two-end BridgesApart (p .bridges) b (L .bridges .apart) apart;
       fits = each-end BridgeFits (p .bridges) b (L .bridges .fits) s;
     };
     half-links = half-links-still (length (p .bridges)) (length (p .bridges ++ (b ∷ []))) (p .halfLinks) more (L .half-links);
@@ -131,8 +131,8 @@ module _ (p : Plan) (L : PlanLaws p) where
 
   -- A second half-link of a link number mirrors the first; a third is refused.
   mirrors : (h : HalfLink) → (T (wrongLink p (halfLink h)) → ⊥) → (e : HalfLink) → In e (p .halfLinks) → Mirrors e h
-  mirrors h f e k i = go (filter (λ e. eqb (e .link) (h .link)) (p .halfLinks)) f
-      (in-filter (λ e. eqb (e .link) (h .link)) e (p .halfLinks) k (eq-eqb (e .link) (h .link) i))
+  mirrors h f e k i = go (selected (λ e. eqb (e .link) (h .link)) (p .halfLinks)) f
+      (in-selected (λ e. eqb (e .link) (h .link)) e (p .halfLinks) k (eq-eqb (e .link) (h .link) i))
     where
       mirror : (e′ : HalfLink) → e ≡ e′ → T (eqb (h .near) (e′ .far) && eqb (h .far) (e′ .near)) → (h .near ≡ e .far) × (h .far ≡ e .near)
       mirror e′ i t = rw i (two-equal (h .near) (e′ .far) (h .far) (e′ .near) t)
@@ -147,8 +147,8 @@ module _ (p : Plan) (L : PlanLaws p) where
   with-half-link h s f w = record {
     bridges = L .bridges;
     half-links = record {
-      apart = pairwise-end PortsApart (p .halfLinks) h (L .half-links .apart) apart;
-      mirrored = pairwise-end Mirrors (p .halfLinks) h (L .half-links .mirrored) (mirrors h w);
+      apart = every-two-end PortsApart (p .halfLinks) h (L .half-links .apart) apart;
+      mirrored = every-two-end Mirrors (p .halfLinks) h (L .half-links .mirrored) (mirrors h w);
       fits = each-end (HalfLinkFits (length (p .bridges))) (p .halfLinks) h (L .half-links .fits) s;
     };
     vids = L .vids;
@@ -165,7 +165,7 @@ module _ (p : Plan) (L : PlanLaws p) where
     half-links = L .half-links;
     vids = record {
       few = omega (arith, longer (p .vids) v);
-      apart = pairwise-end VidsApart (p .vids) v (L .vids .apart) apart;
+      apart = every-two-end VidsApart (p .vids) v (L .vids .apart) apart;
       fits = each-end VidFits (p .vids) v (L .vids .fits) s;
     };
     members = members-still (length (p .bridges)) (length (p .bridges)) (p .vids) (p .vids ++ (v ∷ [])) (p .members) (omega arith)
@@ -183,7 +183,7 @@ module _ (p : Plan) (L : PlanLaws p) where
     vids = L .vids;
     members = record {
       few = omega (arith, longer (p .members) m);
-      apart = pairwise-end MembersApart (p .members) m (L .members .apart) apart;
+      apart = every-two-end MembersApart (p .members) m (L .members .apart) apart;
       fits = each-end (MemberFits (length (p .bridges)) (p .vids)) (p .members) m (L .members .fits) s;
     };
   }
@@ -300,7 +300,7 @@ end-leaves p (end k) n e = refl
 
 row-listed : (k : ℕ) (l : Layout) → layoutOf k ≡ some l → In l layouts
 unfolding layoutOf
-row-listed k l e = filter-in (λ l. eqb k (l .kind)) l layouts (first-in (filter (λ l. eqb k (l .kind)) layouts) l e) .0
+row-listed k l e = selected-in (λ l. eqb k (l .kind)) l layouts (first-in (selected (λ l. eqb k (l .kind)) layouts) l e) .0
 
 not-answered : {number : ℕ} {kind : Option ℕ} {at : ℕ} {p : Plan} → refused number kind at ≡ answered p → ⊥
 not-answered {number} {kind} {at} {p} e = let z : _≡_ {A = ℕ} 0 1 = cc in omega arith

@@ -9,9 +9,9 @@ use mathlib.Core.Logic.{_⊎_, inl, inr}
 use mathlib.Core.Bool.{true, false, cond, _&&_}
 use lib.Dec.{eqb, leb, le→leb, leb→le, lt→ltb, eqb→eq}
 use lib.ListN.{length, getElem?, drop-of-length-le}
-use Rattle.graph.specs.Lists.{filter}
+use Rattle.graph.specs.Lists.{selected}
 use Rattle.graph.specs.Members.{In}
-use Rattle.graph.specs.ListLaws.{le-or-gt, both, is-true, is-false, eq-eqb, filter-in, in-filter, distinct-filter, only-one}
+use Rattle.graph.specs.ListLaws.{le-or-gt, both, is-true, is-false, eq-eqb, selected-in, in-selected, distinct-selected, only-one}
 use Rattle.rule.specs.Records.{Vid}
 use Rattle.rule.specs.Outcome.{Outcome, answered, refused, andThen, refusedAs, Written, overwritten, lentTo}
 use Rattle.rule.specs.Plan.{Plan, knownBridge, vidRecord}
@@ -73,10 +73,10 @@ module _ (p : Plan) where
 
   -- The record of a VID of the plan.
   pub vid-found : PlanLaws p → (v : Vid) → In v (p .vids) → vidRecord p (v .vid) ≡ some v
-  vid-found L v k = ap (λ (vs : List Vid). getElem? vs 0) (only-one (filter (λ w. eqb (w .vid) (v .vid)) (p .vids)) v
-      (distinct-filter (λ w. eqb (w .vid) (v .vid)) (p .vids) (distinct-vids p L))
-      (in-filter (λ w. eqb (w .vid) (v .vid)) v (p .vids) k (eq-eqb (v .vid) (v .vid) refl))
-      (λ w i. let r = filter-in (λ w. eqb (w .vid) (v .vid)) w (p .vids) i in one-vid p L w v (r .0) k (eqb→eq (w .vid) (v .vid) (r .1))))
+  vid-found L v k = ap (λ (vs : List Vid). getElem? vs 0) (only-one (selected (λ w. eqb (w .vid) (v .vid)) (p .vids)) v
+      (distinct-selected (λ w. eqb (w .vid) (v .vid)) (p .vids) (distinct-vids p L))
+      (in-selected (λ w. eqb (w .vid) (v .vid)) v (p .vids) k (eq-eqb (v .vid) (v .vid) refl))
+      (λ w i. let r = selected-in (λ w. eqb (w .vid) (v .vid)) w (p .vids) i in one-vid p L w v (r .0) k (eqb→eq (w .vid) (v .vid) (r .1))))
 
 module _ (t : List ℕ) (p : Plan) (accepted : verdict t ≡ answered p) (L : PlanLaws p) where
   pub path-asked : (v : Vid) → In v (p .vids) → (a b : ℕ) → a < length (p .bridges) → b < length (p .bridges)

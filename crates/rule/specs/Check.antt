@@ -6,7 +6,7 @@ use mathlib.Core.Option.{Option, none, some}
 use mathlib.Core.Bool.{Bool, true, false, not, cond, _&&_, _||_}
 use lib.Dec.{eqb, leb, ltb}
 use lib.ListN.{length, drop}
-use Rattle.graph.specs.Lists.{filter, any}
+use Rattle.graph.specs.Lists.{selected, anyPasses}
 use Rattle.rule.specs.Words.{wordsOf, bits}
 use Rattle.rule.specs.Records.{Bridge, HalfLink, Member, Record, bridge, halfLink, vid, member, end, address, endCount, Layout, layoutOf, Range, inLimits}
 use Rattle.rule.specs.Outcome.{Outcome, answered, refused, refusedIf}
@@ -18,7 +18,7 @@ badLength n = eqb n 0 || ltb 7492 n || not (eqb (n % 4) 0)
 
 -- 6. "A value is outside its range, or the end count is wrong": the count is of the words before the end record.
 abbrev pub outsideRange : List Range → List ℕ → Bool
-outsideRange ranges r = any (λ g. not (inLimits (g .limits) (g .value r))) ranges
+outsideRange ranges r = anyPasses (λ g. not (inLimits (g .limits) (g .value r))) ranges
 
 abbrev pub wrongEndCount : ℕ → Option ℕ → Bool
 wrongEndCount at none = false
@@ -44,10 +44,10 @@ abbrev pub repeatsMember : Member → Member → Bool
 repeatsMember m e = eqb (e .bridge) (m .bridge) && eqb (e .isid) (m .isid) && eqb (e .vid) (m .vid)
 
 abbrev pub repeated : Plan → Record → Bool
-repeated p (bridge b) = any (repeatsBridge b) (p .bridges)
-repeated p (halfLink h) = any (repeatsPort h) (p .halfLinks)
+repeated p (bridge b) = anyPasses (repeatsBridge b) (p .bridges)
+repeated p (halfLink h) = anyPasses (repeatsPort h) (p .halfLinks)
 repeated p (vid v) = knownVid p (v .vid)
-repeated p (member m) = any (repeatsMember m) (p .members)
+repeated p (member m) = anyPasses (repeatsMember m) (p .members)
 repeated p (end n) = false
 
 -- 9. "It is a third half-link of a link number, or the second and no mirror of the first": `earlier` are the half-links before
@@ -65,7 +65,7 @@ hasLink n h = eqb (h .link) n
 
 abbrev pub wrongLink : Plan → Record → Bool
 wrongLink p (bridge b) = false
-wrongLink p (halfLink h) = wrongHalf h (filter (hasLink (h .link)) (p .halfLinks))
+wrongLink p (halfLink h) = wrongHalf h (selected (hasLink (h .link)) (p .halfLinks))
 wrongLink p (vid v) = false
 wrongLink p (member m) = false
 wrongLink p (end n) = false
@@ -117,34 +117,34 @@ abbrev pub kindConcerned : ℕ → ℕ → Option ℕ
 kindConcerned number kind = cond (eqb number 2) none (some kind)
 
 -- What reading one record comes to: reading goes on, or the verdict is known.
-pub data Step : Type 0 where
-  goesOn : Reading → Step
-  stops : Outcome Plan → Step
+pub data ReadingStep : Type 0 where
+  goesOn : Reading → ReadingStep
+  stops : Outcome Plan → ReadingStep
 
 -- A record without a fault is taken into the plan, or ends the table: "A table is accepted when none of 1 to 10 applies to it."
-abbrev pub taken : Reading → Layout → Record → Option ℕ → Step
+abbrev pub taken : Reading → Layout → Record → Option ℕ → ReadingStep
 taken s l e none = goesOn (record { at = s .at + l .words; last = l .kind; plan = withRecord (s .plan) e })
 taken s l e (some count) = stops (answered (s .plan))
 
-abbrev pub judged : Reading → Layout → List ℕ → Option ℕ → Step
+abbrev pub judged : Reading → Layout → List ℕ → Option ℕ → ReadingStep
 judged s l r none = taken s l (l .decoded r) (endCount (l .decoded r))
 judged s l r (some number) = stops (refused number (kindConcerned number (l .kind)) (s .at))
 
 -- "2. The kind is unknown": of such a record nothing else can be said.
-abbrev pub readAs : Reading → List ℕ → Option Layout → Step
+abbrev pub readAs : Reading → List ℕ → Option Layout → ReadingStep
 readAs s r none = stops (refused 2 none (s .at))
 readAs s r (some l) = judged s l r (lowestFault (faults s l r))
 
 -- Of no words: "for a missing end record kind is none and the word is the number of words".
-abbrev pub readFrom : ℕ → Reading → List ℕ → Step
+abbrev pub readFrom : ℕ → Reading → List ℕ → ReadingStep
 readFrom total s [] = stops (refused 3 none total)
 readFrom total s (w ∷ r) = readAs s (w ∷ r) (layoutOf (bits w 31 28))
 
 -- "Each record is read from the part of the table that starts at its first word."
-abbrev pub stepOf : List ℕ → Reading → Step
+abbrev pub stepOf : List ℕ → Reading → ReadingStep
 stepOf ws s = readFrom (length ws) s (drop (s .at) ws)
 
-abbrev pub after : (Reading → Outcome Plan) → Step → Outcome Plan
+abbrev pub after : (Reading → Outcome Plan) → ReadingStep → Outcome Plan
 after next (goesOn s) = next s
 after next (stops o) = o
 

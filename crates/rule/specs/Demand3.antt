@@ -7,7 +7,7 @@ use mathlib.Core.List.{List, [], _∷_, _++_, map, reverse}
 use mathlib.Core.Bool.{true}
 use lib.Dec.{T}
 use lib.ListN.{length}
-use Rattle.graph.specs.Members.{In, times}
+use Rattle.graph.specs.Members.{In, occurrences}
 use Rattle.graph.specs.Order.{Lower}
 use Rattle.graph.specs.Graph.{cost, hops, pathId}
 use Rattle.rule.specs.Records.{HalfLink, Vid, Member, address}
@@ -187,7 +187,7 @@ module _ (s : Setting) where
       Receives m r →
       (q : List ℕ) →
       ChainIn (m .bridge) (r .bridge) q →
-      times (r .bridge) (reached (copiesOf m) (m .bridge) n) ≡ 1)
+      occurrences (r .bridge) (reached (copiesOf m) (m .bridge) n) ≡ 1)
       × (copies (copiesOf m) (m .bridge) n ≡ [])
 
   -- "It reaches no bridge twice and never comes back to its sender": for every number of rounds.
@@ -196,8 +196,8 @@ module _ (s : Setting) where
       (m : Member) →
       Transmits m →
       (n : ℕ) →
-      ((u : ℕ) → times u (reached (copiesOf m) (m .bridge) n) ≤ 1)
-      × (times (m .bridge) (reached (copiesOf m) (m .bridge) n) ≡ 0)
+      ((u : ℕ) → occurrences u (reached (copiesOf m) (m .bridge) n) ≤ 1)
+      × (occurrences (m .bridge) (reached (copiesOf m) (m .bridge) n) ≡ 0)
 
   -- The arrival-port check for the copies of a group frame: at each bridge that a copy enters, the entry for the sender names the
   -- arrival port. More than the demand says; the check of documents 000 and 002 asks it of group frames too.

@@ -6,7 +6,7 @@ use mathlib.Core.Option.{Option, none, some, Option·map}
 use mathlib.Core.Bool.{Bool, not, cond, _&&_}
 use lib.Dec.{eqb}
 use lib.ListN.{length}
-use Rattle.graph.specs.Lists.{rising, filter, any}
+use Rattle.graph.specs.Lists.{rising, selected, anyPasses}
 use Rattle.rule.specs.Records.{HalfLink, Vid, Member, address, allWithin, portLimits}
 use Rattle.rule.specs.Plan.{Plan, bridgeAt}
 use Rattle.rule.specs.Links.{hopLink}
@@ -55,7 +55,7 @@ unfoldable pub individualEntries : Plan → Vid → ℕ → List Entry
 individualEntries p v b =
     flatMap
     (λ d. map (individualEntry p v d) (portsOf (firstPort (p .halfLinks)) (chosenPath p (v .index) b d)))
-    (filter (λ d. not (eqb d b)) (rising 0 (length (p .bridges))))
+    (selected (λ d. not (eqb d b)) (rising 0 (length (p .bridges))))
 
 -- "The group address, first octet first: top 4 bits of SPsourceID then hexadecimal 3; the other 16 bits of SPsourceID; the 24 bits
 -- of I-SID."
@@ -71,11 +71,11 @@ receives m r = r .receives && eqb (r .isid) (m .isid) && eqb (r .vid) (m .vid) &
 unfoldable pub receiverPorts : Plan → Vid → ℕ → List Member → Member → List ℕ
 receiverPorts p v b ms m =
     flatMap (λ r. portsOf (leavingPort (p .halfLinks) b) (chosenPath p (v .index) (m .bridge) (r .bridge)))
-    (filter (receives m) ms)
+    (selected (receives m) ms)
 
 -- "ports rising: a port is listed as soon as one receiver behind it is found".
 unfoldable pub listedPorts : List ℕ → List ℕ
-listedPorts behind = filter (λ port. any (λ q. eqb q port) behind) (allWithin portLimits)
+listedPorts behind = selected (λ port. anyPasses (λ q. eqb q port) behind) (allWithin portLimits)
 
 abbrev pub groupEntry : Plan → Vid → Member → ℕ → Entry
 groupEntry p v m port =
@@ -91,7 +91,7 @@ groupEntry p v m port =
 unfoldable pub groupEntries : Plan → Vid → ℕ → List Member → List Entry
 groupEntries p v b ms =
     flatMap (λ m. map (groupEntry p v m) (listedPorts (receiverPorts p v b ms m)))
-    (filter (λ m. m .transmits && eqb (m .vid) (v .vid)) ms)
+    (selected (λ m. m .transmits && eqb (m .vid) (v .vid)) ms)
 
 -- "For a bridge, VID by VID in record order."
 unfoldable pub entriesOf : Plan → ℕ → List Entry

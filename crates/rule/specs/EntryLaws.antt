@@ -9,9 +9,9 @@ use mathlib.Core.Logic.{_⊎_, inl, inr}
 use mathlib.Core.Bool.{Bool, true, not, _&&_}
 use lib.Dec.{T, eqb, eqb→eq, T-not, not-T}
 use lib.ListN.{length}
-use Rattle.graph.specs.Lists.{rising, filter, any}
+use Rattle.graph.specs.Lists.{rising, selected, anyPasses}
 use Rattle.graph.specs.Members.{In, Distinct}
-use Rattle.graph.specs.ListLaws.{both, first-of, last-of, equal-three, three-equal, is-true, true-test, eq-eqb, in-append, map-in, flatMap-in, filter-in, in-filter, any-in, in-any, in-rising, rising-in, distinct-filter, distinct-rising, filter-none, filter-append, filter-flatMap, filter-flatMap-only, flatMap-only, map-back}
+use Rattle.graph.specs.ListLaws.{both, first-of, last-of, equal-three, three-equal, is-true, true-test, eq-eqb, in-append, map-in, flatMap-in, selected-in, in-selected, any-in, in-any, in-rising, rising-in, distinct-selected, distinct-rising, selected-none, selected-append, selected-flatMap, selected-flatMap-only, flatMap-only, map-back}
 use Rattle.rule.specs.Records.{HalfLink, Vid, Member, address, groupBit}
 use Rattle.rule.specs.Plan.{Plan, bridgeAt}
 use Rattle.rule.specs.Links.{Link, hopLink}
@@ -87,19 +87,19 @@ module _ (hs : List HalfLink) where
 pub listed-port : (behind : List ℕ) (port : ℕ) → In port (listedPorts behind) → (1 ≤ port) × (port ≤ 4095) × In port behind
 unfolding listedPorts
 listed-port behind port k =
-    let r = filter-in (λ port. any (λ q. eqb q port) behind) port _ k in
+    let r = selected-in (λ port. anyPasses (λ q. eqb q port) behind) port _ k in
     let s = rising-in _ _ port (r .0) in
     let (q, i, j) = any-in (λ q. eqb q port) behind (r .1) in
     (s .0, omega (arith, s .1), subst (λ (z : ℕ). In z behind) (eqb→eq q port j) i)
 
 pub distinct-ports : (behind : List ℕ) → Distinct (listedPorts behind)
 unfolding listedPorts
-distinct-ports behind = distinct-filter (λ port. any (λ q. eqb q port) behind) _ (distinct-rising _ _)
+distinct-ports behind = distinct-selected (λ port. anyPasses (λ q. eqb q port) behind) _ (distinct-rising _ _)
 
 pub port-listed : (behind : List ℕ) (port : ℕ) → 1 ≤ port → port ≤ 4095 → In port behind → In port (listedPorts behind)
 unfolding listedPorts
 port-listed behind port l g k =
-    in-filter (λ port. any (λ q. eqb q port) behind) port _ (in-rising _ _ port l (omega arith))
+    in-selected (λ port. anyPasses (λ q. eqb q port) behind) port _ (in-rising _ _ port l (omega arith))
     (in-any (λ q. eqb q port) port behind k (eq-eqb port port refl))
 
 -- "another bridge with R in the same I-SID and VID".
@@ -138,7 +138,7 @@ says-matches kind vid addr e i j k = equal-three (e .kind) kind (e .vid) vid (e 
 module _ (p : Plan) (v : Vid) (b : ℕ) where
   -- The other bridges by number, and the ports of the entry for one of them: one, or none where no path leads there.
   abbrev pub others : List ℕ
-  others = filter (λ d. not (eqb d b)) (rising 0 (length (p .bridges)))
+  others = selected (λ d. not (eqb d b)) (rising 0 (length (p .bridges)))
 
   abbrev pub portsTo : ℕ → List ℕ
   portsTo d = portsOf (firstPort (p .halfLinks)) (chosenPath p (v .index) b d)
@@ -162,11 +162,11 @@ module _ (p : Plan) (v : Vid) (b : ℕ) where
   group-says : (e : Entry) → In e (groupEntries p v b (p .members))
       → (m : Member) × (port : ℕ) × In m (p .members) × T (transmits m) × In port (portsBehind m) × (e ≡ groupEntry p v m port)
   unfolding groupEntries
-  group-says e k = go (flatMap-in (λ m. map (groupEntry p v m) (portsBehind m)) e (filter transmits (p .members)) k)
+  group-says e k = go (flatMap-in (λ m. map (groupEntry p v m) (portsBehind m)) e (selected transmits (p .members)) k)
     where
-      go : ((m : Member) × In m (filter transmits (p .members)) × In e (map (groupEntry p v m) (portsBehind m)))
+      go : ((m : Member) × In m (selected transmits (p .members)) × In e (map (groupEntry p v m) (portsBehind m)))
           → (m : Member) × (port : ℕ) × In m (p .members) × T (transmits m) × In port (portsBehind m) × (e ≡ groupEntry p v m port)
-      go (m, i, j) = let (port, k, f) = map-in (groupEntry p v m) e (portsBehind m) j in let r = filter-in transmits m (p .members) i in
+      go (m, i, j) = let (port, k, f) = map-in (groupEntry p v m) e (portsBehind m) j in let r = selected-in transmits m (p .members) i in
           (m, port, r .0, r .1, k, f)
 
 -- The words of a bridge give its entries back
@@ -183,7 +183,7 @@ module _ (p : Plan) (L : PlanLaws p) where
 
   individual-fits : (v : Vid) (b : ℕ) → VidFits v → (e : Entry) → In e (individualEntries p v b) → EntryFits e
   individual-fits v b F e k = let (d, port, i, j, f) = individual-says p v b e k in
-      let l = rising-in 0 (length (p .bridges)) d (filter-in (λ d. not (eqb d b)) d (rising 0 (length (p .bridges))) i .0) in
+      let l = rising-in 0 (length (p .bridges)) d (selected-in (λ d. not (eqb d b)) d (rising 0 (length (p .bridges))) i .0) in
       let g = L .bridges .fits (bridgeAt p d) (listed-bridge p L d (omega (arith, l .1))) .individual in
       subst (λ (z : Entry). EntryFits z) (sym f)
       (record {
@@ -222,20 +222,20 @@ module _ (p : Plan) (L : PlanLaws p) where
 
   -- What is read from the words of a bridge.
   entries-read : (kind vid addr b : ℕ)
-      → entryPorts kind vid addr (entryListOf p b) ≡ map (λ e. e .port) (filter (matches kind vid addr) (entriesOf p b))
+      → entryPorts kind vid addr (entryListOf p b) ≡ map (λ e. e .port) (selected (matches kind vid addr) (entriesOf p b))
   unfolding entryPorts entryListOf
-  entries-read kind vid addr b = ap (λ (es : List Entry). map (λ e. e .port) (filter (matches kind vid addr) es))
+  entries-read kind vid addr b = ap (λ (es : List Entry). map (λ e. e .port) (selected (matches kind vid addr) es))
       (entries-decoded (entriesOf p b) (entry-fits b))
 
   -- With a VID of the plan the entries are those of that VID.
   entries-of-vid : (kind addr b : ℕ) (v : Vid) → In v (p .vids)
-      → filter (matches kind (v .vid) addr) (entriesOf p b)
-      ≡ filter (matches kind (v .vid) addr) (individualEntries p v b) ++ filter (matches kind (v .vid) addr) (groupEntries p v b (p .members))
+      → selected (matches kind (v .vid) addr) (entriesOf p b)
+      ≡ selected (matches kind (v .vid) addr) (individualEntries p v b) ++ selected (matches kind (v .vid) addr) (groupEntries p v b (p .members))
   unfolding entriesOf
   entries-of-vid kind addr b v k =
-      filter-flatMap (matches kind (v .vid) addr) entriesFor (p .vids)
-      ∙ flatMap-only (λ w. filter (matches kind (v .vid) addr) (entriesFor w)) v (p .vids) (distinct-vids p L) k other
-      ∙ filter-append (matches kind (v .vid) addr) (individualEntries p v b) (groupEntries p v b (p .members))
+      selected-flatMap (matches kind (v .vid) addr) entriesFor (p .vids)
+      ∙ flatMap-only (λ w. selected (matches kind (v .vid) addr) (entriesFor w)) v (p .vids) (distinct-vids p L) k other
+      ∙ selected-append (matches kind (v .vid) addr) (individualEntries p v b) (groupEntries p v b (p .members))
     where
       entriesFor : Vid → List Entry
       entriesFor w = individualEntries p w b ++ groupEntries p w b (p .members)
@@ -244,8 +244,8 @@ module _ (p : Plan) (L : PlanLaws p) where
       vid-of w e (inl k) = let (d, port, i, j, f) = individual-says p w b e k in ap (λ (z : Entry). z .vid) f
       vid-of w e (inr k) = let (m, port, i, t, j, f) = group-says p w b e k in ap (λ (z : Entry). z .vid) f
 
-      other : (w : Vid) → In w (p .vids) → (w ≡ v → ⊥) → filter (matches kind (v .vid) addr) (entriesFor w) ≡ []
-      other w i n = filter-none (matches kind (v .vid) addr) (entriesFor w) (λ e j t.
+      other : (w : Vid) → In w (p .vids) → (w ≡ v → ⊥) → selected (matches kind (v .vid) addr) (entriesFor w) ≡ []
+      other w i n = selected-none (matches kind (v .vid) addr) (entriesFor w) (λ e j t.
           n (one-vid p L w v i k (sym (vid-of w e (in-append e (individualEntries p w b) (groupEntries p w b (p .members)) j))
           ∙ matches-says kind (v .vid) addr e t .1)))
 
@@ -262,17 +262,17 @@ module _ (p : Plan) (L : PlanLaws p) where
       test : Entry → Bool
       test = matches 8 (v .vid) (address (bridgeAt p d))
 
-      no-group : filter test (groupEntries p v b (p .members)) ≡ []
-      no-group = filter-none test (groupEntries p v b (p .members)) (λ e i t. let (m, port, j, s, h, f) = group-says p v b e i in
+      no-group : selected test (groupEntries p v b (p .members)) ≡ []
+      no-group = selected-none test (groupEntries p v b (p .members)) (λ e i t. let (m, port, j, s, h, f) = group-says p v b e i in
           omega (arith, ap (λ (z : Entry). z .kind) f, matches-says 8 (v .vid) (address (bridgeAt p d)) e t .0))
 
       below : (c : ℕ) → In c (others p v b) → c < length (p .bridges)
-      below c i = omega (arith, rising-in 0 (length (p .bridges)) c (filter-in (λ c. not (eqb c b)) c (rising 0 (length (p .bridges))) i .0) .1)
+      below c i = omega (arith, rising-in 0 (length (p .bridges)) c (selected-in (λ c. not (eqb c b)) c (rising 0 (length (p .bridges))) i .0) .1)
 
-      individual : filter test (individualEntries p v b) ≡ map (individualEntry p v d) (portsTo p v b d)
-      individual = filter-flatMap-only test (λ c. map (individualEntry p v c) (portsTo p v b c)) d (others p v b)
-          (distinct-filter (λ c. not (eqb c b)) (rising 0 (length (p .bridges))) (distinct-rising 0 (length (p .bridges))))
-          (in-filter (λ c. not (eqb c b)) d (rising 0 (length (p .bridges))) (in-rising 0 (length (p .bridges)) d (omega arith) (omega arith))
+      individual : selected test (individualEntries p v b) ≡ map (individualEntry p v d) (portsTo p v b d)
+      individual = selected-flatMap-only test (λ c. map (individualEntry p v c) (portsTo p v b c)) d (others p v b)
+          (distinct-selected (λ c. not (eqb c b)) (rising 0 (length (p .bridges))) (distinct-rising 0 (length (p .bridges))))
+          (in-selected (λ c. not (eqb c b)) d (rising 0 (length (p .bridges))) (in-rising 0 (length (p .bridges)) d (omega arith) (omega arith))
           (not-T (eqb d b) (λ t. n (eqb→eq d b t))))
           (λ e i. let (port, j, f) = map-in (individualEntry p v d) e (portsTo p v b d) i in
           says-matches 8 (v .vid) (address (bridgeAt p d)) e (ap (λ (z : Entry). z .kind) f) (ap (λ (z : Entry). z .vid) f)
@@ -281,9 +281,9 @@ module _ (p : Plan) (L : PlanLaws p) where
           m (one-address p L c d (below c i) l
           (sym (ap (λ (z : Entry). z .address) f) ∙ matches-says 8 (v .vid) (address (bridgeAt p d)) e t .2)))
 
-      joined : filter test (individualEntries p v b) ++ filter test (groupEntries p v b (p .members)) ≡ map (individualEntry p v d) (portsTo p v b d)
-      joined = ap (λ (es : List Entry). filter test (individualEntries p v b) ++ es) no-group
-          ∙ append-nil (filter test (individualEntries p v b)) ∙ individual
+      joined : selected test (individualEntries p v b) ++ selected test (groupEntries p v b (p .members)) ≡ map (individualEntry p v d) (portsTo p v b d)
+      joined = ap (λ (es : List Entry). selected test (individualEntries p v b) ++ es) no-group
+          ∙ append-nil (selected test (individualEntries p v b)) ∙ individual
 
   -- The entries of kind 9 with the VID and the group address of a transmitting member have the ports listed for it.
   pub group-ports : (v : Vid) (b : ℕ) (m : Member) → In v (p .vids) → In m (p .members) → m .transmits ≡ true → m .vid ≡ v .vid
@@ -292,7 +292,7 @@ module _ (p : Plan) (L : PlanLaws p) where
   group-ports v b m k i t e =
       entries-read 9 (v .vid) addr b
       ∙ ap (map (λ e. e .port)) (entries-of-vid 9 addr b v k
-      ∙ ap (λ (es : List Entry). es ++ filter test (groupEntries p v b (p .members))) no-individual ∙ group)
+      ∙ ap (λ (es : List Entry). es ++ selected test (groupEntries p v b (p .members))) no-individual ∙ group)
       ∙ map-back (groupEntry p v m) (λ e. e .port) (λ port. refl) (portsBehind p v b m)
     where
       addr : ℕ
@@ -301,8 +301,8 @@ module _ (p : Plan) (L : PlanLaws p) where
       test : Entry → Bool
       test = matches 9 (v .vid) addr
 
-      no-individual : filter test (individualEntries p v b) ≡ []
-      no-individual = filter-none test (individualEntries p v b) (λ e i t. let (d, port, j, h, f) = individual-says p v b e i in
+      no-individual : selected test (individualEntries p v b) ≡ []
+      no-individual = selected-none test (individualEntries p v b) (λ e i t. let (d, port, j, h, f) = individual-says p v b e i in
           omega (arith, ap (λ (z : Entry). z .kind) f, matches-says 9 (v .vid) addr e t .0))
 
       source : (c : Member) → In c (p .members) → bridgeAt p (c .bridge) .spSourceId ≤ 1048575
@@ -318,16 +318,16 @@ module _ (p : Plan) (L : PlanLaws p) where
           (says .0)) (says .1) (f ∙ sym e)
 
       transmitters : List Member
-      transmitters = filter (transmits p v b) (p .members)
+      transmitters = selected (transmits p v b) (p .members)
 
-      group : filter test (groupEntries p v b (p .members)) ≡ map (groupEntry p v m) (portsBehind p v b m)
-      group = filter-flatMap-only test (λ c. map (groupEntry p v c) (portsBehind p v b c)) m transmitters
-          (distinct-filter (transmits p v b) (p .members) (distinct-members p L))
-          (in-filter (transmits p v b) m (p .members) i
+      group : selected test (groupEntries p v b (p .members)) ≡ map (groupEntry p v m) (portsBehind p v b m)
+      group = selected-flatMap-only test (λ c. map (groupEntry p v c) (portsBehind p v b c)) m transmitters
+          (distinct-selected (transmits p v b) (p .members) (distinct-members p L))
+          (in-selected (transmits p v b) m (p .members) i
           (both (m .transmits) (eqb (m .vid) (v .vid)) (true-test (m .transmits) t) (eq-eqb (m .vid) (v .vid) e)))
           (λ e i. let (port, j, f) = map-in (groupEntry p v m) e (portsBehind p v b m) i in
           says-matches 9 (v .vid) addr e (ap (λ (z : Entry). z .kind) f) (ap (λ (z : Entry). z .vid) f) (ap (λ (z : Entry). z .address) f))
           (λ c j n e h t. let (port, k, f) = map-in (groupEntry p v c) e (portsBehind p v b c) h in
-          let r = filter-in (transmits p v b) c (p .members) j in
+          let r = selected-in (transmits p v b) c (p .members) j in
           n (one-address-one-member c (r .0) (eqb→eq (c .vid) (v .vid) (last-of (c .transmits) (eqb (c .vid) (v .vid)) (r .1)))
           (sym (ap (λ (z : Entry). z .address) f) ∙ matches-says 9 (v .vid) addr e t .2)))

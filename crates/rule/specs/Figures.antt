@@ -4,8 +4,8 @@ use Prim.Native.Nat.{ℕ}
 use mathlib.Core.Path.{_≡_, refl}
 use mathlib.Core.List.{List, [], _∷_, map, flatMap}
 use mathlib.Core.Option.{Option, none, some}
-use Rattle.graph.specs.Lists.{rising, filter, any, lowestBy}
-use Rattle.graph.specs.Order.{insert, sorted, lower}
+use Rattle.graph.specs.Lists.{rising, selected, anyPasses, lowestBy}
+use Rattle.graph.specs.Order.{insertUpward, sorted, isLower}
 use Rattle.graph.specs.Graph.{costOnward}
 use Rattle.graph.specs.Chosen.{neighbours, onward, paths, chosen}
 use Rattle.rule.specs.Words.{wordsOf}
@@ -249,5 +249,5 @@ figures =
 figures-hold : map (λ f. shown (f .question)) figures ≡ map (λ f. f .expected) figures
 unfolding wordsOf layoutOf lowestFault readOn verdict linksOf usableLinks countUsable linksBetween hopLink
     maskedBytes maskedIdentifier chosenPath checkOutcome pathAnswer
-    rising filter any lowestBy insert sorted lower costOnward neighbours onward paths chosen flatMap
+    rising selected anyPasses lowestBy insertUpward sorted isLower costOnward neighbours onward paths chosen flatMap
 figures-hold = refl

@@ -9,7 +9,7 @@ use mathlib.Core.Logic.{_⊎_, inl, inr}
 use mathlib.Core.Bool.{cond}
 use lib.Dec.{eqb}
 use lib.ListN.{length, length-reverse}
-use Rattle.graph.specs.Graph.{Path, hops}
+use Rattle.graph.specs.Graph.{IsPath, hops}
 use Rattle.graph.specs.Members.{In, along}
 use Rattle.graph.specs.Notions.{Least, Leaves}
 use Rattle.graph.specs.ListLaws.{eqb-same, eqb-other, nil-not-cons, along-reverse, map-reverse, map-injective}
@@ -55,7 +55,7 @@ module _ (N : Network) where
 
   -- "exactly then a has no entry for b" (demand 3): without a path there is none.
   pub no-path-no-port : (u b : ℕ) → u < size N → b < size N → (b ≡ u → ⊥)
-      → ((q : List ℕ) → Path (graph N) u b q → ⊥) → portsAt u b ≡ []
+      → ((q : List ℕ) → IsPath (graph N) u b q → ⊥) → portsAt u b ≡ []
   no-path-no-port u b l k n f = ports-read u b l k n
       ∙ ap (portsOf (firstPort (links N))) (no-path-is-none (N .plan) (N .laws) (N .vid .index) u b f)
 
@@ -155,7 +155,7 @@ module _ (N : Network) where
       (port-of-hop w c a t (turned l) P (hop-turned (N .plan) (N .laws) c w ∙ ap (Option·map turned) e))
 
   -- Without a path the frame is lost where it starts.
-  lost : (a b n : ℕ) → a < size N → b < size N → (a ≡ b → ⊥) → ((q : List ℕ) → Path (graph N) a b q → ⊥)
+  lost : (a b n : ℕ) → a < size N → b < size N → (a ≡ b → ⊥) → ((q : List ℕ) → IsPath (graph N) a b q → ⊥)
       → crossings (leave b) b n a ≡ []
   unfolding crossings leaves
   lost a b zero h i d f = refl
@@ -174,6 +174,6 @@ module _ (N : Network) where
           let (s, R) = arrival (graph N) (graph-meets N) (key N) a b (a ∷ t) c w (rw e at P) m in
           arrival-named a c w s l R f
 
-      go : ((q : List ℕ) × ChosenFor N a b q) ⊎ ((q : List ℕ) → Path (graph N) a b q → ⊥) → portsAt (to l) a ≡ arrivalPort l ∷ []
+      go : ((q : List ℕ) × ChosenFor N a b q) ⊎ ((q : List ℕ) → IsPath (graph N) a b q → ⊥) → portsAt (to l) a ≡ arrivalPort l ∷ []
       go (inl (q, P)) = on-path q P (chosen-first (graph N) (key N) a b q P)
       go (inr f) = absurd (subst (λ (ls : List Link). In l ls) (lost a b n h i d f) k)

@@ -5,7 +5,7 @@ use mathlib.Core.List.{List, [], _∷_, _++_, map, flatMap}
 use mathlib.Core.Option.{Option, none, some}
 use mathlib.Core.Bool.{cond, _&&_}
 use lib.Dec.{eqb}
-use Rattle.graph.specs.Lists.{filter}
+use Rattle.graph.specs.Lists.{selected}
 use Rattle.rule.specs.Records.{HalfLink}
 use Rattle.rule.specs.Links.{Link, from, to, usableLinks}
 use Rattle.rule.specs.Entries.{listOf}
@@ -21,7 +21,7 @@ module _ {A : Type 0} where
 -- "Leaving a bridge by a port, a frame crosses the usable link whose half-link has that near bridge and port, and enters the far
 -- bridge." "Without such a link the frame is lost."
 unfoldable pub crossed : List HalfLink → ℕ → ℕ → Option Link
-crossed hs u port = only (filter (λ l. eqb (from l) u && eqb (l .here .port) port) (usableLinks hs))
+crossed hs u port = only (selected (λ l. eqb (from l) u && eqb (l .here .port) port) (usableLinks hs))
 
 -- The bridge that is entered is `to` of the link. "The arrival port is the near port of the link's other half-link."
 abbrev pub arrivalPort : Link → ℕ
@@ -31,7 +31,7 @@ arrivalPort l = l .there .port
 unfoldable pub entryPorts : ℕ → ℕ → ℕ → List ℕ → List ℕ
 entryPorts kind vid address ws =
     map (λ e. e .port)
-    (filter (λ e. eqb (e .kind) kind && eqb (e .vid) vid && eqb (e .address) address) (entriesIn ws))
+    (selected (λ e. eqb (e .kind) kind && eqb (e .vid) vid && eqb (e .address) address) (entriesIn ws))
 
 abbrev pub crossedBy : List HalfLink → ℕ → Option ℕ → Option Link
 crossedBy hs u none = none

@@ -6,7 +6,7 @@ use mathlib.Core.List.{List, [], _∷_, _++_, map, flatMap, map-append}
 use mathlib.Core.Logic.{_⊎_, inl, inr}
 use mathlib.Core.Bool.{true}
 use lib.Dec.{T}
-use Rattle.graph.specs.Members.{In, Distinct, times}
+use Rattle.graph.specs.Members.{In, Distinct, occurrences}
 use Rattle.graph.specs.Notions.{Leaves}
 use Rattle.graph.specs.Moves.{copies as roundOf, entered, Feeds, HandsDown}
 use Rattle.graph.specs.ListLaws.{in-map, map-in, flatMap-in, in-append, map-flatMap}
@@ -105,8 +105,8 @@ module _ (N : Network) (m : Member) (of-table : In m (N .plan .members)) (transm
   -- "reaches exactly once every other receiving member of its service to which a path from the sender leads" (demand 3).
   pub reached-once : (r : Member) → In r (N .plan .members) → T (receives m r) → (r .bridge ≡ m .bridge → ⊥) → (q : List ℕ)
       → ChosenFor N (m .bridge) (r .bridge) q → (n : ℕ) → size N ≤ n
-      → times (r .bridge) (reached leaving (m .bridge) n) ≡ 1
-  reached-once r i t d q P n l = ap (times (r .bridge)) (reached-agree leaving (m .bridge) n)
+      → occurrences (r .bridge) (reached leaving (m .bridge) n) ≡ 1
+  reached-once r i t d q P n l = ap (occurrences (r .bridge)) (reached-agree leaving (m .bridge) n)
       ∙ receiver-once (graph N) (key N) (m .bridge) Wanted (graph-meets N) sender-known next hands-down (r .bridge) (r, i, t, refl) d q P n l
 
   -- "With no such entry it ends there" (01, "Frames").
@@ -115,12 +115,12 @@ module _ (N : Network) (m : Member) (of-table : In m (N .plan .members)) (transm
       ∙ no-copy-left (graph N) (key N) (m .bridge) Wanted (graph-meets N) sender-known next hands-down n l
 
   -- "It reaches no bridge twice and never comes back to its sender" (demand 3).
-  pub reached-at-most-once : (n u : ℕ) → times u (reached leaving (m .bridge) n) ≤ 1
-  reached-at-most-once n u = subst (λ (z : List ℕ). times u z ≤ 1) (sym (reached-agree leaving (m .bridge) n))
+  pub reached-at-most-once : (n u : ℕ) → occurrences u (reached leaving (m .bridge) n) ≤ 1
+  reached-at-most-once n u = subst (λ (z : List ℕ). occurrences u z ≤ 1) (sym (reached-agree leaving (m .bridge) n))
       (at-most-once (graph N) (key N) (m .bridge) Wanted (graph-meets N) sender-known next hands-down n u)
 
-  pub sender-not-reached : (n : ℕ) → times (m .bridge) (reached leaving (m .bridge) n) ≡ 0
-  sender-not-reached n = ap (times (m .bridge)) (reached-agree leaving (m .bridge) n)
+  pub sender-not-reached : (n : ℕ) → occurrences (m .bridge) (reached leaving (m .bridge) n) ≡ 0
+  sender-not-reached n = ap (occurrences (m .bridge)) (reached-agree leaving (m .bridge) n)
       ∙ sender-never (graph N) (key N) (m .bridge) Wanted (graph-meets N) sender-known next hands-down n
 
   -- At each bridge that a copy enters, the entry for the sender names the arrival port.

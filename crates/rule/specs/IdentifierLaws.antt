@@ -12,7 +12,7 @@ use lib.Arith.{mod-mul, digits-div}
 use lib.Pow.{mod-mod-pow}
 use lib.Dec.{ltb, ltb→lt}
 use lib.ListN.{getD, List·getD-eq-default}
-use Rattle.graph.specs.Lists.{rising, any}
+use Rattle.graph.specs.Lists.{rising, anyPasses}
 use Rattle.graph.specs.Graph.{KeyLaws}
 use Rattle.graph.specs.ListLaws.{le-or-gt, passes, in-any, place-in}
 use Rattle.rule.specs.Plan.{Plan, bridgeAt}
@@ -89,7 +89,7 @@ masks-by-index = refl
 
 -- Every mask is a byte.
 mask-is-byte : (n : ℕ) → getD masks n 0 < 256
-unfolding any
+unfolding anyPasses
 mask-is-byte n = go (le-or-gt 16 n)
   where
     go : (16 ≤ n) ⊎ (n < 16) → getD masks n 0 < 256

@@ -10,11 +10,11 @@ use mathlib.Core.Logic.{_⊎_, inl, inr}
 use mathlib.Core.Bool.{Bool, _&&_, and-false, or-false}
 use lib.Dec.{T, eqb, ltb→lt, lt→ltb}
 use lib.ListN.{length}
-use Rattle.graph.specs.Lists.{filter}
-use Rattle.graph.specs.Order.{Lower, lower}
+use Rattle.graph.specs.Lists.{selected}
+use Rattle.graph.specs.Order.{Lower, isLower}
 use Rattle.graph.specs.Graph.{GraphLaws, Joined}
 use Rattle.graph.specs.Members.{In, Distinct}
-use Rattle.graph.specs.ListLaws.{compared, equal-two, two-equal, equal-three, three-equal, in-map, map-in, in-flatMap, flatMap-in, filter-in, in-filter, any-in, in-any, distinct-flatMap, distinct-filter, distinct-map, pairwise-one, only-one, lowest-none}
+use Rattle.graph.specs.ListLaws.{compared, equal-two, two-equal, equal-three, three-equal, in-map, map-in, in-flatMap, flatMap-in, selected-in, in-selected, any-in, in-any, distinct-flatMap, distinct-selected, distinct-map, every-two-one, only-one, lowest-none}
 use Rattle.graph.specs.OrderLaws.{lowest-ranked}
 use Rattle.rule.specs.Records.{HalfLink, unusableMetric}
 use Rattle.rule.specs.Plan.{Plan}
@@ -34,16 +34,16 @@ pub record Usable (hs : List HalfLink) (l : Link) : Type 0 where
 
 module _ (hs : List HalfLink) where
   abbrev seenFrom : HalfLink → List Link
-  seenFrom h = map (λ m. record { here = h; there = m }) (filter (mates h) hs)
+  seenFrom h = map (λ m. record { here = h; there = m }) (selected (mates h) hs)
 
   pub usable-says : (l : Link) → In l (usableLinks hs) → Usable hs l
   unfolding usableLinks linksOf
-  usable-says l k = let r = filter-in (λ l. usableMetric (linkCost l)) l (linksOf hs) k in
+  usable-says l k = let r = selected-in (λ l. usableMetric (linkCost l)) l (linksOf hs) k in
       go (flatMap-in seenFrom l hs (r .0)) (ltb→lt (linkCost l) unusableMetric (r .1))
     where
       mate : (h : HalfLink) → In h hs → linkCost l < unusableMetric
-          → ((m : HalfLink) × In m (filter (mates h) hs) × (l ≡ record { here = h; there = m })) → Usable hs l
-      mate h i u (m, j, e) = let r = filter-in (mates h) m hs j in
+          → ((m : HalfLink) × In m (selected (mates h) hs) × (l ≡ record { here = h; there = m })) → Usable hs l
+      mate h i u (m, j, e) = let r = selected-in (mates h) m hs j in
           let s = three-equal (h .link) (m .link) (h .near) (m .far) (h .far) (m .near) (r .1) in
           subst (λ (z : Link). Usable hs z) (sym e)
           (record {
@@ -56,14 +56,14 @@ module _ (hs : List HalfLink) where
           })
 
       go : ((h : HalfLink) × In h hs × In l (seenFrom h)) → linkCost l < unusableMetric → Usable hs l
-      go (h, i, j) u = mate h i u (map-in (λ m. record { here = h; there = m }) l (filter (mates h) hs) j)
+      go (h, i, j) u = mate h i u (map-in (λ m. record { here = h; there = m }) l (selected (mates h) hs) j)
 
   pub says-usable : (l : Link) → Usable hs l → In l (usableLinks hs)
   unfolding usableLinks linksOf
-  says-usable l U = in-filter (λ l. usableMetric (linkCost l)) l (linksOf hs)
+  says-usable l U = in-selected (λ l. usableMetric (linkCost l)) l (linksOf hs)
       (in-flatMap seenFrom l (l .here) hs (U .here-listed)
-      (in-map (λ m. record { here = l .here; there = m }) (l .there) (filter (mates (l .here)) hs)
-      (in-filter (mates (l .here)) (l .there) hs (U .there-listed)
+      (in-map (λ m. record { here = l .here; there = m }) (l .there) (selected (mates (l .here)) hs)
+      (in-selected (mates (l .here)) (l .there) hs (U .there-listed)
       (equal-three (l .here .link) (l .there .link) (l .here .near) (l .there .far) (l .here .far) (l .there .near)
       (U .one-number) (U .near-far) (U .far-near)))))
       (lt→ltb (linkCost l) unusableMetric (U .usable))
@@ -80,28 +80,28 @@ module _ (hs : List HalfLink) where
 
   distinct-usable : Distinct hs → Distinct (usableLinks hs)
   unfolding usableLinks linksOf
-  distinct-usable d = distinct-filter (λ l. usableMetric (linkCost l)) (linksOf hs) (distinct-flatMap seenFrom hs d
-      (λ h k. distinct-map (λ m. record { here = h; there = m }) (filter (mates h) hs) (distinct-filter (mates h) hs d)
+  distinct-usable d = distinct-selected (λ l. usableMetric (linkCost l)) (linksOf hs) (distinct-flatMap seenFrom hs d
+      (λ h k. distinct-map (λ m. record { here = h; there = m }) (selected (mates h) hs) (distinct-selected (mates h) hs d)
       (λ m n i j e. ap (λ (l : Link). l .there) e))
-      (λ h k l i j m n. let r = map-in (λ z. record { here = h; there = z }) l (filter (mates h) hs) m in
-      let s = map-in (λ z. record { here = k; there = z }) l (filter (mates k) hs) n in
+      (λ h k l i j m n. let r = map-in (λ z. record { here = h; there = z }) l (selected (mates h) hs) m in
+      let s = map-in (λ z. record { here = k; there = z }) l (selected (mates k) hs) n in
       ap (λ (z : Link). z .here) (sym (r .2) ∙ s .2)))
 
   between-says : (u v : ℕ) (l : Link) → In l (linksBetween hs u v) → Usable hs l × (from l ≡ u) × (to l ≡ v)
   unfolding linksBetween
-  between-says u v l k = let r = filter-in (connects u v) l (usableLinks hs) k in let c = two-equal (from l) u (to l) v (r .1) in
+  between-says u v l k = let r = selected-in (connects u v) l (usableLinks hs) k in let c = two-equal (from l) u (to l) v (r .1) in
       (usable-says l (r .0), c .0, c .1)
 
   says-between : (u v : ℕ) (l : Link) → Usable hs l → from l ≡ u → to l ≡ v → In l (linksBetween hs u v)
   unfolding linksBetween
-  says-between u v l U e f = in-filter (connects u v) l (usableLinks hs) (says-usable l U) (equal-two (from l) u (to l) v e f)
+  says-between u v l U e f = in-selected (connects u v) l (usableLinks hs) (says-usable l U) (equal-two (from l) u (to l) v e f)
 
 -- "the cheapest usable link, of equals the lower link number": links compare by cost, then number.
 abbrev linkRank : Link → List ℕ
 linkRank l = linkCost l ∷ number l ∷ []
 
-by-cost-then-number : (l k : Link) → before l k ≡ lower (linkRank l) (linkRank k)
-unfolding lower
+by-cost-then-number : (l k : Link) → before l k ≡ isLower (linkRank l) (linkRank k)
+unfolding isLower
 by-cost-then-number l k = simp (and-false, or-false)
 
 -- What the hop from `u` to `v` takes: a usable link between them, than which none is cheaper, nor as cheap with a lower number.
@@ -125,7 +125,7 @@ module _ (hs : List HalfLink) where
 module _ (p : Plan) (L : PlanLaws p) where
   -- A half-link is determined by its link number and its near bridge: the other of that number has the near bridge for its far one.
   pub one-half : (h k : HalfLink) → In h (p .halfLinks) → In k (p .halfLinks) → h .link ≡ k .link → h .near ≡ k .near → h ≡ k
-  one-half h k i j e f = pairwise-one Mirrors (p .halfLinks) (L .half-links .mirrored) h k i j
+  one-half h k i j e f = every-two-one Mirrors (p .halfLinks) (L .half-links .mirrored) h k i j
       (λ M. L .half-links .fits h i .apart (f ∙ M e .0)) (λ M. L .half-links .fits k j .apart (sym f ∙ M (sym e) .0))
 
   -- A link is determined by its number and the bridge from which it is seen.
@@ -142,11 +142,11 @@ module _ (p : Plan) (L : PlanLaws p) where
   -- "the usable link whose half-link has that near bridge and port": there is one such link.
   pub port-crosses : (l : Link) → Usable (p .halfLinks) l → crossed (p .halfLinks) (from l) (l .here .port) ≡ some l
   unfolding crossed
-  port-crosses l U = ap only (only-one (filter test (usableLinks (p .halfLinks))) l
-      (distinct-filter test (usableLinks (p .halfLinks)) (distinct-usable (p .halfLinks) (distinct-half-links p L)))
-      (in-filter test l (usableLinks (p .halfLinks)) (says-usable (p .halfLinks) l U)
+  port-crosses l U = ap only (only-one (selected test (usableLinks (p .halfLinks))) l
+      (distinct-selected test (usableLinks (p .halfLinks)) (distinct-usable (p .halfLinks) (distinct-half-links p L)))
+      (in-selected test l (usableLinks (p .halfLinks)) (says-usable (p .halfLinks) l U)
       (equal-two (from l) (from l) (l .here .port) (l .here .port) refl refl))
-      (λ k i. let r = filter-in test k (usableLinks (p .halfLinks)) i in
+      (λ k i. let r = selected-in test k (usableLinks (p .halfLinks)) i in
       let c = two-equal (from k) (from l) (k .here .port) (l .here .port) (r .1) in
       same k (usable-says (p .halfLinks) k (r .0)) (c .0) (c .1)))
     where

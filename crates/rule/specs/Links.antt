@@ -7,7 +7,7 @@ use mathlib.Core.Option.{Option, none, some}
 use mathlib.Core.Bool.{Bool, true, _&&_, _||_}
 use lib.Dec.{eqb, ltb}
 use lib.ListN.{length}
-use Rattle.graph.specs.Lists.{filter, any, lowestBy}
+use Rattle.graph.specs.Lists.{selected, anyPasses, lowestBy}
 use Rattle.graph.specs.Graph.{Graph}
 use Rattle.rule.specs.Records.{HalfLink, unusableMetric}
 use Rattle.rule.specs.Plan.{Plan}
@@ -23,7 +23,7 @@ mates h m = eqb (h .link) (m .link) && eqb (h .near) (m .far) && eqb (h .far) (m
 
 -- Every link twice, once from each end. "A half-link alone isn't used."
 unfoldable pub linksOf : List HalfLink → List Link
-linksOf hs = flatMap (λ h. map (λ m. record { here = h; there = m }) (filter (mates h) hs)) hs
+linksOf hs = flatMap (λ h. map (λ m. record { here = h; there = m }) (selected (mates h) hs)) hs
 
 abbrev pub number : Link → ℕ
 number l = l .here .link
@@ -51,22 +51,22 @@ abbrev pub usableMetric : ℕ → Bool
 usableMetric m = ltb m unusableMetric
 
 unfoldable pub usableLinks : List HalfLink → List Link
-usableLinks hs = filter (λ l. usableMetric (linkCost l)) (linksOf hs)
+usableLinks hs = selected (λ l. usableMetric (linkCost l)) (linksOf hs)
 
 -- How many usable links there are: each is counted where it is seen from its lower bridge.
 unfoldable pub countUsable : List HalfLink → ℕ
-countUsable hs = length (filter (λ l. ltb (from l) (to l)) (usableLinks hs))
+countUsable hs = length (selected (λ l. ltb (from l) (to l)) (usableLinks hs))
 
 -- A link connects `u` to `v`, seen from `u`.
 abbrev pub connects : ℕ → ℕ → Link → Bool
 connects u v l = eqb (from l) u && eqb (to l) v
 
 unfoldable pub linksBetween : List HalfLink → ℕ → ℕ → List Link
-linksBetween hs u v = filter (connects u v) (usableLinks hs)
+linksBetween hs u v = selected (connects u v) (usableLinks hs)
 
 -- "Two bridges are joined when a usable link connects them".
 unfoldable pub joined : List HalfLink → ℕ → ℕ → Bool
-joined hs u v = any (connects u v) (usableLinks hs)
+joined hs u v = anyPasses (connects u v) (usableLinks hs)
 
 -- "the cheapest usable link, of equals the lower link number (a house rule)".
 abbrev pub before : Link → Link → Bool

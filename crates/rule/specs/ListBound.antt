@@ -12,9 +12,9 @@ use mathlib.Core.Logic.{_⊎_, inl, inr}
 use mathlib.Core.Bool.{Bool, cond, not}
 use lib.Dec.{eqb, eqb→eq, T-not, not-T}
 use lib.ListN.{length, length-append, length-map}
-use Rattle.graph.specs.Lists.{rising, filter}
-use Rattle.graph.specs.Members.{In, Distinct, total}
-use Rattle.graph.specs.ListLaws.{same-or-not, last-of, is-true, is-false, eq-eqb, in-split, flatMap-in, filter-in, in-filter, rising-in, at-most, distinct-filter, distinct-rising, distinct-flatMap, distinct-within, filter-parts, total-add, total-most, total-bounded, total-parts, total-flatMap, length-flatMap, length-flatMap-most, length-flatMap-each}
+use Rattle.graph.specs.Lists.{rising, selected}
+use Rattle.graph.specs.Members.{In, Distinct, sumOver}
+use Rattle.graph.specs.ListLaws.{same-or-not, last-of, is-true, is-false, eq-eqb, in-split, flatMap-in, selected-in, in-selected, rising-in, at-most, distinct-selected, distinct-rising, distinct-flatMap, distinct-within, selected-parts, sum-add, sum-most, sum-bounded, sum-parts, sum-flatMap, length-flatMap, length-flatMap-most, length-flatMap-each}
 use Rattle.rule.specs.Records.{Vid, Member}
 use Rattle.rule.specs.Plan.{Plan}
 use Rattle.rule.specs.Paths.{chosenPath}
@@ -47,17 +47,17 @@ module _ (p : Plan) (L : PlanLaws p) (b : ℕ) (known : b < length (p .bridges))
           at-most-one (firstPort (p .halfLinks)) (chosenPath p (v .index) b d),
         )),
     at-most (length (p .bridges)) (b ∷ others p v b)
-        (not-self, distinct-filter (λ d. not (eqb d b)) (rising 0 (length (p .bridges))) (distinct-rising 0 (length (p .bridges)))) below,
+        (not-self, distinct-selected (λ d. not (eqb d b)) (rising 0 (length (p .bridges))) (distinct-rising 0 (length (p .bridges)))) below,
   )
     where
       not-self : In b (others p v b) → ⊥
-      not-self k = T-not (eqb b b) (filter-in (λ d. not (eqb d b)) b (rising 0 (length (p .bridges))) k .1) (eq-eqb b b refl)
+      not-self k = T-not (eqb b b) (selected-in (λ d. not (eqb d b)) b (rising 0 (length (p .bridges))) k .1) (eq-eqb b b refl)
 
       below : (d : ℕ) → In d (b ∷ others p v b) → d < length (p .bridges)
       below d (inl e) = rw e known
       below d (inr k) = omega (
         arith,
-        rising-in 0 (length (p .bridges)) d (filter-in (λ d. not (eqb d b)) d (rising 0 (length (p .bridges))) k .0) .1,
+        rising-in 0 (length (p .bridges)) d (selected-in (λ d. not (eqb d b)) d (rising 0 (length (p .bridges))) k .0) .1,
       )
 
   -- The members at this bridge and the others.
@@ -67,9 +67,9 @@ module _ (p : Plan) (L : PlanLaws p) (b : ℕ) (known : b < length (p .bridges))
   -- How many ports can be listed for a transmitting member: one for each receiver of its service where the member is at this bridge,
   -- and 62 where it is at another.
   unfoldable most : Member → ℕ
-  most m = cond (eqb (m .bridge) b) (length (filter (receives m) (p .members))) 62
+  most m = cond (eqb (m .bridge) b) (length (selected (receives m) (p .members))) 62
 
-  most-here : (m : Member) → m .bridge ≡ b → most m ≡ length (filter (receives m) (p .members))
+  most-here : (m : Member) → m .bridge ≡ b → most m ≡ length (selected (receives m) (p .members))
   unfolding most
   most-here m e = rw (is-true (eqb (m .bridge) b) (eq-eqb (m .bridge) b e))
 
@@ -92,114 +92,114 @@ module _ (p : Plan) (L : PlanLaws p) (b : ℕ) (known : b < length (p .bridges))
         distinct-within (portsBehind p v b m) (receiverPorts p v b (p .members) m) (distinct-ports (receiverPorts p v b (p .members) m))
             (λ port i. listed-port (receiverPorts p v b (p .members) m) port i .2),
         length-flatMap-most (λ r. portsOf (leavingPort (p .halfLinks) b) (chosenPath p (v .index) (m .bridge) (r .bridge))) 1
-            (filter (receives m) (p .members))
+            (selected (receives m) (p .members))
             (λ r i. at-most-one (leavingPort (p .halfLinks) b) (chosenPath p (v .index) (m .bridge) (r .bridge))),
       )
       go (inr f) = omega (arith, most-there m f, few-ports (net v i) m k b known (λ e. f (sym e)), L .bridges .few)
 
   -- The transmitting members of all VIDs: each is a member of one VID.
   abbrev transmitters : List Member
-  transmitters = flatMap (λ v. filter (transmits p v b) (p .members)) (p .vids)
+  transmitters = flatMap (λ v. selected (transmits p v b) (p .members)) (p .vids)
 
-  transmitter-vid : (v : Vid) (m : Member) → In m (filter (transmits p v b) (p .members)) → In m (p .members) × (m .vid ≡ v .vid)
-  transmitter-vid v m k = let r = filter-in (transmits p v b) m (p .members) k in
+  transmitter-vid : (v : Vid) (m : Member) → In m (selected (transmits p v b) (p .members)) → In m (p .members) × (m .vid ≡ v .vid)
+  transmitter-vid v m k = let r = selected-in (transmits p v b) m (p .members) k in
       (r .0, eqb→eq (m .vid) (v .vid) (last-of (m .transmits) (eqb (m .vid) (v .vid)) (r .1)))
 
   distinct-transmitters : Distinct transmitters
-  distinct-transmitters = distinct-flatMap (λ v. filter (transmits p v b) (p .members)) (p .vids)
+  distinct-transmitters = distinct-flatMap (λ v. selected (transmits p v b) (p .members)) (p .vids)
       (distinct-vids p L)
-      (λ v k. distinct-filter (transmits p v b) (p .members) (distinct-members p L))
+      (λ v k. distinct-selected (transmits p v b) (p .members) (distinct-members p L))
       (λ v w m i j h k. one-vid p L v w i j (sym (transmitter-vid v m h .1) ∙ transmitter-vid w m k .1))
 
   transmitter-listed : (m : Member) → In m transmitters → In m (p .members)
-  transmitter-listed m k = let (v, i, j) = flatMap-in (λ v. filter (transmits p v b) (p .members)) m (p .vids) k in transmitter-vid v m j .0
+  transmitter-listed m k = let (v, i, j) = flatMap-in (λ v. selected (transmits p v b) (p .members)) m (p .vids) k in transmitter-vid v m j .0
 
   abbrev here : List Member → List Member
-  here ms = filter atThis ms
+  here ms = selected atThis ms
 
   abbrev elsewhere : List Member → List Member
-  elsewhere ms = filter (λ m. not (atThis m)) ms
+  elsewhere ms = selected (λ m. not (atThis m)) ms
 
   here-says : (m : Member) (ms : List Member) → In m (here ms) → In m ms × (m .bridge ≡ b)
-  here-says m ms k = let r = filter-in atThis m ms k in (r .0, eqb→eq (m .bridge) b (r .1))
+  here-says m ms k = let r = selected-in atThis m ms k in (r .0, eqb→eq (m .bridge) b (r .1))
 
   -- The receivers of the transmitting members at this bridge: each is another bridge's member, and of one service only.
-  few-here : total most (here transmitters) ≤ length (elsewhere (p .members))
+  few-here : sumOver most (here transmitters) ≤ length (elsewhere (p .members))
   few-here = omega (
     arith,
-    total-most most (λ m. length (filter (receives m) (p .members))) (here transmitters)
+    sum-most most (λ m. length (selected (receives m) (p .members))) (here transmitters)
         (λ m k. omega (arith, most-here m (here-says m transmitters k .1))),
-    length-flatMap (λ m. filter (receives m) (p .members)) (here transmitters),
-    distinct-within (flatMap (λ m. filter (receives m) (p .members)) (here transmitters)) (elsewhere (p .members)) distinct inside,
+    length-flatMap (λ m. selected (receives m) (p .members)) (here transmitters),
+    distinct-within (flatMap (λ m. selected (receives m) (p .members)) (here transmitters)) (elsewhere (p .members)) distinct inside,
   )
     where
       listed : (m : Member) → In m (here transmitters) → In m (p .members)
       listed m k = transmitter-listed m (here-says m transmitters k .0)
 
-      distinct : Distinct (flatMap (λ m. filter (receives m) (p .members)) (here transmitters))
-      distinct = distinct-flatMap (λ m. filter (receives m) (p .members)) (here transmitters)
-          (distinct-filter atThis transmitters distinct-transmitters)
-          (λ m k. distinct-filter (receives m) (p .members) (distinct-members p L))
+      distinct : Distinct (flatMap (λ m. selected (receives m) (p .members)) (here transmitters))
+      distinct = distinct-flatMap (λ m. selected (receives m) (p .members)) (here transmitters)
+          (distinct-selected atThis transmitters distinct-transmitters)
+          (λ m k. distinct-selected (receives m) (p .members) (distinct-members p L))
           (λ m k r i j h l.
-          let x = receives-says m r (filter-in (receives m) r (p .members) h .1) in
-          let y = receives-says k r (filter-in (receives k) r (p .members) l .1) in
+          let x = receives-says m r (selected-in (receives m) r (p .members) h .1) in
+          let y = receives-says k r (selected-in (receives k) r (p .members) l .1) in
           one-member p L m k (listed m i) (listed k j) (here-says m transmitters i .1 ∙ sym (here-says k transmitters j .1)) (sym (x .1) ∙ y .1)
           (sym (x .2) ∙ y .2))
 
-      inside : (r : Member) → In r (flatMap (λ m. filter (receives m) (p .members)) (here transmitters)) → In r (elsewhere (p .members))
+      inside : (r : Member) → In r (flatMap (λ m. selected (receives m) (p .members)) (here transmitters)) → In r (elsewhere (p .members))
       inside r k =
-          let (m, i, j) = flatMap-in (λ m. filter (receives m) (p .members)) r (here transmitters) k in
-          let x = filter-in (receives m) r (p .members) j in
-          in-filter (λ m. not (atThis m)) r (p .members) (x .0)
+          let (m, i, j) = flatMap-in (λ m. selected (receives m) (p .members)) r (here transmitters) k in
+          let x = selected-in (receives m) r (p .members) j in
+          in-selected (λ m. not (atThis m)) r (p .members) (x .0)
           (not-T (atThis r) (λ t. receives-says m r (x .1) .3 (eqb→eq (r .bridge) b t ∙ sym (here-says m transmitters i .1))))
 
-  few-elsewhere : total most (elsewhere transmitters) ≤ length (elsewhere (p .members)) * 62
+  few-elsewhere : sumOver most (elsewhere transmitters) ≤ length (elsewhere (p .members)) * 62
   few-elsewhere = omega (
     arith,
-    total-bounded most 62 (elsewhere transmitters) (λ m k. omega (
+    sum-bounded most 62 (elsewhere transmitters) (λ m k. omega (
       arith,
       most-there m (λ e.
-          T-not (atThis m) (filter-in (λ m. not (atThis m)) m transmitters k .1) (eq-eqb (m .bridge) b e)),
+          T-not (atThis m) (selected-in (λ m. not (atThis m)) m transmitters k .1) (eq-eqb (m .bridge) b e)),
     )),
-    distinct-within (elsewhere transmitters) (elsewhere (p .members)) (distinct-filter (λ m. not (atThis m)) transmitters distinct-transmitters)
-        (λ m k. let r = filter-in (λ m. not (atThis m)) m transmitters k in
-        in-filter (λ m. not (atThis m)) m (p .members) (transmitter-listed m (r .0)) (r .1)),
+    distinct-within (elsewhere transmitters) (elsewhere (p .members)) (distinct-selected (λ m. not (atThis m)) transmitters distinct-transmitters)
+        (λ m k. let r = selected-in (λ m. not (atThis m)) m transmitters k in
+        in-selected (λ m. not (atThis m)) m (p .members) (transmitter-listed m (r .0)) (r .1)),
   )
 
   -- 63 times 63 group entries at most: with a transmitting member at this bridge at most 63 members are elsewhere.
-  few-group : total most transmitters ≤ 3969
+  few-group : sumOver most transmitters ≤ 3969
   few-group = go (here transmitters) refl
     where
-      go : (ms : List Member) → here transmitters ≡ ms → total most transmitters ≤ 3969
+      go : (ms : List Member) → here transmitters ≡ ms → sumOver most transmitters ≤ 3969
       go [] e = omega (
         arith,
-        total-parts most atThis transmitters,
-        ap (total most) e,
+        sum-parts most atThis transmitters,
+        ap (sumOver most) e,
         few-elsewhere,
-        filter-parts atThis (p .members),
+        selected-parts atThis (p .members),
         L .members .few,
       )
       go (m ∷ ms) e =
           let k = here-says m transmitters (subst (λ (z : List Member). In m z) (sym e) (inl refl)) in
           let (xs, ys, f) = in-split m (here (p .members))
-          (in-filter atThis m (p .members) (transmitter-listed m (k .0)) (eq-eqb (m .bridge) b (k .1))) in
+          (in-selected atThis m (p .members) (transmitter-listed m (k .0)) (eq-eqb (m .bridge) b (k .1))) in
           omega (
             arith,
-            total-parts most atThis transmitters,
+            sum-parts most atThis transmitters,
             few-here,
             few-elsewhere,
-            filter-parts atThis (p .members),
+            selected-parts atThis (p .members),
             L .members .few,
             ap (λ (z : List Member). length z) f,
             length-append xs (m ∷ ys),
           )
 
-  group-entries : (v : Vid) → In v (p .vids) → length (groupEntries p v b (p .members)) ≤ total most (filter (transmits p v b) (p .members))
+  group-entries : (v : Vid) → In v (p .vids) → length (groupEntries p v b (p .members)) ≤ sumOver most (selected (transmits p v b) (p .members))
   unfolding groupEntries
   group-entries v i = omega (
     arith,
-    length-flatMap (λ m. map (groupEntry p v m) (portsBehind p v b m)) (filter (transmits p v b) (p .members)),
-    total-most (λ m. length (map (groupEntry p v m) (portsBehind p v b m))) most (filter (transmits p v b) (p .members))
+    length-flatMap (λ m. map (groupEntry p v m) (portsBehind p v b m)) (selected (transmits p v b) (p .members)),
+    sum-most (λ m. length (map (groupEntry p v m) (portsBehind p v b m))) most (selected (transmits p v b) (p .members))
         (λ m k. omega (arith, length-map (portsBehind p v b m) (groupEntry p v m), few-listed v i m (transmitter-vid v m k .0))),
   )
 
@@ -210,12 +210,12 @@ module _ (p : Plan) (L : PlanLaws p) (b : ℕ) (known : b < length (p .bridges))
     arith,
     length-flatMap-each entryWords 3 (entriesOf p b) (λ e k. refl),
     length-flatMap (λ v. individualEntries p v b ++ groupEntries p v b (p .members)) (p .vids),
-    total-most (λ v. length (individualEntries p v b ++ groupEntries p v b (p .members)))
-        (λ v. 63 + total most (filter (transmits p v b) (p .members))) (p .vids)
+    sum-most (λ v. length (individualEntries p v b ++ groupEntries p v b (p .members)))
+        (λ v. 63 + sumOver most (selected (transmits p v b) (p .members))) (p .vids)
         (λ v k. omega (arith, length-append (individualEntries p v b) (groupEntries p v b (p .members)), few-individual v, group-entries v k)),
-    total-add (λ v. 63) (λ v. total most (filter (transmits p v b) (p .members))) (p .vids),
-    total-bounded (λ v. 63) 63 (p .vids) (λ v k. omega arith),
-    total-flatMap most (λ v. filter (transmits p v b) (p .members)) (p .vids),
+    sum-add (λ v. 63) (λ v. sumOver most (selected (transmits p v b) (p .members))) (p .vids),
+    sum-bounded (λ v. 63) 63 (p .vids) (λ v k. omega arith),
+    sum-flatMap most (λ v. selected (transmits p v b) (p .members)) (p .vids),
     few-group,
     L .vids .few,
   )

@@ -9,10 +9,10 @@ use mathlib.Core.Logic.{inl, inr}
 use mathlib.Core.Bool.{Bool, true, false, cond, _&&_}
 use lib.Dec.{T, eqb, eqb→eq}
 use lib.ListN.{length, length-map}
-use Rattle.graph.specs.Lists.{filter}
+use Rattle.graph.specs.Lists.{selected}
 use Rattle.graph.specs.Members.{In, Distinct}
 use Rattle.graph.specs.Notions.{Least, Leaves}
-use Rattle.graph.specs.ListLaws.{two-equal, is-true, eq-eqb, eqb-other, none-not-some, map-in, in-flatMap, flatMap-in, filter-in, in-filter, at-most, distinct-flatMap, distinct-map, length-flatMap-each}
+use Rattle.graph.specs.ListLaws.{two-equal, is-true, eq-eqb, eqb-other, none-not-some, map-in, in-flatMap, flatMap-in, selected-in, in-selected, at-most, distinct-flatMap, distinct-map, length-flatMap-each}
 use Rattle.graph.specs.Paths.{entered-inside}
 use Rattle.graph.specs.ChosenPaths.{chosen-first, chosen-distinct}
 use Rattle.rule.specs.Records.{HalfLink, Member}
@@ -96,8 +96,8 @@ module _ (hs : List HalfLink) where
   crossed-port : (u port : ℕ) (l : Link) → crossed hs u port ≡ some l → l .here .port ≡ port
   unfolding crossed
   crossed-port u port l e =
-      let r = filter-in (λ l. eqb (from l) u && eqb (l .here .port) port) l (usableLinks hs)
-      (only-is (filter (λ l. eqb (from l) u && eqb (l .here .port) port) (usableLinks hs)) l e) in
+      let r = selected-in (λ l. eqb (from l) u && eqb (l .here .port) port) l (usableLinks hs)
+      (only-is (selected (λ l. eqb (from l) u && eqb (l .here .port) port) (usableLinks hs)) l e) in
       two-equal (from l) u (l .here .port) port (r .1) .1
 
 -- The ports listed for a transmitting member
@@ -132,9 +132,9 @@ module _ (N : Network) (m : Member) where
   port-leads : (u port : ℕ) → In port (listed u) → (l : Link) × (crossed (links N) u port ≡ some l) × Led u l
   unfolding receiverPorts
   port-leads u port k =
-      let (r, i, j) = flatMap-in (λ r. portsOf (leavingPort (links N) u) (pathTo r)) port (filter (receives m) (N .plan .members))
+      let (r, i, j) = flatMap-in (λ r. portsOf (leavingPort (links N) u) (pathTo r)) port (selected (receives m) (N .plan .members))
       (listed-port (behind u) port k .2) in
-      let s = filter-in (receives m) r (N .plan .members) i in
+      let s = selected-in (receives m) r (N .plan .members) i in
       go r (s .0) (s .1) (pathTo r) refl j
     where
       go : (r : Member) → In r (N .plan .members) → T (receives m r) → (o : Option (List ℕ)) → pathTo r ≡ o
@@ -165,8 +165,8 @@ module _ (N : Network) (m : Member) where
 
       found : In (l .here .port) (behind u)
       found = in-flatMap (λ r. portsOf (leavingPort (links N) u) (pathTo r)) (l .here .port) (D .receiver)
-          (filter (receives m) (N .plan .members))
-          (in-filter (receives m) (D .receiver) (N .plan .members) (D .of-table) (D .receives))
+          (selected (receives m) (N .plan .members))
+          (in-selected (receives m) (D .receiver) (N .plan .members) (D .of-table) (D .receives))
           (subst (λ (o : Option (List ℕ)). In (l .here .port) (portsOf (leavingPort (links N) u) o))
           (sym (chosen-is-path (N .plan) (N .laws) (N .vid .index) (m .bridge) (D .receiver .bridge) (D .path) (D .chosen)))
           (is-listed (leavingPort (links N) u (D .path)) (l .here .port)

@@ -6,7 +6,7 @@ use mathlib.Core.Option.{Option}
 use mathlib.Core.Bool.{Bool, false, true, not, _&&_, _||_}
 use lib.Dec.{eqb}
 use lib.ListN.{getElem?}
-use Rattle.graph.specs.Lists.{filter}
+use Rattle.graph.specs.Lists.{selected}
 use Rattle.rule.specs.Words.{bits}
 use Rattle.rule.specs.Records.{inLimits, vidLimits, portLimits, groupBit}
 use Rattle.rule.specs.Outcome.{Outcome, answered, refusedIf}
@@ -49,7 +49,7 @@ faultyList (w ∷ upper ∷ lower ∷ rest) = faultyEntry (entryOf w upper lower
 -- The ports of the entries with a VID and an address, in list order.
 unfoldable pub matchingPorts : List ℕ → ℕ → ℕ → List ℕ
 matchingPorts ws vid address =
-    map (λ e. e .port) (filter (λ e. eqb (e .vid) vid && eqb (e .address) address) (entriesIn ws))
+    map (λ e. e .port) (selected (λ e. eqb (e .vid) vid && eqb (e .address) address) (entriesIn ws))
 
 -- "Lookup (entry list, VID, address, n): port of the matching entry n, counted from 0 in list order, or none." "Lookup takes no
 -- table, gives only 14, and accepts an empty list."

@@ -5,7 +5,7 @@ use mathlib.Core.Path.{_≡_}
 use mathlib.Core.List.{List}
 use mathlib.Core.Option.{none, some}
 use lib.ListN.{length}
-use Rattle.graph.specs.Graph.{Graph, GraphLaws, KeyLaws, Path}
+use Rattle.graph.specs.Graph.{Graph, GraphLaws, KeyLaws, IsPath}
 use Rattle.graph.specs.Chosen.{Chosen}
 use Rattle.graph.specs.Members.{In}
 use Rattle.graph.specs.Enumeration.{chosen-is, is-chosen, no-path-none}
@@ -29,7 +29,7 @@ module _ (p : Plan) (L : PlanLaws p) (index : ℕ) where
   unfolding chosenPath
   path-is-chosen a b q e = chosen-is (graphOf p) (graph-laws p L) (keyOf p index) (key-laws p L index) a b q e
 
-  pub no-path-is-none : (a b : ℕ) → ((q : List ℕ) → Path (graphOf p) a b q → ⊥) → chosenPath p index a b ≡ none
+  pub no-path-is-none : (a b : ℕ) → ((q : List ℕ) → IsPath (graphOf p) a b q → ⊥) → chosenPath p index a b ≡ none
   unfolding chosenPath
   no-path-is-none a b f = no-path-none (graphOf p) (graph-laws p L) (keyOf p index) a b f
 

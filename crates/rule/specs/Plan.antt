@@ -6,7 +6,7 @@ use mathlib.Core.Option.{Option}
 use mathlib.Core.Bool.{Bool}
 use lib.Dec.{eqb, ltb}
 use lib.ListN.{length, getD, getElem?}
-use Rattle.graph.specs.Lists.{filter, any}
+use Rattle.graph.specs.Lists.{selected, anyPasses}
 use Rattle.rule.specs.Records.{Bridge, HalfLink, Vid, Member, Record, bridge, halfLink, vid, member, end}
 
 pub record Plan : Type 0 where
@@ -54,7 +54,7 @@ hasVid n v = eqb (v .vid) n
 
 -- The record of a VID, or none.
 abbrev pub vidRecord : Plan → ℕ → Option Vid
-vidRecord p n = getElem? (filter (hasVid n) (p .vids)) 0
+vidRecord p n = getElem? (selected (hasVid n) (p .vids)) 0
 
 abbrev pub knownVid : Plan → ℕ → Bool
-knownVid p n = any (hasVid n) (p .vids)
+knownVid p n = anyPasses (hasVid n) (p .vids)

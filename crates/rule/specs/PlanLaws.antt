@@ -4,7 +4,7 @@ use Prim.Native.Nat.{ℕ, _≤_, _<_}
 use mathlib.Core.Path.{_≡_}
 use mathlib.Core.List.{List}
 use lib.ListN.{length}
-use Rattle.graph.specs.Members.{In, Pairwise}
+use Rattle.graph.specs.Members.{In, EveryTwo}
 use Rattle.rule.specs.Records.{Bridge, HalfLink, Vid, Member, address, groupBit}
 use Rattle.rule.specs.Plan.{Plan}
 
@@ -57,22 +57,22 @@ pub record MemberFits (bridges : ℕ) (vids : List Vid) (m : Member) : Type 0 wh
 -- The laws of each of the four lists of records.
 pub record BridgeLaws (bs : List Bridge) : Type 0 where
   pub few : length bs ≤ 64
-  pub apart : Pairwise BridgesApart bs
+  pub apart : EveryTwo BridgesApart bs
   pub fits : (b : Bridge) → In b bs → BridgeFits b
 
 pub record HalfLinkLaws (bridges : ℕ) (hs : List HalfLink) : Type 0 where
-  pub apart : Pairwise PortsApart hs
-  pub mirrored : Pairwise Mirrors hs
+  pub apart : EveryTwo PortsApart hs
+  pub mirrored : EveryTwo Mirrors hs
   pub fits : (h : HalfLink) → In h hs → HalfLinkFits bridges h
 
 pub record VidLaws (vs : List Vid) : Type 0 where
   pub few : length vs ≤ 16
-  pub apart : Pairwise VidsApart vs
+  pub apart : EveryTwo VidsApart vs
   pub fits : (v : Vid) → In v vs → VidFits v
 
 pub record MemberLaws (bridges : ℕ) (vids : List Vid) (ms : List Member) : Type 0 where
   pub few : length ms ≤ 64
-  pub apart : Pairwise MembersApart ms
+  pub apart : EveryTwo MembersApart ms
   pub fits : (m : Member) → In m ms → MemberFits bridges vids m
 
 pub record PlanLaws (p : Plan) : Type 0 where

@@ -6,7 +6,7 @@ use mathlib.Core.Bool.{Bool, _&&_}
 use mathlib.Core.Option.{Option, none, some}
 use lib.Dec.{eqb, leb}
 use lib.ListN.{getElem?}
-use Rattle.graph.specs.Lists.{filter, rising}
+use Rattle.graph.specs.Lists.{selected, rising}
 use Rattle.rule.specs.Words.{word, bits}
 
 -- A bridge: its SPsourceID, and its Bridge Identifier of 64 bits.
@@ -53,33 +53,33 @@ endCount (member m) = none
 endCount (end n) = some n
 
 -- A field of a record's words: the bits `high`..`low` of the word `n`.
-abbrev pub field : ℕ → ℕ → ℕ → List ℕ → ℕ
-field n high low r = bits (word r n) high low
+abbrev pub fieldAt : ℕ → ℕ → ℕ → List ℕ → ℕ
+fieldAt n high low r = bits (word r n) high low
 
 abbrev pub bridgeOf : List ℕ → Bridge
-bridgeOf r = record { spSourceId = field 0 19 0 r; identifier = word r 1 * 2 ^ 32 + word r 2 }
+bridgeOf r = record { spSourceId = fieldAt 0 19 0 r; identifier = word r 1 * 2 ^ 32 + word r 2 }
 
 abbrev pub halfLinkOf : List ℕ → HalfLink
 halfLinkOf r =
     record {
-      metric = field 0 23 0 r;
-      near = field 1 31 16 r;
-      far = field 1 15 0 r;
-      port = field 2 31 16 r;
-      link = field 2 15 0 r;
+      metric = fieldAt 0 23 0 r;
+      near = fieldAt 1 31 16 r;
+      far = fieldAt 1 15 0 r;
+      port = fieldAt 2 31 16 r;
+      link = fieldAt 2 15 0 r;
     }
 
 abbrev pub vidOf : List ℕ → Vid
-vidOf r = record { vid = field 0 27 16 r; index = field 0 15 0 r }
+vidOf r = record { vid = fieldAt 0 27 16 r; index = fieldAt 0 15 0 r }
 
 abbrev pub memberOf : List ℕ → Member
 memberOf r =
     record {
-      transmits = eqb (field 0 25 25 r) 1;
-      receives = eqb (field 0 24 24 r) 1;
-      isid = field 0 23 0 r;
-      bridge = field 1 31 16 r;
-      vid = field 1 15 0 r;
+      transmits = eqb (fieldAt 0 25 25 r) 1;
+      receives = eqb (fieldAt 0 24 24 r) 1;
+      isid = fieldAt 0 23 0 r;
+      bridge = fieldAt 1 31 16 r;
+      vid = fieldAt 1 15 0 r;
     }
 
 -- "Ranges": the least and the greatest value of a field.
@@ -141,8 +141,8 @@ pub record Range : Type 0 where
   pub value : List ℕ → ℕ
   pub limits : Limits
 
-abbrev range : (List ℕ → ℕ) → Limits → Range
-range f l = record { value = f; limits = l }
+abbrev rangeOf : (List ℕ → ℕ) → Limits → Range
+rangeOf f l = record { value = f; limits = l }
 
 -- A row of the table of record kinds: how many words, up to how many records, the bits that are zero (where there are none,
 -- the number 0), the ranges, and the record that the words hold.
@@ -161,11 +161,11 @@ bridgeLayout =
       kind = 1;
       words = 3;
       limit = 64;
-      zeroBits = field 0 27 20;
+      zeroBits = fieldAt 0 27 20;
       ranges =
-          range (λ r. bridgeOf r .spSourceId) spSourceIdLimits
-          ∷ range (λ r. address (bridgeOf r)) addressLimits
-          ∷ range (λ r. groupBit (address (bridgeOf r))) groupBitLimits
+          rangeOf (λ r. bridgeOf r .spSourceId) spSourceIdLimits
+          ∷ rangeOf (λ r. address (bridgeOf r)) addressLimits
+          ∷ rangeOf (λ r. groupBit (address (bridgeOf r))) groupBitLimits
           ∷ [];
       decoded = λ r. bridge (bridgeOf r);
     }
@@ -177,11 +177,11 @@ halfLinkLayout =
       kind = 2;
       words = 3;
       limit = 512;
-      zeroBits = field 0 27 24;
+      zeroBits = fieldAt 0 27 24;
       ranges =
-          range (λ r. halfLinkOf r .metric) metricLimits
-          ∷ range (λ r. halfLinkOf r .port) portLimits
-          ∷ range (λ r. halfLinkOf r .link) linkLimits
+          rangeOf (λ r. halfLinkOf r .metric) metricLimits
+          ∷ rangeOf (λ r. halfLinkOf r .port) portLimits
+          ∷ rangeOf (λ r. halfLinkOf r .link) linkLimits
           ∷ [];
       decoded = λ r. halfLink (halfLinkOf r);
     }
@@ -194,7 +194,7 @@ vidLayout =
       words = 1;
       limit = 16;
       zeroBits = λ r. 0;
-      ranges = range (λ r. vidOf r .vid) vidLimits ∷ range (λ r. vidOf r .index) indexLimits ∷ [];
+      ranges = rangeOf (λ r. vidOf r .vid) vidLimits ∷ rangeOf (λ r. vidOf r .index) indexLimits ∷ [];
       decoded = λ r. vid (vidOf r);
     }
 
@@ -205,19 +205,19 @@ memberLayout =
       kind = 4;
       words = 2;
       limit = 64;
-      zeroBits = field 0 27 26;
-      ranges = range (λ r. memberOf r .isid) isidLimits ∷ range (λ r. memberOf r .vid) vidLimits ∷ [];
+      zeroBits = fieldAt 0 27 26;
+      ranges = rangeOf (λ r. memberOf r .isid) isidLimits ∷ rangeOf (λ r. memberOf r .vid) vidLimits ∷ [];
       decoded = λ r. member (memberOf r);
     }
 
 -- "15 | end, 1: bits 27..0 the number of words before it | exactly 1".
 abbrev pub endLayout : Layout
 endLayout =
-    record { kind = 15; words = 1; limit = 1; zeroBits = λ r. 0; ranges = []; decoded = λ r. end (field 0 27 0 r) }
+    record { kind = 15; words = 1; limit = 1; zeroBits = λ r. 0; ranges = []; decoded = λ r. end (fieldAt 0 27 0 r) }
 
 abbrev pub layouts : List Layout
 layouts = bridgeLayout ∷ halfLinkLayout ∷ vidLayout ∷ memberLayout ∷ endLayout ∷ []
 
 -- The row of a kind, or none where the kind is unknown.
 unfoldable pub layoutOf : ℕ → Option Layout
-layoutOf k = getElem? (filter (λ l. eqb k (l .kind)) layouts) 0
+layoutOf k = getElem? (selected (λ l. eqb k (l .kind)) layouts) 0

@@ -6,7 +6,7 @@ use mathlib.Core.Path.{_≡_, refl, sym, ap, _∙_, subst}
 use mathlib.Core.List.{List, [], _∷_, _++_}
 use mathlib.Core.Option.{Option, none, some}
 use lib.ListN.{length, drop}
-use Rattle.graph.specs.Graph.{Path, hops}
+use Rattle.graph.specs.Graph.{IsPath, hops}
 use Rattle.graph.specs.Notions.{Linked}
 use Rattle.graph.specs.ListLaws.{append-same}
 use Rattle.graph.specs.Paths.{linked-path, path-linked}
@@ -56,10 +56,10 @@ module _ (s : Setting) where
   linked-chain a b (u ∷ []) (e, o) = (e, o)
   linked-chain a b (u ∷ v ∷ t) (e, (j, o)) = (e, says-joined (s .plan) laws u v j, linked-chain v b (v ∷ t) (refl, o))
 
-  pub chain-path : (a b : ℕ) (q : List ℕ) → ChainIn s a b q → Path (graph net) a b q
+  pub chain-path : (a b : ℕ) (q : List ℕ) → ChainIn s a b q → IsPath (graph net) a b q
   chain-path a b q c = linked-path (graph net) (λ v. tt) a b q (chain-linked a b q c)
 
-  pub path-chain : (a b : ℕ) (q : List ℕ) → Path (graph net) a b q → ChainIn s a b q
+  pub path-chain : (a b : ℕ) (q : List ℕ) → IsPath (graph net) a b q → ChainIn s a b q
   path-chain a b q o = linked-chain a b q (path-linked (graph net) a b q o)
 
   -- Where a chain of usable links joins two bridges a path is chosen.

@@ -5,7 +5,7 @@ use mathlib.Core.Path.{_≡_, refl, ap, _∙_}
 use mathlib.Core.List.{List, [], _∷_, flatMap}
 use mathlib.Core.Logic.{inl}
 use lib.ListN.{length}
-use Rattle.graph.specs.Lists.{filter, any}
+use Rattle.graph.specs.Lists.{selected, anyPasses}
 use Rattle.graph.specs.Members.{In}
 use Rattle.rule.specs.Words.{wordsOf}
 use Rattle.rule.specs.Records.{Vid, layoutOf}
@@ -77,7 +77,7 @@ diamondPlan =
     }
 
 diamond-accepted : verdict (table diamond) ≡ answered diamondPlan
-unfolding wordsOf layoutOf lowestFault readOn verdict filter any flatMap
+unfolding wordsOf layoutOf lowestFault readOn verdict selected anyPasses flatMap
 diamond-accepted = refl
 
 -- One for each of its VIDs.

@@ -6,8 +6,8 @@ use mathlib.Core.Path.{_≡_, refl}
 use mathlib.Core.List.{List, [], _∷_, flatMap}
 use mathlib.Core.Option.{none, some}
 use mathlib.Core.Bool.{true, false}
-use Rattle.graph.specs.Lists.{rising, filter, any, lowestBy}
-use Rattle.graph.specs.Order.{insert, sorted, lower}
+use Rattle.graph.specs.Lists.{rising, selected, anyPasses, lowestBy}
+use Rattle.graph.specs.Order.{insertUpward, sorted, isLower}
 use Rattle.graph.specs.Graph.{costOnward}
 use Rattle.graph.specs.Chosen.{neighbours, onward, paths, chosen}
 use Rattle.rule.specs.Words.{wordsOf}
@@ -67,7 +67,7 @@ unfolding wordsOf layoutOf lowestFault readOn verdict linksOf usableLinks countU
     maskedBytes maskedIdentifier chosenPath entryListOf entriesOf individualEntries groupEntries listedPorts
     receiverPorts leavingPort checkOutcome pathAnswer pathOutcome entriesAnswer entriesOutcome treeOutcome treeOf lastButOne
     lookupOutcome matchingPorts faultyList entriesIn exportedCheck exportedPathCost
-    rising filter any lowestBy insert sorted lower costOnward neighbours onward paths chosen flatMap
+    rising selected anyPasses lowestBy insertUpward sorted isLower costOnward neighbours onward paths chosen flatMap
 calls-agree =
     (refl, refl, refl, refl, refl, refl, refl, refl, refl, refl, refl, refl, refl, refl, refl, refl)
 
@@ -91,7 +91,7 @@ workedPlan =
     }
 
 pub worked-accepted : verdict worked ≡ answered workedPlan
-unfolding wordsOf layoutOf lowestFault readOn verdict filter any flatMap
+unfolding wordsOf layoutOf lowestFault readOn verdict selected anyPasses flatMap
 worked-accepted = refl
 
 -- The link as it is seen from bridge 0.
@@ -124,5 +124,5 @@ frames-agree :
 unfolding crossed entryPorts leaves crossings copiesLeave copies copiesCross entriesIn
     linksOf usableLinks linksBetween hopLink maskedBytes maskedIdentifier chosenPath
     entryListOf entriesOf individualEntries groupEntries listedPorts receiverPorts leavingPort
-    rising filter any lowestBy insert sorted lower costOnward neighbours onward paths chosen flatMap
+    rising selected anyPasses lowestBy insertUpward sorted isLower costOnward neighbours onward paths chosen flatMap
 frames-agree = (refl, refl, refl, refl, refl, refl, refl, refl)

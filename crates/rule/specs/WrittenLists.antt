@@ -9,7 +9,7 @@ use mathlib.Core.Bool.{Bool, true, false, not, _&&_, _||_}
 use lib.Dec.{eqb, leb}
 use lib.ListN.{getElem?}
 use borrow.Author.Tests.{eq-eqb, le-leb}
-use Rattle.graph.specs.Lists.{filter}
+use Rattle.graph.specs.Lists.{selected}
 use Rattle.graph.specs.Members.{In}
 use Rattle.graph.specs.ListLaws.{le-or-gt}
 use Rattle.rule.specs.Records.{Limits, inLimits, vidLimits, portLimits, groupBit}
@@ -64,12 +64,12 @@ module _ (p : Plan) (L : PlanLaws p) (b : ℕ) where
 
   -- The ports written with a VID and an address, in list order.
   abbrev pub writtenPorts : ℕ → ℕ → List ℕ
-  writtenPorts vid address = map (λ e. e .port) (filter (λ e. eqb (e .vid) vid && eqb (e .address) address) (entriesOf p b))
+  writtenPorts vid address = map (λ e. e .port) (selected (λ e. eqb (e .vid) vid && eqb (e .address) address) (entriesOf p b))
 
   -- Lookup over a written list finds exactly these.
   pub written-found : (vid address n : ℕ) → lookupOutcome (entryListOf p b) vid address n ≡ answered (getElem? (writtenPorts vid address) n)
   unfolding lookupOutcome matchingPorts entryListOf
   written-found vid address n =
       ap (λ (t : Bool). refusedIf t 14 (answered (getElem? (matchingPorts (flatMap entryWords (entriesOf p b)) vid address) n))) (list-faultless (entriesOf p b) (entry-fits p L b))
-      ∙ ap (λ (es : List Entry). answered (getElem? (map (λ e. e .port) (filter (λ e. eqb (e .vid) vid && eqb (e .address) address) es)) n))
+      ∙ ap (λ (es : List Entry). answered (getElem? (map (λ e. e .port) (selected (λ e. eqb (e .vid) vid && eqb (e .address) address) es)) n))
       (entries-decoded (entriesOf p b) (entry-fits p L b))

@@ -8,30 +8,30 @@ use mathlib.Core.Bool.{Bool, true, false, _||_}
 use mathlib.Core.Logic.{_⊎_, inl, inr}
 use mathlib.Core.Option.{Option, none, some}
 use lib.ListN.{length, drop, getD, getElem?, length-map}
-use Rattle.graph.specs.Lists.{rising, any, filter}
-use Rattle.graph.specs.Members.{In, Pairwise}
+use Rattle.graph.specs.Lists.{rising, anyPasses, selected}
+use Rattle.graph.specs.Members.{In, EveryTwo}
 use Rattle.graph.specs.ListLaws.{le-or-gt, in-map, map-in, map-at, in-rising, rising-in, rising-at, length-rising}
 use Rattle.graph.specs.Searching.{Searching, search-on, search-finds, search-ends, rising-more}
 use Rattle.table.specs.Positions.{recordAt, recordsAt}
 
 module _ {A B : Type 0} (f : A → B) where
-  any-map : (test : B → Bool) (xs : List A) → any test (map f xs) ≡ any (λ x. test (f x)) xs
-  unfolding any
+  any-map : (test : B → Bool) (xs : List A) → anyPasses test (map f xs) ≡ anyPasses (λ x. test (f x)) xs
+  unfolding anyPasses
   any-map test [] = refl
   any-map test (x ∷ xs) = ap (λ (b : Bool). test (f x) || b) (any-map test xs)
 
 -- A relation along the values of rising numbers.
-pairwise-rising :
+every-two-rising :
     {A : Type 0} (f : ℕ → A) (R : A → A → Type 0) (k n : ℕ) →
-    Pairwise R (map f (rising k n)) →
+    EveryTwo R (map f (rising k n)) →
     (i j : ℕ) →
     k ≤ i →
     i < j →
     j < k + n →
     R (f i) (f j)
 unfolding rising
-pairwise-rising f R k zero P i j h l m = absurd (omega arith)
-pairwise-rising f R k (suc n) P i j h l m = go (le-or-gt i k) (pairwise-rising f R (suc k) n (P .1) i j)
+every-two-rising f R k zero P i j h l m = absurd (omega arith)
+every-two-rising f R k (suc n) P i j h l m = go (le-or-gt i k) (every-two-rising f R (suc k) n (P .1) i j)
   where
     go : (i ≤ k) ⊎ (k < i) → (suc k ≤ i → i < j → j < suc k + n → R (f i) (f j)) → R (f i) (f j)
     go (inl e) ih =
@@ -64,7 +64,7 @@ module _ {A : Type 0} (decoded : List ℕ → A) (width from : ℕ) (ws : List �
       map-at (recordAt decoded width from ws) (rising 0 n) i 0 d (omega (arith, length-rising 0 n))
       ∙ ap (recordAt decoded width from ws) (rising-at 0 n i 0 l ∙ omega arith)
 
-  pub search-records : (test : A → Bool) (n : ℕ) → any test (recordsAt decoded width from ws n) ≡ any (λ i. test (recordAt decoded width from ws i)) (rising 0 n)
+  pub search-records : (test : A → Bool) (n : ℕ) → anyPasses test (recordsAt decoded width from ws n) ≡ anyPasses (λ i. test (recordAt decoded width from ws i)) (rising 0 n)
   unfolding recordsAt
   search-records test n = any-map (recordAt decoded width from ws) test (rising 0 n)
 
@@ -79,15 +79,15 @@ module _ {A : Type 0} (decoded : List ℕ → A) (width from : ℕ) (ws : List �
       let (i, k, e) = map-in (recordAt decoded width from ws) x (rising 0 n) h
       in (i, omega (arith, rising-in 0 n i k .1), e)
 
-  pub pairwise-records :
+  pub every-two-records :
       (R : A → A → Type 0) (n : ℕ) →
-      Pairwise R (recordsAt decoded width from ws n) →
+      EveryTwo R (recordsAt decoded width from ws n) →
       (i j : ℕ) →
       i < j →
       j < n →
       R (recordAt decoded width from ws i) (recordAt decoded width from ws j)
   unfolding recordsAt
-  pairwise-records R n P i j l m = pairwise-rising (recordAt decoded width from ws) R 0 n P i j (omega arith) l (omega arith)
+  every-two-records R n P i j l m = every-two-rising (recordAt decoded width from ws) R 0 n P i j (omega arith) l (omega arith)
 
   -- Of no records it does not matter where they would stand.
   pub none-anywhere :
@@ -127,28 +127,28 @@ module _ {A : Type 0} (decoded : List ℕ → A) (width from : ℕ) (ws : List �
         v ≡ decoded (drop at ws) →
         b ≡ test v →
         b ≡ true →
-        true ≡ any test (recordsAt decoded width from ws n)
+        true ≡ anyPasses test (recordsAt decoded width from ws n)
     record-found at v b l e f g h =
         search-finds s l (tested at v b true e f g h) ∙ sym (search-records decoded width from ws test n)
 
-    pub no-record-found : n ≤ j → false ≡ any test (recordsAt decoded width from ws n)
+    pub no-record-found : n ≤ j → false ≡ anyPasses test (recordsAt decoded width from ws n)
     no-record-found l = search-ends s l ∙ sym (search-records decoded width from ws test n)
 
 -- The first of `n` records that passes a test is sought one after the other: what is left from the record `j` on has it where the
 -- whole has.
 module _ {A : Type 0} (decoded : List ℕ → A) (width from : ℕ) (ws : List ℕ) (test : A → Bool) where
   unfoldable pub firstFrom : ℕ → ℕ → Option A
-  firstFrom j k = getElem? (filter test (map (recordAt decoded width from ws) (rising j k))) 0
+  firstFrom j k = getElem? (selected test (map (recordAt decoded width from ws) (rising j k))) 0
 
   pub record SeekingRecord (n j : ℕ) : Type 0 where
     pub within : j ≤ n
-    pub rest : firstFrom j (n - j) ≡ getElem? (filter test (recordsAt decoded width from ws n)) 0
+    pub rest : firstFrom j (n - j) ≡ getElem? (selected test (recordsAt decoded width from ws n)) 0
 
   pub seeking-starts : (n : ℕ) → SeekingRecord n 0
   unfolding firstFrom recordsAt
   seeking-starts n = record { within = omega arith; rest = ap (firstFrom 0) (omega arith) }
 
-  from-here : (n j : ℕ) → j < n → firstFrom j (n - j) ≡ getElem? (filter test (recordAt decoded width from ws j ∷ map (recordAt decoded width from ws) (rising (j + 1) (n - (j + 1))))) 0
+  from-here : (n j : ℕ) → j < n → firstFrom j (n - j) ≡ getElem? (selected test (recordAt decoded width from ws j ∷ map (recordAt decoded width from ws) (rising (j + 1) (n - (j + 1))))) 0
   unfolding firstFrom rising
   from-here n j h = rw (let e : n - j ≡ suc (n - (j + 1)) = omega arith in e, let f : j + 1 ≡ suc j = omega arith in f) refl
 
@@ -157,13 +157,13 @@ module _ {A : Type 0} (decoded : List ℕ → A) (width from : ℕ) (ws : List �
     here-is = ap (λ (k : ℕ). decoded (drop k ws)) (sym e) ∙ sym f
 
     pub seeking-on : test v ≡ false → SeekingRecord n (j + 1)
-    unfolding firstFrom filter
+    unfolding firstFrom selected
     seeking-on g = record { within = omega arith; rest = rw (ap test here-is ∙ g) at (sym (from-here n j h)) ∙ s .rest }
 
-    pub seeking-finds : test v ≡ true → some v ≡ getElem? (filter test (recordsAt decoded width from ws n)) 0
-    unfolding filter
+    pub seeking-finds : test v ≡ true → some v ≡ getElem? (selected test (recordsAt decoded width from ws n)) 0
+    unfolding selected
     seeking-finds g = ap some (sym here-is) ∙ rw (ap test here-is ∙ g) at (sym (from-here n j h)) ∙ s .rest
 
-  pub seeking-ends : {n j : ℕ} → SeekingRecord n j → n ≤ j → none ≡ getElem? (filter test (recordsAt decoded width from ws n)) 0
-  unfolding firstFrom filter rising
+  pub seeking-ends : {n j : ℕ} → SeekingRecord n j → n ≤ j → none ≡ getElem? (selected test (recordsAt decoded width from ws n)) 0
+  unfolding firstFrom selected rising
   seeking-ends {n} {j} s h = rw (let e : n - j ≡ 0 = omega arith in e) at (s .rest)

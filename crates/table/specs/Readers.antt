@@ -9,7 +9,7 @@ use lib.Dec.{eqb, ltb}
 use borrow.Author.Tests.{lt-ltb, le-ltb, eq-eqb, ne-eqb}
 use lib.ListN.{length}
 use Rattle.rule.specs.Records.{Record, Bridge, HalfLink, Vid, Member, bridge, halfLink, vid, member, end, Layout, Range, inLimits}
-use Rattle.graph.specs.Lists.{any}
+use Rattle.graph.specs.Lists.{anyPasses}
 use Rattle.rule.specs.Check.{outsideRange}
 use Rattle.table.specs.declared.bridge.Bridge.{Bridge as table·Bridge}
 use Rattle.table.specs.declared.half_link.HalfLink.{HalfLink as table·HalfLink}
@@ -98,7 +98,7 @@ module _ (l : Layout) (r : List ℕ) where
 -- The ranges one after the other: `b` is what testing the value `v` gave.
 module _ (g : Range) (gs : List Range) (r : List ℕ) where
   pub outside-here : (b : Bool) (v : ℕ) → b ≡ inLimits (g .limits) v → v ≡ g .value r → b ≡ false → outsideRange (g ∷ gs) r ≡ true
-  unfolding any
+  unfolding anyPasses
   outside-here b v e f h = let k : inLimits (g .limits) (g .value r) ≡ false = rw (← f, ← e) h in simp k
 
   pub inside-here :
@@ -107,11 +107,11 @@ module _ (g : Range) (gs : List Range) (r : List ℕ) where
       v ≡ g .value r →
       b ≡ true →
       outsideRange (g ∷ gs) r ≡ outsideRange gs r
-  unfolding any
+  unfolding anyPasses
   inside-here b v e f h = let k : inLimits (g .limits) (g .value r) ≡ true = rw (← f, ← e) h in simp k
 
 pub inside-all : (r : List ℕ) → outsideRange [] r ≡ false
-unfolding any
+unfolding anyPasses
 inside-all r = refl
 
 -- Records are the same where their fields are.

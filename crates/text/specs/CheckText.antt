@@ -4,7 +4,7 @@ use mathlib.Core.List.{List, [], _∷_, _++_}
 use mathlib.Core.Option.{Option, none, some}
 use Rattle.rule.specs.declared.answer.Counts.{Counts}
 use Rattle.rule.specs.Outcome.{Outcome, answered, refused}
-use Rattle.text.specs.Text.{newline, field, line}
+use Rattle.text.specs.Text.{newline, fieldText, line}
 
 -- `counts`
 abbrev pub countsWord : List ℕ
@@ -21,11 +21,11 @@ noneField = 32 ∷ 110 ∷ 111 ∷ 110 ∷ 101 ∷ []
 -- A kind by its number, or `none`.
 abbrev pub kindField : Option ℕ → List ℕ
 kindField none = noneField
-kindField (some k) = field k
+kindField (some k) = fieldText k
 
 -- `refused` with number, kind and word.
 abbrev pub refusalText : ℕ → Option ℕ → ℕ → List ℕ
-refusalText number kind at = refusedWord ++ (field number ++ (kindField kind ++ field at))
+refusalText number kind at = refusedWord ++ (fieldText number ++ (kindField kind ++ fieldText at))
 
 -- The five counts.
 abbrev pub countsFields : Counts → List ℕ

@@ -11,7 +11,7 @@ use borrow.Author.Tests.{lt-ltb, le-ltb}
 use Rattle.graph.specs.Lists.{spliced}
 use Rattle.graph.specs.ListLaws.{same-last}
 use Rattle.graph.specs.Splices.{spliced-nothing, spliced-before}
-use Rattle.text.specs.Text.{digit, digits, places, decimal, WrittenAt}
+use Rattle.text.specs.Text.{digit, digitsOf, places, decimal, WrittenAt}
 
 pub low-digit : (d : ℕ) → d < 10 → 48 + d ≡ digit d
 low-digit d h = simp (lt-ltb d 10 h)
@@ -19,23 +19,23 @@ low-digit d h = simp (lt-ltb d 10 h)
 pub high-digit : (d : ℕ) → 10 ≤ d → 87 + d ≡ digit d
 high-digit d h = simp (le-ltb d 10 h)
 
-pub length-digits : (base k n : ℕ) → length (digits base k n) ≡ k
-unfolding digits
+pub length-digits : (base k n : ℕ) → length (digitsOf base k n) ≡ k
+unfolding digitsOf
 length-digits base zero n = refl
 length-digits base (suc k) n =
-    length-append (digits base k (n / base)) (digit (n % base) ∷ [])
+    length-append (digitsOf base k (n / base)) (digit (n % base) ∷ [])
     ∙ ap (λ (m : ℕ). m + 1) (length-digits base k (n / base))
     ∙ omega arith
 
 module _ (base n count : ℕ) (before : List ℕ) (at : ℕ) where
   abbrev whole : List ℕ
-  whole = digits base count n
+  whole = digitsOf base count n
 
   -- The digits from `left` on are written, and those before them are the digits of what is left of the number.
   pub record Spelling (out : List ℕ) (rest left : ℕ) : Type 0 where
     pub within : left ≤ count
     pub same-length : length out ≡ length before
-    pub front : take left whole ≡ digits base left rest
+    pub front : take left whole ≡ digitsOf base left rest
     pub written : out ≡ spliced before (at + left) (drop left whole)
 
   pub spelling-starts : Spelling before n count
@@ -49,23 +49,23 @@ module _ (base n count : ℕ) (before : List ℕ) (at : ℕ) where
             ∙ ap (spliced before (at + count)) (sym (drop-of-length-le whole {i = count} (omega (arith, length-digits base count n))));
       }
 
-  module _ (k rest : ℕ) (front : take (suc k) whole ≡ digits base (suc k) rest) (within : suc k ≤ count) where
+  module _ (k rest : ℕ) (front : take (suc k) whole ≡ digitsOf base (suc k) rest) (within : suc k ≤ count) where
     inside : k < length whole
     inside = omega (arith, length-digits base count n)
 
-    by-last : take (suc k) whole ≡ digits base k (rest / base) ++ (digit (rest % base) ∷ [])
-    unfolding digits
+    by-last : take (suc k) whole ≡ digitsOf base k (rest / base) ++ (digit (rest % base) ∷ [])
+    unfolding digitsOf
     by-last = front
 
-    shorter : take k whole ≡ digits base k (rest / base)
+    shorter : take k whole ≡ digitsOf base k (rest / base)
     shorter =
         sym (take-take k (suc k) whole (omega arith))
         ∙ ap (λ (t : List ℕ). take k t) by-last
-        ∙ take-at (digits base k (rest / base)) (digit (rest % base) ∷ []) k (length-digits base k (rest / base))
+        ∙ take-at (digitsOf base k (rest / base)) (digit (rest % base) ∷ []) k (length-digits base k (rest / base))
 
     last-digit : getD whole k 0 ≡ digit (rest % base)
     last-digit =
-        same-last (take k whole) (digits base k (rest / base)) (getD whole k 0) (digit (rest % base)) (sym (take-suc whole k 0 inside) ∙ by-last)
+        same-last (take k whole) (digitsOf base k (rest / base)) (getD whole k 0) (digit (rest % base)) (sym (take-suc whole k 0 inside) ∙ by-last)
 
     longer : drop k whole ≡ digit (rest % base) ∷ drop (suc k) whole
     longer = drop-cons whole k 0 inside ∙ ap (λ (d : ℕ). d ∷ drop (suc k) whole) last-digit
@@ -83,7 +83,7 @@ module _ (base n count : ℕ) (before : List ℕ) (at : ℕ) where
       record {
         within = omega (arith, S .within);
         same-length = length-set out (at + k) d ∙ S .same-length;
-        front = shorter k rest front-is inside-is ∙ ap (digits base k) (sym g);
+        front = shorter k rest front-is inside-is ∙ ap (digitsOf base k) (sym g);
         written =
             ap (λ (t : List ℕ). set t (at + k) d) (S .written)
             ∙ ap (λ (m : ℕ). set (spliced before (at + m) (drop m whole)) (at + k) d) e
@@ -95,10 +95,10 @@ module _ (base n count : ℕ) (before : List ℕ) (at : ℕ) where
       inside-is : suc k ≤ count
       inside-is = omega (arith, S .within)
 
-      front-is : take (suc k) whole ≡ digits base (suc k) rest
-      front-is = subst (λ (m : ℕ). take m whole ≡ digits base m rest) e (S .front)
+      front-is : take (suc k) whole ≡ digitsOf base (suc k) rest
+      front-is = subst (λ (m : ℕ). take m whole ≡ digitsOf base m rest) e (S .front)
 
-  pub spelling-ends : {out : List ℕ} {rest left : ℕ} → Spelling out rest left → left ≤ 0 → out ≡ spliced before at (digits base count n)
+  pub spelling-ends : {out : List ℕ} {rest left : ℕ} → Spelling out rest left → left ≤ 0 → out ≡ spliced before at (digitsOf base count n)
   spelling-ends {out} {rest} {left} S h = S .written ∙ ap (λ (m : ℕ). spliced before (at + m) (drop m whole)) none ∙ ap (λ (m : ℕ). spliced before m whole) start
     where
       none : left ≡ 0
@@ -173,20 +173,20 @@ length-decimal n = omega (arith, length-digits 10 (places 9 n) n, most-places 9 
 pub decimal-written :
     {at : ℕ} {before after : List ℕ} (n count next : ℕ) →
     count ≡ places 9 n →
-    after ≡ spliced before at (digits 10 count n) →
+    after ≡ spliced before at (digitsOf 10 count n) →
     next ≡ at + count →
     WrittenAt at before after (decimal n) next
 unfolding decimal
 decimal-written {at} {before} {after} n count next e w h =
     record {
       end-is = h ∙ ap (λ (k : ℕ). at + k) (e ∙ sym (length-digits 10 (places 9 n) n));
-      words-are = w ∙ ap (λ (k : ℕ). spliced before at (digits 10 k n)) e;
+      words-are = w ∙ ap (λ (k : ℕ). spliced before at (digitsOf 10 k n)) e;
     }
 
 pub address-written :
     {at : ℕ} {before after : List ℕ} (n next : ℕ) →
-    after ≡ spliced before at (digits 16 12 n) →
+    after ≡ spliced before at (digitsOf 16 12 n) →
     next ≡ at + 12 →
-    WrittenAt at before after (digits 16 12 n) next
+    WrittenAt at before after (digitsOf 16 12 n) next
 address-written {at} n next w h =
     record { end-is = h ∙ ap (λ (k : ℕ). at + k) (sym (length-digits 16 12 n)); words-are = w }

@@ -17,9 +17,9 @@ abbrev pub digit : ℕ → ℕ
 digit d = cond (ltb d 10) (48 + d) (87 + d)
 
 -- The last `k` digits of `n` to a base, the highest first.
-unfoldable pub digits : ℕ → ℕ → ℕ → List ℕ
-digits base zero n = []
-digits base (suc k) n = digits base k (n / base) ++ (digit (n % base) ∷ [])
+unfoldable pub digitsOf : ℕ → ℕ → ℕ → List ℕ
+digitsOf base zero n = []
+digitsOf base (suc k) n = digitsOf base k (n / base) ++ (digit (n % base) ∷ [])
 
 -- How many decimal digits a number has: one, and one more for each time that it can be divided by 10, `more` at most.
 unfoldable pub places : ℕ → ℕ → ℕ
@@ -28,18 +28,18 @@ places (suc more) n = cond (ltb n 10) 1 (suc (places more (n / 10)))
 
 -- "Fields are decimal": a number of 32 bits has 10 digits at most.
 unfoldable pub decimal : ℕ → List ℕ
-decimal n = digits 10 (places 9 n) n
+decimal n = digitsOf 10 (places 9 n) n
 
 -- "addresses, which have 12 lower-case digits".
 abbrev pub address : ℕ → List ℕ
-address a = digits 16 12 a
+address a = digitsOf 16 12 a
 
-abbrev pub field : ℕ → List ℕ
-field n = space ∷ decimal n
+abbrev pub fieldText : ℕ → List ℕ
+fieldText n = space ∷ decimal n
 
 -- Fields are separated by single spaces.
 abbrev pub fields : List ℕ → List ℕ
-fields ns = flatMap field ns
+fields ns = flatMap fieldText ns
 
 -- A line: a word, its fields, the newline.
 abbrev pub line : List ℕ → List ℕ → List ℕ

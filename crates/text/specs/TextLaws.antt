@@ -8,7 +8,7 @@ use lib.Seq.{take-suc, take-all}
 use Rattle.graph.specs.Lists.{spliced}
 use Rattle.graph.specs.Splices.{spliced-nothing}
 use Rattle.graph.specs.Appending.{appended-length, appended-nothing, appended-both, one-word}
-use Rattle.text.specs.Text.{field, fields, WrittenAt}
+use Rattle.text.specs.Text.{fieldText, fields, WrittenAt}
 use Rattle.text.specs.DigitLaws.{length-decimal}
 
 -- Texts one after the other, where room is given by the place after the text.
@@ -72,10 +72,10 @@ module _ {bytes before : List ℕ} {at : ℕ} {out : List ℕ} {i : ℕ} (C : Co
 
 -- Fields
 
-fields-more : (ns : List ℕ) (n : ℕ) → fields (ns ++ (n ∷ [])) ≡ fields ns ++ field n
+fields-more : (ns : List ℕ) (n : ℕ) → fields (ns ++ (n ∷ [])) ≡ fields ns ++ fieldText n
 unfolding flatMap
-fields-more [] n = append-nil (field n)
-fields-more (m ∷ ns) n = ap (λ (t : List ℕ). field m ++ t) (fields-more ns n) ∙ sym (append-assoc (field m) (fields ns) (field n))
+fields-more [] n = append-nil (fieldText n)
+fields-more (m ∷ ns) n = ap (λ (t : List ℕ). fieldText m ++ t) (fields-more ns n) ∙ sym (append-assoc (fieldText m) (fields ns) (fieldText n))
 
 -- The fields of the numbers passed are written.
 pub record Fielding (numbers before : List ℕ) (at : ℕ) (out : List ℕ) (next i : ℕ) : Type 0 where
@@ -94,7 +94,7 @@ module _ {numbers before : List ℕ} {at : ℕ} {out : List ℕ} {next i : ℕ} 
       at + 11 * length numbers ≤ length before →
       i < length numbers →
       (after : List ℕ) (end : ℕ) →
-      WrittenAt next out after (field (getD numbers i 0)) end →
+      WrittenAt next out after (fieldText (getD numbers i 0)) end →
       Fielding numbers before at after end (i + 1)
   fielding-goes-on room h after end w =
       record {
@@ -107,7 +107,7 @@ module _ {numbers before : List ℕ} {at : ℕ} {out : List ℕ} {next i : ℕ} 
       within-room : end ≤ at + 11 * (i + 1)
       within-room = omega (arith, F .room, w .end-is, length-decimal (getD numbers i 0))
 
-      one-more : fields (take i numbers) ++ field (getD numbers i 0) ≡ fields (take (i + 1) numbers)
+      one-more : fields (take i numbers) ++ fieldText (getD numbers i 0) ≡ fields (take (i + 1) numbers)
       one-more =
           sym (fields-more (take i numbers) (getD numbers i 0))
           ∙ ap fields (sym (take-suc numbers i 0 h) ∙ ap (λ (k : ℕ). take k numbers) (let z : suc i ≡ i + 1 = omega arith in z))

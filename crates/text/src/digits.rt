@@ -4,7 +4,7 @@ ghost use mathlib.Core.Path.{_≡_};
 ghost use Prim.Native.Nat.{_+_, _≤_, _<_};
 ghost use lib.ListN.{length};
 ghost use Rattle.graph.specs.Lists.{spliced};
-ghost use Rattle.text.specs.Text.{digit, digits, places, decimal, address, WrittenAt};
+ghost use Rattle.text.specs.Text.{digit, digitsOf, places, decimal, address, WrittenAt};
 
 fn decimal_digit(d: u32) -> u8
     requires { ⌜ d < 10 ⌝ }
@@ -32,7 +32,7 @@ fn decimal_places(n: u32) -> usize
 // The last `count` decimal digits.
 fn write_last_digits(n: u32, count: usize, out: &mut [u8], at: usize)
     requires { ⌜ at + count ≤ length (now out) ⌝ }
-    ensures { λ _. ⌜ now (out .exit) ≡ spliced (now (out .entry)) at (digits 10 count n) ⌝ }
+    ensures { λ _. ⌜ now (out .exit) ≡ spliced (now (out .entry)) at (digitsOf 10 count n) ⌝ }
 {
     let mut rest = n;
     let mut left = count;

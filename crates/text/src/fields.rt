@@ -3,7 +3,7 @@ use crate::digits::write_decimal;
 ghost use mathlib.Core.List.{_∷_, []};
 ghost use Prim.Native.Nat.{_+_, _*_, _≤_};
 ghost use lib.ListN.{length};
-ghost use Rattle.text.specs.Text.{field, fields, line, WrittenAt};
+ghost use Rattle.text.specs.Text.{fieldText, fields, line, WrittenAt};
 
 // The bytes of a word.
 pub fn write_word(word: &[u8], out: &mut [u8], at: usize) -> usize
@@ -30,7 +30,7 @@ pub fn write_byte(b: u8, out: &mut [u8], at: usize) -> usize
 // A space and a number.
 pub fn write_field(n: u32, out: &mut [u8], at: usize) -> usize
     requires { ⌜ at + 11 ≤ length (now out) ⌝ }
-    ensures { λ r. ⌜ WrittenAt at (now (out .entry)) (now (out .exit)) (field n) r × (r ≤ at + 11) ⌝ }
+    ensures { λ r. ⌜ WrittenAt at (now (out .entry)) (now (out .exit)) (fieldText n) r × (r ≤ at + 11) ⌝ }
 {
     let after_space = write_byte(b' ', out, at);
     write_decimal(n, out, after_space)

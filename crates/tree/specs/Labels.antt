@@ -9,7 +9,7 @@ use mathlib.Core.Bool.{cond, _&&_}
 use lib.Dec.{eqb, ltb, leb}
 use lib.ListN.{getD, set}
 use Rattle.graph.specs.Lists.{spliced}
-use Rattle.graph.specs.Order.{lower, insert}
+use Rattle.graph.specs.Order.{isLower, insertUpward}
 use Rattle.graph.specs.Lookups.{State}
 use Rattle.ect.specs.Rows.{rowPlace, rowOf}
 
@@ -58,7 +58,7 @@ taken labels via v cost hops = set (set (set (set labels v cost) (64 + v) cost) 
 -- The bridge `v` was offered the way through the bridge `via`.
 abbrev pub relaxed : List ℕ → List ℕ → ℕ → ℕ → ℕ → ℕ → List ℕ
 relaxed labels rows via v cost hops =
-    cond (lower (offerRank rows via cost hops) (labelRank rows (labelAt labels v))) (taken labels via v cost hops) labels
+    cond (isLower (offerRank rows via cost hops) (labelRank rows (labelAt labels v))) (taken labels via v cost hops) labels
 
 -- The bridge `u` was settled.
 abbrev pub settledLabels : List ℕ → ℕ → ℕ → List ℕ
@@ -66,7 +66,7 @@ settledLabels labels root u =
     set (set labels (256 + u) (cond (eqb (labelAt labels u .next) root) u (labelAt labels (labelAt labels u .next) .first))) u noCost
 
 abbrev pub settledRows : List ℕ → List ℕ → ℕ → ℕ → List ℕ
-settledRows labels rows u key = spliced rows (rowPlace u) (insert key (rowOf rows (labelAt labels u .next) (labelAt labels u .steps)))
+settledRows labels rows u key = spliced rows (rowPlace u) (insertUpward key (rowOf rows (labelAt labels u .next) (labelAt labels u .steps)))
 
 -- What the first `n` labels and the rows stand for. A settled bridge has a cost and does not wait.
 abbrev pub stateOf : ℕ → List ℕ → List ℕ → State

@@ -8,7 +8,7 @@ use mathlib.Core.Logic.{_⊎_, inl, inr}
 use mathlib.Core.Bool.{Bool, true, false, cond, not, Bool·not-not}
 use lib.Dec.{T}
 use lib.ListN.{length, getD}
-use Rattle.graph.specs.Order.{Lower, lower}
+use Rattle.graph.specs.Order.{Lower, isLower}
 use Rattle.graph.specs.OrderLaws.{test-lower, lower-test, lower-by-rest}
 use Rattle.graph.specs.ListLaws.{same-or-not}
 use Rattle.ect.specs.Rows.{rowOf}
@@ -18,14 +18,14 @@ use Rattle.tree.specs.Relaxing.{Comparable, Relaxable, offerAt, tookAt, 
 
 -- An offer and a label of equal cost and hops are compared by the rows of their next hops.
 pub lower-by-rows : (rows : List ℕ) (via cost hops : ℕ) (b : Label) → cost ≡ b .far → hops ≡ b .steps
-    → lower (rowOf rows via hops) (rowOf rows (b .next) hops) ≡ lower (offerRank rows via cost hops) (labelRank rows b)
+    → isLower (rowOf rows via hops) (rowOf rows (b .next) hops) ≡ isLower (offerRank rows via cost hops) (labelRank rows b)
 lower-by-rows rows via cost hops b e f =
-    ap (λ (k : ℕ). lower (rowOf rows via hops) (rowOf rows (b .next) k)) f
+    ap (λ (k : ℕ). isLower (rowOf rows via hops) (rowOf rows (b .next) k)) f
     ∙ lower-by-rest hops (b .steps) (rowOf rows via hops) (rowOf rows (b .next) (b .steps)) f
     ∙ lower-by-rest cost (b .far) (hops ∷ rowOf rows via hops) (b .steps ∷ rowOf rows (b .next) (b .steps)) e
 
 -- The labels after an offer, by the answer of the comparison.
-module _ (labels rows : List ℕ) (via v cost hops : ℕ) (b : Bool) (e : b ≡ lower (offerRank rows via cost hops) (labelRank rows (labelAt labels v))) where
+module _ (labels rows : List ℕ) (via v cost hops : ℕ) (b : Bool) (e : b ≡ isLower (offerRank rows via cost hops) (labelRank rows (labelAt labels v))) where
   pub offer-refused : not b ≡ true → labels ≡ relaxed labels rows via v cost hops
   offer-refused f = ap (λ (z : Bool). cond z (taken labels via v cost hops) labels) (sym (ap not f) ∙ Bool·not-not b ∙ e)
 
@@ -159,7 +159,7 @@ module _ (starts neighbours costs rows labels : List ℕ) (via : ℕ) where
       })
 
       goes-on : (labels″ : List ℕ) → labels″ ≡ relaxed labels′ rows via v way (labelAt labels via .steps + 1) → Offering labels″ (i + 1)
-      goes-on labels″ e = go (lower (offerAt costs rows labels via i) (labelRank rows (labelAt labels′ v)))
+      goes-on labels″ e = go (isLower (offerAt costs rows labels via i) (labelRank rows (labelAt labels′ v)))
           (test-lower (offerAt costs rows labels via i) (labelRank rows (labelAt labels′ v)))
           (lower-test (offerAt costs rows labels via i) (labelRank rows (labelAt labels′ v))) e
         where

@@ -8,7 +8,7 @@ use mathlib.Core.Bool.{Bool, true, false, cond}
 use lib.Dec.{T}
 use lib.ListN.{length, getD}
 use Rattle.graph.specs.Lists.{rising}
-use Rattle.graph.specs.ListLaws.{in-rising, total-falls}
+use Rattle.graph.specs.ListLaws.{in-rising, sum-falls}
 use Rattle.graph.specs.Graph.{Graph}
 use Rattle.tree.specs.Labels.{noCost, labelAt, stateOf, LeastOf, WaitsAt, settledLabels, settledRows}
 use Rattle.tree.specs.LabelLaws.{length-settled}
@@ -74,7 +74,7 @@ module _ (n : ℕ) (starts neighbours costs keys : List ℕ) (root : ℕ) where
       }
 
       fewer : openBridges n labels₂ < openBridges n labels
-      fewer = total-falls (λ x. cond (stateOf n labels₂ labels₂ .settled x) 0 1) (λ x. cond (stateOf n labels labels .settled x) 0 1) (rising 0 n)
+      fewer = sum-falls (λ x. cond (stateOf n labels₂ labels₂ .settled x) 0 1) (λ x. cond (stateOf n labels labels .settled x) 0 1) (rising 0 n)
           (λ x. not-more (stateOf n labels labels .settled x) (stateOf n labels₂ labels₂ .settled x) (stays x))
           u (in-rising 0 n u (omega arith) (omega (arith, A .inside)))
           (less (stateOf n labels labels .settled u) (stateOf n labels₂ labels₂ .settled u) open-before settled-now)

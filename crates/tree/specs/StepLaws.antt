@@ -9,7 +9,7 @@ use mathlib.Core.Bool.{cond}
 use lib.Dec.{T, ltb, eqb, ltb→lt, lt→ltb}
 use lib.ListN.{length, getD}
 use borrow.Author.Tests.{eq-eqb, ne-eqb}
-use Rattle.graph.specs.Order.{Lower, insert, Upward}
+use Rattle.graph.specs.Order.{Lower, insertUpward, Upward}
 use Rattle.graph.specs.OrderLaws.{sorted-upward}
 use Rattle.graph.specs.ListLaws.{same-or-not, le-or-gt}
 use Rattle.graph.specs.Graph.{Graph, cost, hops, pathId}
@@ -88,7 +88,7 @@ module _ {g : Graph} {key : ℕ → ℕ} {n root : ℕ} {starts neighbours costs
 
   -- The label of `u` is that of its chosen path.
   settles : (q : List ℕ) × Settled g key root st (st .next u) q × Chosen g key u root (u ∷ q) × (st .far u ≡ cost g (u ∷ q)) × (st .steps u ≡ hops (u ∷ q))
-      × (insert (key u) (st .row (st .next u)) ≡ pathId key (u ∷ q))
+      × (insertUpward (key u) (st .row (st .next u)) ≡ pathId key (u ∷ q))
   settles = kept-settles g (R .laws) key root st (M .kept) (K .laws) u inside not-settled labelled-u nearest
 
   few-steps : st .steps u < 64
@@ -291,12 +291,12 @@ module _ {g : Graph} {key : ℕ → ℕ} {n root : ℕ} {starts neighbours costs
         let l : v < n = settled-says n labels rows v k .0 in
         ap (λ (m : ℕ). rowOf rows₁ v (m + 1)) (steps-kept v (still v k)) ∙ old-row v (st .steps v + 1) l k (omega (arith, settled-steps v l k))
 
-    row-new : st′ .row u ≡ insert (key u) (st .row (st .next u))
+    row-new : st′ .row u ≡ insertUpward (key u) (st .row (st .next u))
     row-new =
         ap (λ (m : ℕ). rowOf rows₁ u (m + 1)) (steps-kept u done)
         ∙ insertion-read-back rows (st .next u) u (st .steps u) (getD keys u 0) insertable
-        ∙ ap (λ (k : ℕ). insert k (rowOf rows (st .next u) (st .steps u))) (K .key-is u inside)
-        ∙ ap (insert (key u)) next-row
+        ∙ ap (λ (k : ℕ). insertUpward k (rowOf rows (st .next u) (st .steps u))) (K .key-is u inside)
+        ∙ ap (insertUpward (key u)) next-row
 
     not-u : (x : ℕ) → (T (st′ .settled x) → ⊥) → x ≡ u → ⊥
     not-u x f e = f (subst (λ (z : ℕ). T (st′ .settled z)) (sym e) done)

@@ -8,7 +8,7 @@ use mathlib.Core.Bool.{cond}
 use lib.Dec.{T}
 use lib.ListN.{length}
 use Rattle.graph.specs.Lists.{rising}
-use Rattle.graph.specs.Members.{total}
+use Rattle.graph.specs.Members.{sumOver}
 use Rattle.graph.specs.Graph.{Graph}
 use Rattle.graph.specs.Chosen.{Chosen}
 use Rattle.graph.specs.Lookups.{Kept}
@@ -34,4 +34,4 @@ pub record Underway (n : ℕ) (starts neighbours costs keys : List ℕ) (root : 
 
 -- How many of the first `n` bridges are not settled.
 abbrev pub openBridges : ℕ → List ℕ → ℕ
-openBridges n labels = total (λ u. cond (stateOf n labels labels .settled u) 0 1) (rising 0 n)
+openBridges n labels = sumOver (λ u. cond (stateOf n labels labels .settled u) 0 1) (rising 0 n)

@@ -4,7 +4,7 @@ use ect::row::is_lower_row;
 use rule::measure::Cost;
 use rule::measure::Hops;
 ghost use mathlib.Core.Path.{_≡_};
-ghost use Rattle.graph.specs.Order.{lower};
+ghost use Rattle.graph.specs.Order.{isLower};
 ghost use Rattle.tree.specs.Labels.{labelAt, labelRank, offerRank, relaxed};
 ghost use Rattle.tree.specs.Relaxing.{Comparable, Relaxable, Relaxed};
 
@@ -19,7 +19,7 @@ fn is_lower_offer(
     hops: Hops,
 ) -> bool
     requires { ⌜ Comparable (now labels) (now rows) via v (cost .0) (hops .0) ⌝ }
-    ensures { λ r. ⌜ r ≡ lower (offerRank (now (rows .entry)) via (cost .0) (hops .0)) (labelRank (now (rows .entry)) (labelAt (now (labels .entry)) v)) ⌝ }
+    ensures { λ r. ⌜ r ≡ isLower (offerRank (now (rows .entry)) via (cost .0) (hops .0)) (labelRank (now (rows .entry)) (labelAt (now (labels .entry)) v)) ⌝ }
 {
     let old_cost = labels[64 + v];
     if cost.0 != old_cost {

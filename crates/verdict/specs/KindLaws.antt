@@ -7,7 +7,7 @@ use mathlib.Core.Option.{none, some}
 use lib.ListN.{length, getD, drop}
 use lib.Seq.{drop-cons, drop-length}
 use borrow.Author.Tests.{ne-eqb}
-use Rattle.graph.specs.Lists.{filter}
+use Rattle.graph.specs.Lists.{selected}
 use Rattle.rule.specs.declared.answer.RecordKind.{RecordKind}
 use Rattle.rule.specs.Words.{word, wordsOf}
 use Rattle.rule.specs.Records.{Layout, layoutOf, bridgeLayout, halfLinkLayout, vidLayout, memberLayout, endLayout}
@@ -20,28 +20,28 @@ use Rattle.verdict.specs.Steps.{Stepped, stepAs}
 use Rattle.verdict.specs.declared.step.Step.{Step}
 
 pub bridge-kind : layoutOf 1 ≡ some bridgeLayout
-unfolding layoutOf filter
+unfolding layoutOf selected
 bridge-kind = refl
 
 pub half-link-kind : layoutOf 2 ≡ some halfLinkLayout
-unfolding layoutOf filter
+unfolding layoutOf selected
 half-link-kind = refl
 
 pub vid-kind : layoutOf 3 ≡ some vidLayout
-unfolding layoutOf filter
+unfolding layoutOf selected
 vid-kind = refl
 
 pub member-kind : layoutOf 4 ≡ some memberLayout
-unfolding layoutOf filter
+unfolding layoutOf selected
 member-kind = refl
 
 pub end-kind : layoutOf 15 ≡ some endLayout
-unfolding layoutOf filter
+unfolding layoutOf selected
 end-kind = refl
 
 pub unknown-kind :
     (k : ℕ) → (k ≡ 1 → ⊥) → (k ≡ 2 → ⊥) → (k ≡ 3 → ⊥) → (k ≡ 4 → ⊥) → (k ≡ 15 → ⊥) → layoutOf k ≡ none
-unfolding layoutOf filter
+unfolding layoutOf selected
 unknown-kind k a b c d e = simp (ne-eqb k 1 a, ne-eqb k 2 b, ne-eqb k 3 c, ne-eqb k 4 d, ne-eqb k 15 e)
 
 module _ (t : List ℕ) (s : Shape) where

@@ -11,7 +11,7 @@ use Rattle.rule.specs.declared.answer.RecordKind.{RecordKind}
 use Rattle.rule.specs.Records.{Layout}
 use Rattle.rule.specs.Outcome.{answered, refused}
 use Rattle.rule.specs.Answers.{kindNumber}
-use Rattle.rule.specs.Check.{goesOn, stops, readAs, Step as check·Step}
+use Rattle.rule.specs.Check.{goesOn, stops, readAs, ReadingStep}
 use Rattle.table.specs.declared.shape.Shape.{Shape}
 use Rattle.table.specs.Positions.{halfLinksFrom, wordsRead, planAt, readingAt}
 use Rattle.faults.specs.HalfLinks.{portKey, numberKey, Keyed}
@@ -22,7 +22,7 @@ abbrev pub concerned : ℕ → RecordKind → RecordKind
 concerned number kind = cond (eqb number 2) RecordKind.None kind
 
 -- What the answer to a record after those of the shape `s` stands for.
-abbrev pub stepValues : List ℕ → Shape → Step → check·Step
+abbrev pub stepValues : List ℕ → Shape → Step → ReadingStep
 stepValues ws s (Step.Next t) = goesOn (readingAt ws t)
 stepValues ws s Step.End = stops (answered (planAt ws s))
 stepValues ws s (Step.Refused number kind at) = stops (refused number (kindNumber kind) at)
@@ -33,12 +33,12 @@ pub record Indexes (ports links ws : List ℕ) (s : Shape) : Type 0 where
   pub by-number : Keyed numberKey links ws (halfLinksFrom s) (s .«half_links»)
 
 -- A record after those of `s` was read: the step is the rule's, and the words of a record taken are all there.
-pub record Stepped (ws : List ℕ) (s : Shape) (rule : check·Step) (r : Step) : Type 0 where
+pub record Stepped (ws : List ℕ) (s : Shape) (rule : ReadingStep) (r : Step) : Type 0 where
   pub value : stepValues ws s r ≡ rule
   pub within : (t : Shape) → r ≡ Step.Next t → wordsRead t ≤ length ws
 
 -- The rule's step where the record is of the kind of the row `l`.
-abbrev pub stepAs : List ℕ → Shape → Layout → check·Step
+abbrev pub stepAs : List ℕ → Shape → Layout → ReadingStep
 stepAs ws s l = readAs (readingAt ws s) (drop (wordsRead s) ws) (some l)
 
 -- A record taken left the half-links where they stood.

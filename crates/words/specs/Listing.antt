@@ -9,7 +9,7 @@ use lib.Dec.{eqb}
 use lib.ListN.{length, getD, drop}
 use lib.Seq.{drop-length}
 use borrow.Author.Tests.{eq-eqb, ne-eqb}
-use Rattle.graph.specs.Lists.{any}
+use Rattle.graph.specs.Lists.{anyPasses}
 use Rattle.graph.specs.ListLaws.{drop-next}
 use Rattle.rule.specs.Records.{Bridge, address}
 use Rattle.rule.specs.Entries.{entryWords}
@@ -55,7 +55,7 @@ listing-ends L l = appending-ends (L .so-far) l
 -- The loop over receivers: no receiver before the place `j` is behind the port, and nothing is written yet.
 pub record Seeking (behind : List ℕ) (port : ℕ) (words₀ : List ℕ) (end₀ j : ℕ) (words : List ℕ) (end : ℕ) : Type 0 where
   pub within : j ≤ length behind
-  pub rest : any (λ q. eqb q port) (drop j behind) ≡ any (λ q. eqb q port) behind
+  pub rest : anyPasses (λ q. eqb q port) (drop j behind) ≡ anyPasses (λ q. eqb q port) behind
   pub same-words : words ≡ words₀
   pub same-end : end ≡ end₀
 
@@ -63,32 +63,32 @@ pub seeking-starts : (behind : List ℕ) (port : ℕ) (words : List ℕ) (end : 
 seeking-starts behind port words end = record { within = omega arith; rest = refl; same-words = refl; same-end = refl }
 
 module _ {behind : List ℕ} {port : ℕ} {words₀ : List ℕ} {end₀ j : ℕ} {words : List ℕ} {end : ℕ} (S : Seeking behind port words₀ end₀ j words end) where
-  next-behind : j < length behind → any (λ q. eqb q port) (drop j behind) ≡ (eqb (getD behind j 0) port || any (λ q. eqb q port) (drop (j + 1) behind))
-  unfolding any
-  next-behind l = ap (any (λ q. eqb q port)) (drop-next behind j (j + 1) 0 (omega arith) l)
+  next-behind : j < length behind → anyPasses (λ q. eqb q port) (drop j behind) ≡ (eqb (getD behind j 0) port || anyPasses (λ q. eqb q port) (drop (j + 1) behind))
+  unfolding anyPasses
+  next-behind l = ap (anyPasses (λ q. eqb q port)) (drop-next behind j (j + 1) 0 (omega arith) l)
 
   pub seeking-goes-on : j < length behind → (getD behind j 0 ≡ port → ⊥) → Seeking behind port words₀ end₀ (j + 1) words end
   seeking-goes-on l d = record {
     within = omega arith;
-    rest = sym (next-behind l ∙ ap (λ (b : Bool). b || any (λ q. eqb q port) (drop (j + 1) behind)) (ne-eqb (getD behind j 0) port d)) ∙ S .rest;
+    rest = sym (next-behind l ∙ ap (λ (b : Bool). b || anyPasses (λ q. eqb q port) (drop (j + 1) behind)) (ne-eqb (getD behind j 0) port d)) ∙ S .rest;
     same-words = S .same-words;
     same-end = S .same-end;
   }
 
-  found : j < length behind → getD behind j 0 ≡ port → any (λ q. eqb q port) behind ≡ true
-  found l e = sym (S .rest) ∙ next-behind l ∙ ap (λ (b : Bool). b || any (λ q. eqb q port) (drop (j + 1) behind)) (eq-eqb (getD behind j 0) port e)
+  found : j < length behind → getD behind j 0 ≡ port → anyPasses (λ q. eqb q port) behind ≡ true
+  found l e = sym (S .rest) ∙ next-behind l ∙ ap (λ (b : Bool). b || anyPasses (λ q. eqb q port) (drop (j + 1) behind)) (eq-eqb (getD behind j 0) port e)
 
-  none-there : length behind ≤ j → any (λ q. eqb q port) behind ≡ false
-  unfolding any
+  none-there : length behind ≤ j → anyPasses (λ q. eqb q port) behind ≡ false
+  unfolding anyPasses
   none-there l =
-      sym (S .rest) ∙ ap (λ (k : ℕ). any (λ q. eqb q port) (drop k behind)) all ∙ ap (any (λ q. eqb q port)) (drop-length behind)
+      sym (S .rest) ∙ ap (λ (k : ℕ). anyPasses (λ q. eqb q port) (drop k behind)) all ∙ ap (anyPasses (λ q. eqb q port)) (drop-length behind)
     where
       all : j ≡ length behind
       all = omega (arith, S .within)
 
   module _ {ports : List ℕ} {vid addr : ℕ} {lent : List ℕ} {at i : ℕ} (L : Listing ports behind vid addr lent at i words₀ end₀)
       (l : i < length ports) (e : port ≡ getD ports i 0) where
-    by-test : (b : Bool) → any (λ q. eqb q port) behind ≡ b → groupAt ports behind vid addr i ≡ cond b (entryWords (entryWith 9 vid port addr)) []
+    by-test : (b : Bool) → anyPasses (λ q. eqb q port) behind ≡ b → groupAt ports behind vid addr i ≡ cond b (entryWords (entryWith 9 vid port addr)) []
     unfolding groupAt
     by-test b f = rw (← e) (ap (λ (b : Bool). cond b (entryWords (entryWith 9 vid port addr)) []) f)
 

@@ -5,7 +5,7 @@ use mathlib.Core.List.{List, [], _∷_}
 use mathlib.Core.Bool.{Bool, cond}
 use lib.Dec.{eqb}
 use lib.ListN.{length, getD}
-use Rattle.graph.specs.Lists.{any}
+use Rattle.graph.specs.Lists.{anyPasses}
 use Rattle.rule.specs.Words.{wordsOf}
 use Rattle.rule.specs.Records.{Bridge, Vid, Member, bridgeOf, vidOf, memberOf, address}
 use Rattle.rule.specs.Entries.{Entry, entryWords, receives}
@@ -50,7 +50,7 @@ portsBehind ws s row m = eachOf (behindAt ws s row m) (s .members)
 -- "a group entry for each port, ports rising: a port is listed as soon as one receiver behind it is found".
 unfoldable pub groupAt : List ℕ → List ℕ → ℕ → ℕ → ℕ → List ℕ
 groupAt ports behind vid addr i =
-    cond (any (λ q. eqb q (getD ports i 0)) behind) (entryWords (entryWith 9 vid (getD ports i 0) addr)) []
+    cond (anyPasses (λ q. eqb q (getD ports i 0)) behind) (entryWords (entryWith 9 vid (getD ports i 0) addr)) []
 
 unfoldable pub groupWords : List ℕ → List ℕ → ℕ → ℕ → List ℕ
 groupWords ports behind vid addr = eachOf (groupAt ports behind vid addr) (length ports)

@@ -33,8 +33,8 @@ use Prim.Native.Nat.{ℕ}
 use mathlib.Core.Path.{_≡_, refl}
 use mathlib.Core.List.{List, [], _∷_, flatMap}
 use mathlib.Core.Option.{none, some}
-use Rattle.graph.specs.Lists.{rising, filter, any, lowestBy}
-use Rattle.graph.specs.Order.{insert, sorted, lower}
+use Rattle.graph.specs.Lists.{rising, selected, anyPasses, lowestBy}
+use Rattle.graph.specs.Order.{insertUpward, sorted, isLower}
 use Rattle.graph.specs.Graph.{costOnward}
 use Rattle.graph.specs.Chosen.{neighbours, onward, paths, chosen}
 use Rattle.rule.specs.Words.{wordsOf}
@@ -54,7 +54,7 @@ use Rattle.rule.specs.Exported.{exportedPathCost}
 const UNFOLDING: &str = "unfolding wordsOf layoutOf lowestFault readOn verdict linksOf usableLinks countUsable linksBetween hopLink
   maskedBytes maskedIdentifier chosenPath entryListOf entriesOf individualEntries groupEntries listedPorts receiverPorts leavingPort
   checkOutcome pathAnswer pathOutcome entriesAnswer entriesOutcome treeOutcome treeOf lastButOne lookupOutcome matchingPorts
-  faultyList entriesIn exportedPathCost rising filter any lowestBy insert sorted lower costOnward neighbours onward paths chosen flatMap";
+  faultyList entriesIn exportedPathCost rising selected anyPasses lowestBy insertUpward sorted isLower costOnward neighbours onward paths chosen flatMap";
 
 fn main() {
     let arguments = Arguments::of_process(&USAGE);

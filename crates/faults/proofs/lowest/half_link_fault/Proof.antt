@@ -12,7 +12,7 @@ use Rattle.rule.specs.Records.{halfLink, halfLinkOf, halfLinkLayout}
 use Rattle.table.specs.declared.half_link.HalfLinkRead.{HalfLinkRead}
 use Rattle.faults.specs.FaultLaws.{unknown-ends, read-of-16-bits}
 use Prim.Native.Nat.{ℕ}
-use Rattle.graph.specs.Lists.{filter}
+use Rattle.graph.specs.Lists.{selected}
 use Rattle.rule.specs.Check.{hasLink, wrongHalf}
 use Rattle.table.specs.Positions.{recordsAt}
 use Rattle.faults.specs.HalfLinkLaws.{port-repeated}
@@ -87,7 +87,7 @@ is-wrong-link-requires : tie.Need-is-wrong-link-requires
 is-wrong-link-requires c κs = (omega (arith, c .half-links-from .ensures), rw (c .half-links-from .ensures) (c .before .before .before .before .before .before .before .before .before .before .before .before .before .before .before .before .before .pre .1 .1))
 
 returns-4 : tie.Need-returns-4
-returns-4 c = left-over (readingAt (wordsOf (c .before .before .before .before .before .before .before .before .before .before .before .before .before .before .before .before .before .before .before .args .table .now)) (c .before .before .before .before .before .before .before .before .before .before .before .before .before .before .before .before .before .before .before .args .s)) (halfLink (halfLinkValues (c .before .before .before .before .before .before .before .before .before .before .read .given .0 .0))) (length (drop (wordsRead (c .before .before .before .before .before .before .before .before .before .before .before .before .before .before .before .before .before .before .before .args .s)) (wordsOf (c .before .before .before .before .before .before .before .before .before .before .before .before .before .before .before .before .before .before .before .args .table .now)))) false false false true false refl (unknown-ends (wordsOf (c .before .before .before .before .before .before .before .before .before .before .before .before .before .before .before .before .before .before .before .args .table .now)) (c .before .before .before .before .before .before .before .before .before .before .before .before .before .before .before .before .before .before .before .args .s) (halfLinkValues (c .before .before .before .before .before .before .before .before .before .before .read .given .0 .0)) ∙ sym (c .before .before .before .before .before .before .names-unknown .ensures) ∙ c .before .before .before .before .before .if2 .left) (sym (port-repeated (c .before .before .before .before .before .before .before .before .before .before .before .before .before .before .before .before .before .before .before .pre .1 .0) (halfLinkValues (c .before .before .before .before .before .before .before .before .before .before .read .given .0 .0)) (read-of-16-bits (drop (wordsRead (c .before .before .before .before .before .before .before .before .before .before .before .before .before .before .before .before .before .before .before .args .s)) (wordsOf (c .before .before .before .before .before .before .before .before .before .before .before .before .before .before .before .before .before .before .before .args .table .now))) (halfLinkValues (c .before .before .before .before .before .before .before .before .before .before .read .given .0 .0)) ((judged-at halfLinkLayout (c .before .before .before .before .before .before .before .before .before .before .before .before .before .before .before .before .before .before .before .args .table .now) (c .before .before .before .before .before .before .before .before .before .before .before .before .before .before .before .before .before .before .before .args .s) _ _ (whole (halfLink (halfLinkValues (c .before .before .before .before .before .before .before .before .before .before .read .given .0 .0)))) _ _ _ (omega (arith, c .before .before .before .before .before .before .before .before .before .before .before .before .before .before .before .words-read .ensures)) (c .before .before .before .before .before .before .before .before .before .before .before .before .read-half-link .ensures) (ap (λ (x : HalfLinkRead). halfLinkRead x) (c .before .before .before .before .before .before .before .before .before .before .read .given .1)) (c .before .before .before .before .before .before .before .before .before .before .before .before .before .before .last-kind .ensures) (sym (how-many halfLinkOf 3 (halfLinksFrom (c .before .before .before .before .before .before .before .before .before .before .before .before .before .before .before .before .before .before .before .args .s)) (wordsOf (c .before .before .before .before .before .before .before .before .before .before .before .before .before .before .before .before .before .before .before .args .table .now)) ((c .before .before .before .before .before .before .before .before .before .before .before .before .before .before .before .before .before .before .before .args .s) .«half_links»))) (c .before .before .before .before .before .before .before .before .own-fault4 .ensures)) .found) .1)) ∙ sym (c .before .before .before .before .is-port-repeated .ensures) ∙ c .before .before .before .if3 .left) (sym (c .before .is-wrong-link .ensures ∙ ap (λ (n : ℕ). wrongHalf (halfLinkValues (c .before .before .before .before .before .before .before .before .before .before .read .given .0 .0)) (filter (hasLink (c .before .before .before .before .before .before .before .before .before .before .read .given .0 .0 .link)) (recordsAt halfLinkOf 3 n (wordsOf (c .before .before .before .before .before .before .before .before .before .before .before .before .before .before .before .before .before .before .before .args .table .now)) (c .before .before .before .before .before .before .before .before .before .before .before .before .before .before .before .before .before .before .before .args .s .«half_links»)))) (c .before .before .half-links-from .ensures)) ∙ c .if4 .taken) refl ∙ fault-left (judged-at halfLinkLayout (c .before .before .before .before .before .before .before .before .before .before .before .before .before .before .before .before .before .before .before .args .table .now) (c .before .before .before .before .before .before .before .before .before .before .before .before .before .before .before .before .before .before .before .args .s) _ _ (whole (halfLink (halfLinkValues (c .before .before .before .before .before .before .before .before .before .before .read .given .0 .0)))) _ _ _ (omega (arith, c .before .before .before .before .before .before .before .before .before .before .before .before .before .before .before .words-read .ensures)) (c .before .before .before .before .before .before .before .before .before .before .before .before .read-half-link .ensures) (ap (λ (x : HalfLinkRead). halfLinkRead x) (c .before .before .before .before .before .before .before .before .before .before .read .given .1)) (c .before .before .before .before .before .before .before .before .before .before .before .before .before .before .last-kind .ensures) (sym (how-many halfLinkOf 3 (halfLinksFrom (c .before .before .before .before .before .before .before .before .before .before .before .before .before .before .before .before .before .before .before .args .s)) (wordsOf (c .before .before .before .before .before .before .before .before .before .before .before .before .before .before .before .before .before .before .before .args .table .now)) ((c .before .before .before .before .before .before .before .before .before .before .before .before .before .before .before .before .before .before .before .args .s) .«half_links»))) (c .before .before .before .before .before .before .before .before .own-fault4 .ensures)) (halfLink (halfLinkValues (c .before .before .before .before .before .before .before .before .before .before .read .given .0 .0))) refl (c .before .before .before .before .before .before .before .if1 .left)
+returns-4 c = left-over (readingAt (wordsOf (c .before .before .before .before .before .before .before .before .before .before .before .before .before .before .before .before .before .before .before .args .table .now)) (c .before .before .before .before .before .before .before .before .before .before .before .before .before .before .before .before .before .before .before .args .s)) (halfLink (halfLinkValues (c .before .before .before .before .before .before .before .before .before .before .read .given .0 .0))) (length (drop (wordsRead (c .before .before .before .before .before .before .before .before .before .before .before .before .before .before .before .before .before .before .before .args .s)) (wordsOf (c .before .before .before .before .before .before .before .before .before .before .before .before .before .before .before .before .before .before .before .args .table .now)))) false false false true false refl (unknown-ends (wordsOf (c .before .before .before .before .before .before .before .before .before .before .before .before .before .before .before .before .before .before .before .args .table .now)) (c .before .before .before .before .before .before .before .before .before .before .before .before .before .before .before .before .before .before .before .args .s) (halfLinkValues (c .before .before .before .before .before .before .before .before .before .before .read .given .0 .0)) ∙ sym (c .before .before .before .before .before .before .names-unknown .ensures) ∙ c .before .before .before .before .before .if2 .left) (sym (port-repeated (c .before .before .before .before .before .before .before .before .before .before .before .before .before .before .before .before .before .before .before .pre .1 .0) (halfLinkValues (c .before .before .before .before .before .before .before .before .before .before .read .given .0 .0)) (read-of-16-bits (drop (wordsRead (c .before .before .before .before .before .before .before .before .before .before .before .before .before .before .before .before .before .before .before .args .s)) (wordsOf (c .before .before .before .before .before .before .before .before .before .before .before .before .before .before .before .before .before .before .before .args .table .now))) (halfLinkValues (c .before .before .before .before .before .before .before .before .before .before .read .given .0 .0)) ((judged-at halfLinkLayout (c .before .before .before .before .before .before .before .before .before .before .before .before .before .before .before .before .before .before .before .args .table .now) (c .before .before .before .before .before .before .before .before .before .before .before .before .before .before .before .before .before .before .before .args .s) _ _ (whole (halfLink (halfLinkValues (c .before .before .before .before .before .before .before .before .before .before .read .given .0 .0)))) _ _ _ (omega (arith, c .before .before .before .before .before .before .before .before .before .before .before .before .before .before .before .words-read .ensures)) (c .before .before .before .before .before .before .before .before .before .before .before .before .read-half-link .ensures) (ap (λ (x : HalfLinkRead). halfLinkRead x) (c .before .before .before .before .before .before .before .before .before .before .read .given .1)) (c .before .before .before .before .before .before .before .before .before .before .before .before .before .before .last-kind .ensures) (sym (how-many halfLinkOf 3 (halfLinksFrom (c .before .before .before .before .before .before .before .before .before .before .before .before .before .before .before .before .before .before .before .args .s)) (wordsOf (c .before .before .before .before .before .before .before .before .before .before .before .before .before .before .before .before .before .before .before .args .table .now)) ((c .before .before .before .before .before .before .before .before .before .before .before .before .before .before .before .before .before .before .before .args .s) .«half_links»))) (c .before .before .before .before .before .before .before .before .own-fault4 .ensures)) .found) .1)) ∙ sym (c .before .before .before .before .is-port-repeated .ensures) ∙ c .before .before .before .if3 .left) (sym (c .before .is-wrong-link .ensures ∙ ap (λ (n : ℕ). wrongHalf (halfLinkValues (c .before .before .before .before .before .before .before .before .before .before .read .given .0 .0)) (selected (hasLink (c .before .before .before .before .before .before .before .before .before .before .read .given .0 .0 .link)) (recordsAt halfLinkOf 3 n (wordsOf (c .before .before .before .before .before .before .before .before .before .before .before .before .before .before .before .before .before .before .before .args .table .now)) (c .before .before .before .before .before .before .before .before .before .before .before .before .before .before .before .before .before .before .before .args .s .«half_links»)))) (c .before .before .half-links-from .ensures)) ∙ c .if4 .taken) refl ∙ fault-left (judged-at halfLinkLayout (c .before .before .before .before .before .before .before .before .before .before .before .before .before .before .before .before .before .before .before .args .table .now) (c .before .before .before .before .before .before .before .before .before .before .before .before .before .before .before .before .before .before .before .args .s) _ _ (whole (halfLink (halfLinkValues (c .before .before .before .before .before .before .before .before .before .before .read .given .0 .0)))) _ _ _ (omega (arith, c .before .before .before .before .before .before .before .before .before .before .before .before .before .before .before .words-read .ensures)) (c .before .before .before .before .before .before .before .before .before .before .before .before .read-half-link .ensures) (ap (λ (x : HalfLinkRead). halfLinkRead x) (c .before .before .before .before .before .before .before .before .before .before .read .given .1)) (c .before .before .before .before .before .before .before .before .before .before .before .before .before .before .last-kind .ensures) (sym (how-many halfLinkOf 3 (halfLinksFrom (c .before .before .before .before .before .before .before .before .before .before .before .before .before .before .before .before .before .before .before .args .s)) (wordsOf (c .before .before .before .before .before .before .before .before .before .before .before .before .before .before .before .before .before .before .before .args .table .now)) ((c .before .before .before .before .before .before .before .before .before .before .before .before .before .before .before .before .before .before .before .args .s) .«half_links»))) (c .before .before .before .before .before .before .before .before .own-fault4 .ensures)) (halfLink (halfLinkValues (c .before .before .before .before .before .before .before .before .before .before .read .given .0 .0))) refl (c .before .before .before .before .before .before .before .if1 .left)
 
 returns-5 : tie.Need-returns-5
 returns-5 c = found-fault (judged-at halfLinkLayout (c .before .before .before .before .before .before .before .before .before .before .args .table .now) (c .before .before .before .before .before .before .before .before .before .before .args .s) _ _ cut _ _ _ (omega (arith, c .before .before .before .before .before .before .words-read .ensures)) (c .before .before .before .read-half-link .ensures) (ap (λ (x : HalfLinkRead). halfLinkRead x) (c .before .enum-told .given .1)) (c .before .before .before .before .before .last-kind .ensures) (sym (how-many halfLinkOf 3 (halfLinksFrom (c .before .before .before .before .before .before .before .before .before .before .args .s)) (wordsOf (c .before .before .before .before .before .before .before .before .before .before .args .table .now)) ((c .before .before .before .before .before .before .before .before .before .before .args .s) .«half_links»))) (c .own-fault .ensures)) (λ z. absurd (omega arith))
@@ -99,7 +99,7 @@ returns-7 : tie.Need-returns-7
 returns-7 c = found-fault (judged-at halfLinkLayout (c .before .before .before .before .before .before .before .before .before .before .args .table .now) (c .before .before .before .before .before .before .before .before .before .before .args .s) _ _ outOfRange _ _ _ (omega (arith, c .before .before .before .before .before .before .words-read .ensures)) (c .before .before .before .read-half-link .ensures) (ap (λ (x : HalfLinkRead). halfLinkRead x) (c .before .enum-told3 .given .1)) (c .before .before .before .before .before .last-kind .ensures) (sym (how-many halfLinkOf 3 (halfLinksFrom (c .before .before .before .before .before .before .before .before .before .before .args .s)) (wordsOf (c .before .before .before .before .before .before .before .before .before .before .args .table .now)) ((c .before .before .before .before .before .before .before .before .before .before .args .s) .«half_links»))) (c .own-fault3 .ensures)) (λ z. absurd (omega arith))
 
 returns-8 : tie.Need-returns-8
-returns-8 c = left-over (readingAt (wordsOf (c .before .before .before .before .before .before .before .before .before .before .before .before .before .before .before .before .before .before .before .args .table .now)) (c .before .before .before .before .before .before .before .before .before .before .before .before .before .before .before .before .before .before .before .args .s)) (halfLink (halfLinkValues (c .before .before .before .before .before .before .before .before .before .before .read .given .0 .0))) (length (drop (wordsRead (c .before .before .before .before .before .before .before .before .before .before .before .before .before .before .before .before .before .before .before .args .s)) (wordsOf (c .before .before .before .before .before .before .before .before .before .before .before .before .before .before .before .before .before .before .before .args .table .now)))) false false false false false refl (unknown-ends (wordsOf (c .before .before .before .before .before .before .before .before .before .before .before .before .before .before .before .before .before .before .before .args .table .now)) (c .before .before .before .before .before .before .before .before .before .before .before .before .before .before .before .before .before .before .before .args .s) (halfLinkValues (c .before .before .before .before .before .before .before .before .before .before .read .given .0 .0)) ∙ sym (c .before .before .before .before .before .before .names-unknown .ensures) ∙ c .before .before .before .before .before .if2 .left) (sym (port-repeated (c .before .before .before .before .before .before .before .before .before .before .before .before .before .before .before .before .before .before .before .pre .1 .0) (halfLinkValues (c .before .before .before .before .before .before .before .before .before .before .read .given .0 .0)) (read-of-16-bits (drop (wordsRead (c .before .before .before .before .before .before .before .before .before .before .before .before .before .before .before .before .before .before .before .args .s)) (wordsOf (c .before .before .before .before .before .before .before .before .before .before .before .before .before .before .before .before .before .before .before .args .table .now))) (halfLinkValues (c .before .before .before .before .before .before .before .before .before .before .read .given .0 .0)) ((judged-at halfLinkLayout (c .before .before .before .before .before .before .before .before .before .before .before .before .before .before .before .before .before .before .before .args .table .now) (c .before .before .before .before .before .before .before .before .before .before .before .before .before .before .before .before .before .before .before .args .s) _ _ (whole (halfLink (halfLinkValues (c .before .before .before .before .before .before .before .before .before .before .read .given .0 .0)))) _ _ _ (omega (arith, c .before .before .before .before .before .before .before .before .before .before .before .before .before .before .before .words-read .ensures)) (c .before .before .before .before .before .before .before .before .before .before .before .before .read-half-link .ensures) (ap (λ (x : HalfLinkRead). halfLinkRead x) (c .before .before .before .before .before .before .before .before .before .before .read .given .1)) (c .before .before .before .before .before .before .before .before .before .before .before .before .before .before .last-kind .ensures) (sym (how-many halfLinkOf 3 (halfLinksFrom (c .before .before .before .before .before .before .before .before .before .before .before .before .before .before .before .before .before .before .before .args .s)) (wordsOf (c .before .before .before .before .before .before .before .before .before .before .before .before .before .before .before .before .before .before .before .args .table .now)) ((c .before .before .before .before .before .before .before .before .before .before .before .before .before .before .before .before .before .before .before .args .s) .«half_links»))) (c .before .before .before .before .before .before .before .before .own-fault4 .ensures)) .found) .1)) ∙ sym (c .before .before .before .before .is-port-repeated .ensures) ∙ c .before .before .before .if3 .left) (sym (c .before .is-wrong-link .ensures ∙ ap (λ (n : ℕ). wrongHalf (halfLinkValues (c .before .before .before .before .before .before .before .before .before .before .read .given .0 .0)) (filter (hasLink (c .before .before .before .before .before .before .before .before .before .before .read .given .0 .0 .link)) (recordsAt halfLinkOf 3 n (wordsOf (c .before .before .before .before .before .before .before .before .before .before .before .before .before .before .before .before .before .before .before .args .table .now)) (c .before .before .before .before .before .before .before .before .before .before .before .before .before .before .before .before .before .before .before .args .s .«half_links»)))) (c .before .before .half-links-from .ensures)) ∙ c .if4 .left) refl ∙ fault-left (judged-at halfLinkLayout (c .before .before .before .before .before .before .before .before .before .before .before .before .before .before .before .before .before .before .before .args .table .now) (c .before .before .before .before .before .before .before .before .before .before .before .before .before .before .before .before .before .before .before .args .s) _ _ (whole (halfLink (halfLinkValues (c .before .before .before .before .before .before .before .before .before .before .read .given .0 .0)))) _ _ _ (omega (arith, c .before .before .before .before .before .before .before .before .before .before .before .before .before .before .before .words-read .ensures)) (c .before .before .before .before .before .before .before .before .before .before .before .before .read-half-link .ensures) (ap (λ (x : HalfLinkRead). halfLinkRead x) (c .before .before .before .before .before .before .before .before .before .before .read .given .1)) (c .before .before .before .before .before .before .before .before .before .before .before .before .before .before .last-kind .ensures) (sym (how-many halfLinkOf 3 (halfLinksFrom (c .before .before .before .before .before .before .before .before .before .before .before .before .before .before .before .before .before .before .before .args .s)) (wordsOf (c .before .before .before .before .before .before .before .before .before .before .before .before .before .before .before .before .before .before .before .args .table .now)) ((c .before .before .before .before .before .before .before .before .before .before .before .before .before .before .before .before .before .before .before .args .s) .«half_links»))) (c .before .before .before .before .before .before .before .before .own-fault4 .ensures)) (halfLink (halfLinkValues (c .before .before .before .before .before .before .before .before .before .before .read .given .0 .0))) refl (c .before .before .before .before .before .before .before .if1 .left)
+returns-8 c = left-over (readingAt (wordsOf (c .before .before .before .before .before .before .before .before .before .before .before .before .before .before .before .before .before .before .before .args .table .now)) (c .before .before .before .before .before .before .before .before .before .before .before .before .before .before .before .before .before .before .before .args .s)) (halfLink (halfLinkValues (c .before .before .before .before .before .before .before .before .before .before .read .given .0 .0))) (length (drop (wordsRead (c .before .before .before .before .before .before .before .before .before .before .before .before .before .before .before .before .before .before .before .args .s)) (wordsOf (c .before .before .before .before .before .before .before .before .before .before .before .before .before .before .before .before .before .before .before .args .table .now)))) false false false false false refl (unknown-ends (wordsOf (c .before .before .before .before .before .before .before .before .before .before .before .before .before .before .before .before .before .before .before .args .table .now)) (c .before .before .before .before .before .before .before .before .before .before .before .before .before .before .before .before .before .before .before .args .s) (halfLinkValues (c .before .before .before .before .before .before .before .before .before .before .read .given .0 .0)) ∙ sym (c .before .before .before .before .before .before .names-unknown .ensures) ∙ c .before .before .before .before .before .if2 .left) (sym (port-repeated (c .before .before .before .before .before .before .before .before .before .before .before .before .before .before .before .before .before .before .before .pre .1 .0) (halfLinkValues (c .before .before .before .before .before .before .before .before .before .before .read .given .0 .0)) (read-of-16-bits (drop (wordsRead (c .before .before .before .before .before .before .before .before .before .before .before .before .before .before .before .before .before .before .before .args .s)) (wordsOf (c .before .before .before .before .before .before .before .before .before .before .before .before .before .before .before .before .before .before .before .args .table .now))) (halfLinkValues (c .before .before .before .before .before .before .before .before .before .before .read .given .0 .0)) ((judged-at halfLinkLayout (c .before .before .before .before .before .before .before .before .before .before .before .before .before .before .before .before .before .before .before .args .table .now) (c .before .before .before .before .before .before .before .before .before .before .before .before .before .before .before .before .before .before .before .args .s) _ _ (whole (halfLink (halfLinkValues (c .before .before .before .before .before .before .before .before .before .before .read .given .0 .0)))) _ _ _ (omega (arith, c .before .before .before .before .before .before .before .before .before .before .before .before .before .before .before .words-read .ensures)) (c .before .before .before .before .before .before .before .before .before .before .before .before .read-half-link .ensures) (ap (λ (x : HalfLinkRead). halfLinkRead x) (c .before .before .before .before .before .before .before .before .before .before .read .given .1)) (c .before .before .before .before .before .before .before .before .before .before .before .before .before .before .last-kind .ensures) (sym (how-many halfLinkOf 3 (halfLinksFrom (c .before .before .before .before .before .before .before .before .before .before .before .before .before .before .before .before .before .before .before .args .s)) (wordsOf (c .before .before .before .before .before .before .before .before .before .before .before .before .before .before .before .before .before .before .before .args .table .now)) ((c .before .before .before .before .before .before .before .before .before .before .before .before .before .before .before .before .before .before .before .args .s) .«half_links»))) (c .before .before .before .before .before .before .before .before .own-fault4 .ensures)) .found) .1)) ∙ sym (c .before .before .before .before .is-port-repeated .ensures) ∙ c .before .before .before .if3 .left) (sym (c .before .is-wrong-link .ensures ∙ ap (λ (n : ℕ). wrongHalf (halfLinkValues (c .before .before .before .before .before .before .before .before .before .before .read .given .0 .0)) (selected (hasLink (c .before .before .before .before .before .before .before .before .before .before .read .given .0 .0 .link)) (recordsAt halfLinkOf 3 n (wordsOf (c .before .before .before .before .before .before .before .before .before .before .before .before .before .before .before .before .before .before .before .args .table .now)) (c .before .before .before .before .before .before .before .before .before .before .before .before .before .before .before .before .before .before .before .args .s .«half_links»)))) (c .before .before .half-links-from .ensures)) ∙ c .if4 .left) refl ∙ fault-left (judged-at halfLinkLayout (c .before .before .before .before .before .before .before .before .before .before .before .before .before .before .before .before .before .before .before .args .table .now) (c .before .before .before .before .before .before .before .before .before .before .before .before .before .before .before .before .before .before .before .args .s) _ _ (whole (halfLink (halfLinkValues (c .before .before .before .before .before .before .before .before .before .before .read .given .0 .0)))) _ _ _ (omega (arith, c .before .before .before .before .before .before .before .before .before .before .before .before .before .before .before .words-read .ensures)) (c .before .before .before .before .before .before .before .before .before .before .before .before .read-half-link .ensures) (ap (λ (x : HalfLinkRead). halfLinkRead x) (c .before .before .before .before .before .before .before .before .before .before .read .given .1)) (c .before .before .before .before .before .before .before .before .before .before .before .before .before .before .last-kind .ensures) (sym (how-many halfLinkOf 3 (halfLinksFrom (c .before .before .before .before .before .before .before .before .before .before .before .before .before .before .before .before .before .before .before .args .s)) (wordsOf (c .before .before .before .before .before .before .before .before .before .before .before .before .before .before .before .before .before .before .before .args .table .now)) ((c .before .before .before .before .before .before .before .before .before .before .before .before .before .before .before .before .before .before .before .args .s) .«half_links»))) (c .before .before .before .before .before .before .before .before .own-fault4 .ensures)) (halfLink (halfLinkValues (c .before .before .before .before .before .before .before .before .before .before .read .given .0 .0))) refl (c .before .before .before .before .before .before .before .if1 .left)
 
 pub half-link-fault-spec : {M : Type 1} → statement M
 half-link-fault-spec =

@@ -10,7 +10,7 @@ use Rattle.table.specs.Readers.{cut, zeroBit, outOfRange, whole, memberRead, me
 use Rattle.faults.specs.FaultLaws.{judged-at, own-fault, found-fault, fault-left, left-over}
 use Prim.Native.Nat.{ℕ}
 use borrow.Author.Tests.{lt-ltb, le-ltb, not-true, not-false}
-use Rattle.graph.specs.Lists.{any}
+use Rattle.graph.specs.Lists.{anyPasses}
 use Rattle.rule.specs.Records.{member, vidOf, memberOf, memberLayout}
 use Rattle.rule.specs.Plan.{hasVid}
 use Rattle.rule.specs.Check.{repeatsMember}
@@ -81,7 +81,7 @@ is-vid-known-requires : tie.Need-is-vid-known-requires
 is-vid-known-requires c κs = search needs
 
 returns-3 : tie.Need-returns-3
-returns-3 c = left-over (readingAt (wordsOf (c .before .before .before .before .before .before .before .before .before .before .before .before .before .before .before .before .args .table .now)) (c .before .before .before .before .before .before .before .before .before .before .before .before .before .before .before .before .args .s)) (member (memberValues (c .before .before .before .before .before .before .before .before .before .read .given .0 .0))) (length (drop (wordsRead (c .before .before .before .before .before .before .before .before .before .before .before .before .before .before .before .before .args .s)) (wordsOf (c .before .before .before .before .before .before .before .before .before .before .before .before .before .before .before .before .args .table .now)))) false true _ false false refl (unknown-member (wordsOf (c .before .before .before .before .before .before .before .before .before .before .before .before .before .before .before .before .args .table .now)) (c .before .before .before .before .before .before .before .before .before .before .before .before .before .before .before .before .args .s) (memberValues (c .before .before .before .before .before .before .before .before .before .read .given .0 .0)) ∙ simp (lt-ltb _ _ (c .before .before .before .if2 .left), sym (c .before .is-vid-known .ensures ∙ ap (λ (n : ℕ). any (hasVid (c .before .before .before .before .before .before .before .before .before .read .given .0 .0 .vid)) (recordsAt vidOf 1 n (wordsOf (c .before .before .before .before .before .before .before .before .before .before .before .before .before .before .before .before .args .table .now)) (c .before .before .before .before .before .before .before .before .before .before .before .before .before .before .before .before .args .s .vids))) (c .before .before .vids-from .ensures)) ∙ not-true _ (c .if3 .taken))) refl refl refl ∙ fault-left (judged-at memberLayout (c .before .before .before .before .before .before .before .before .before .before .before .before .before .before .before .before .args .table .now) (c .before .before .before .before .before .before .before .before .before .before .before .before .before .before .before .before .args .s) _ _ (whole (member (memberValues (c .before .before .before .before .before .before .before .before .before .read .given .0 .0)))) _ _ _ (omega (arith, c .before .before .before .before .before .before .before .before .before .before .before .before .before .before .words-read .ensures)) (c .before .before .before .before .before .before .before .before .before .before .before .read-member .ensures) (ap (λ (x : MemberRead). memberRead x) (c .before .before .before .before .before .before .before .before .before .read .given .1)) (c .before .before .before .before .before .before .before .before .before .before .before .before .before .last-kind .ensures) (sym (how-many memberOf 2 (membersFrom (c .before .before .before .before .before .before .before .before .before .before .before .before .before .before .before .before .args .s)) (wordsOf (c .before .before .before .before .before .before .before .before .before .before .before .before .before .before .before .before .args .table .now)) ((c .before .before .before .before .before .before .before .before .before .before .before .before .before .before .before .before .args .s) .members))) (c .before .before .before .before .before .before .before .own-fault4 .ensures)) (member (memberValues (c .before .before .before .before .before .before .before .before .before .read .given .0 .0))) refl (c .before .before .before .before .before .before .if1 .left)
+returns-3 c = left-over (readingAt (wordsOf (c .before .before .before .before .before .before .before .before .before .before .before .before .before .before .before .before .args .table .now)) (c .before .before .before .before .before .before .before .before .before .before .before .before .before .before .before .before .args .s)) (member (memberValues (c .before .before .before .before .before .before .before .before .before .read .given .0 .0))) (length (drop (wordsRead (c .before .before .before .before .before .before .before .before .before .before .before .before .before .before .before .before .args .s)) (wordsOf (c .before .before .before .before .before .before .before .before .before .before .before .before .before .before .before .before .args .table .now)))) false true _ false false refl (unknown-member (wordsOf (c .before .before .before .before .before .before .before .before .before .before .before .before .before .before .before .before .args .table .now)) (c .before .before .before .before .before .before .before .before .before .before .before .before .before .before .before .before .args .s) (memberValues (c .before .before .before .before .before .before .before .before .before .read .given .0 .0)) ∙ simp (lt-ltb _ _ (c .before .before .before .if2 .left), sym (c .before .is-vid-known .ensures ∙ ap (λ (n : ℕ). anyPasses (hasVid (c .before .before .before .before .before .before .before .before .before .read .given .0 .0 .vid)) (recordsAt vidOf 1 n (wordsOf (c .before .before .before .before .before .before .before .before .before .before .before .before .before .before .before .before .args .table .now)) (c .before .before .before .before .before .before .before .before .before .before .before .before .before .before .before .before .args .s .vids))) (c .before .before .vids-from .ensures)) ∙ not-true _ (c .if3 .taken))) refl refl refl ∙ fault-left (judged-at memberLayout (c .before .before .before .before .before .before .before .before .before .before .before .before .before .before .before .before .args .table .now) (c .before .before .before .before .before .before .before .before .before .before .before .before .before .before .before .before .args .s) _ _ (whole (member (memberValues (c .before .before .before .before .before .before .before .before .before .read .given .0 .0)))) _ _ _ (omega (arith, c .before .before .before .before .before .before .before .before .before .before .before .before .before .before .words-read .ensures)) (c .before .before .before .before .before .before .before .before .before .before .before .read-member .ensures) (ap (λ (x : MemberRead). memberRead x) (c .before .before .before .before .before .before .before .before .before .read .given .1)) (c .before .before .before .before .before .before .before .before .before .before .before .before .before .last-kind .ensures) (sym (how-many memberOf 2 (membersFrom (c .before .before .before .before .before .before .before .before .before .before .before .before .before .before .before .before .args .s)) (wordsOf (c .before .before .before .before .before .before .before .before .before .before .before .before .before .before .before .before .args .table .now)) ((c .before .before .before .before .before .before .before .before .before .before .before .before .before .before .before .before .args .s) .members))) (c .before .before .before .before .before .before .before .own-fault4 .ensures)) (member (memberValues (c .before .before .before .before .before .before .before .before .before .read .given .0 .0))) refl (c .before .before .before .before .before .before .if1 .left)
 
 members-from-requires : tie.Need-members-from-requires
 members-from-requires c κs = search needs
@@ -90,7 +90,7 @@ is-member-repeated-requires : tie.Need-is-member-repeated-requires
 is-member-repeated-requires c κs = search needs
 
 returns-4 : tie.Need-returns-4
-returns-4 c = left-over (readingAt (wordsOf (c .before .before .before .before .before .before .before .before .before .before .before .before .before .before .before .before .before .before .before .args .table .now)) (c .before .before .before .before .before .before .before .before .before .before .before .before .before .before .before .before .before .before .before .args .s)) (member (memberValues (c .before .before .before .before .before .before .before .before .before .before .before .before .read .given .0 .0))) (length (drop (wordsRead (c .before .before .before .before .before .before .before .before .before .before .before .before .before .before .before .before .before .before .before .args .s)) (wordsOf (c .before .before .before .before .before .before .before .before .before .before .before .before .before .before .before .before .before .before .before .args .table .now)))) false false true false false refl (unknown-member (wordsOf (c .before .before .before .before .before .before .before .before .before .before .before .before .before .before .before .before .before .before .before .args .table .now)) (c .before .before .before .before .before .before .before .before .before .before .before .before .before .before .before .before .before .before .before .args .s) (memberValues (c .before .before .before .before .before .before .before .before .before .before .before .before .read .given .0 .0)) ∙ simp (lt-ltb _ _ (c .before .before .before .before .before .before .if2 .left), sym (c .before .before .before .before .is-vid-known .ensures ∙ ap (λ (n : ℕ). any (hasVid (c .before .before .before .before .before .before .before .before .before .before .before .before .read .given .0 .0 .vid)) (recordsAt vidOf 1 n (wordsOf (c .before .before .before .before .before .before .before .before .before .before .before .before .before .before .before .before .before .before .before .args .table .now)) (c .before .before .before .before .before .before .before .before .before .before .before .before .before .before .before .before .before .before .before .args .s .vids))) (c .before .before .before .before .before .vids-from .ensures)) ∙ not-false _ (c .before .before .before .if3 .left))) (sym (c .before .is-member-repeated .ensures ∙ ap (λ (n : ℕ). any (repeatsMember (memberValues (c .before .before .before .before .before .before .before .before .before .before .before .before .read .given .0 .0))) (recordsAt memberOf 2 n (wordsOf (c .before .before .before .before .before .before .before .before .before .before .before .before .before .before .before .before .before .before .before .args .table .now)) (c .before .before .before .before .before .before .before .before .before .before .before .before .before .before .before .before .before .before .before .args .s .members))) (c .before .before .members-from .ensures)) ∙ c .if4 .taken) refl refl ∙ fault-left (judged-at memberLayout (c .before .before .before .before .before .before .before .before .before .before .before .before .before .before .before .before .before .before .before .args .table .now) (c .before .before .before .before .before .before .before .before .before .before .before .before .before .before .before .before .before .before .before .args .s) _ _ (whole (member (memberValues (c .before .before .before .before .before .before .before .before .before .before .before .before .read .given .0 .0)))) _ _ _ (omega (arith, c .before .before .before .before .before .before .before .before .before .before .before .before .before .before .before .before .before .words-read .ensures)) (c .before .before .before .before .before .before .before .before .before .before .before .before .before .before .read-member .ensures) (ap (λ (x : MemberRead). memberRead x) (c .before .before .before .before .before .before .before .before .before .before .before .before .read .given .1)) (c .before .before .before .before .before .before .before .before .before .before .before .before .before .before .before .before .last-kind .ensures) (sym (how-many memberOf 2 (membersFrom (c .before .before .before .before .before .before .before .before .before .before .before .before .before .before .before .before .before .before .before .args .s)) (wordsOf (c .before .before .before .before .before .before .before .before .before .before .before .before .before .before .before .before .before .before .before .args .table .now)) ((c .before .before .before .before .before .before .before .before .before .before .before .before .before .before .before .before .before .before .before .args .s) .members))) (c .before .before .before .before .before .before .before .before .before .before .own-fault4 .ensures)) (member (memberValues (c .before .before .before .before .before .before .before .before .before .before .before .before .read .given .0 .0))) refl (c .before .before .before .before .before .before .before .before .before .if1 .left)
+returns-4 c = left-over (readingAt (wordsOf (c .before .before .before .before .before .before .before .before .before .before .before .before .before .before .before .before .before .before .before .args .table .now)) (c .before .before .before .before .before .before .before .before .before .before .before .before .before .before .before .before .before .before .before .args .s)) (member (memberValues (c .before .before .before .before .before .before .before .before .before .before .before .before .read .given .0 .0))) (length (drop (wordsRead (c .before .before .before .before .before .before .before .before .before .before .before .before .before .before .before .before .before .before .before .args .s)) (wordsOf (c .before .before .before .before .before .before .before .before .before .before .before .before .before .before .before .before .before .before .before .args .table .now)))) false false true false false refl (unknown-member (wordsOf (c .before .before .before .before .before .before .before .before .before .before .before .before .before .before .before .before .before .before .before .args .table .now)) (c .before .before .before .before .before .before .before .before .before .before .before .before .before .before .before .before .before .before .before .args .s) (memberValues (c .before .before .before .before .before .before .before .before .before .before .before .before .read .given .0 .0)) ∙ simp (lt-ltb _ _ (c .before .before .before .before .before .before .if2 .left), sym (c .before .before .before .before .is-vid-known .ensures ∙ ap (λ (n : ℕ). anyPasses (hasVid (c .before .before .before .before .before .before .before .before .before .before .before .before .read .given .0 .0 .vid)) (recordsAt vidOf 1 n (wordsOf (c .before .before .before .before .before .before .before .before .before .before .before .before .before .before .before .before .before .before .before .args .table .now)) (c .before .before .before .before .before .before .before .before .before .before .before .before .before .before .before .before .before .before .before .args .s .vids))) (c .before .before .before .before .before .vids-from .ensures)) ∙ not-false _ (c .before .before .before .if3 .left))) (sym (c .before .is-member-repeated .ensures ∙ ap (λ (n : ℕ). anyPasses (repeatsMember (memberValues (c .before .before .before .before .before .before .before .before .before .before .before .before .read .given .0 .0))) (recordsAt memberOf 2 n (wordsOf (c .before .before .before .before .before .before .before .before .before .before .before .before .before .before .before .before .before .before .before .args .table .now)) (c .before .before .before .before .before .before .before .before .before .before .before .before .before .before .before .before .before .before .before .args .s .members))) (c .before .before .members-from .ensures)) ∙ c .if4 .taken) refl refl ∙ fault-left (judged-at memberLayout (c .before .before .before .before .before .before .before .before .before .before .before .before .before .before .before .before .before .before .before .args .table .now) (c .before .before .before .before .before .before .before .before .before .before .before .before .before .before .before .before .before .before .before .args .s) _ _ (whole (member (memberValues (c .before .before .before .before .before .before .before .before .before .before .before .before .read .given .0 .0)))) _ _ _ (omega (arith, c .before .before .before .before .before .before .before .before .before .before .before .before .before .before .before .before .before .words-read .ensures)) (c .before .before .before .before .before .before .before .before .before .before .before .before .before .before .read-member .ensures) (ap (λ (x : MemberRead). memberRead x) (c .before .before .before .before .before .before .before .before .before .before .before .before .read .given .1)) (c .before .before .before .before .before .before .before .before .before .before .before .before .before .before .before .before .last-kind .ensures) (sym (how-many memberOf 2 (membersFrom (c .before .before .before .before .before .before .before .before .before .before .before .before .before .before .before .before .before .before .before .args .s)) (wordsOf (c .before .before .before .before .before .before .before .before .before .before .before .before .before .before .before .before .before .before .before .args .table .now)) ((c .before .before .before .before .before .before .before .before .before .before .before .before .before .before .before .before .before .before .before .args .s) .members))) (c .before .before .before .before .before .before .before .before .before .before .own-fault4 .ensures)) (member (memberValues (c .before .before .before .before .before .before .before .before .before .before .before .before .read .given .0 .0))) refl (c .before .before .before .before .before .before .before .before .before .if1 .left)
 
 returns-5 : tie.Need-returns-5
 returns-5 c = found-fault (judged-at memberLayout (c .before .before .before .before .before .before .before .before .args .table .now) (c .before .before .before .before .before .before .before .before .args .s) _ _ cut _ _ _ (omega (arith, c .before .before .before .before .before .before .words-read .ensures)) (c .before .before .before .read-member .ensures) (ap (λ (x : MemberRead). memberRead x) (c .before .enum-told .given .1)) (c .before .before .before .before .before .last-kind .ensures) (sym (how-many memberOf 2 (membersFrom (c .before .before .before .before .before .before .before .before .args .s)) (wordsOf (c .before .before .before .before .before .before .before .before .args .table .now)) ((c .before .before .before .before .before .before .before .before .args .s) .members))) (c .own-fault .ensures)) (λ z. absurd (omega arith))
@@ -102,7 +102,7 @@ returns-7 : tie.Need-returns-7
 returns-7 c = found-fault (judged-at memberLayout (c .before .before .before .before .before .before .before .before .args .table .now) (c .before .before .before .before .before .before .before .before .args .s) _ _ outOfRange _ _ _ (omega (arith, c .before .before .before .before .before .before .words-read .ensures)) (c .before .before .before .read-member .ensures) (ap (λ (x : MemberRead). memberRead x) (c .before .enum-told3 .given .1)) (c .before .before .before .before .before .last-kind .ensures) (sym (how-many memberOf 2 (membersFrom (c .before .before .before .before .before .before .before .before .args .s)) (wordsOf (c .before .before .before .before .before .before .before .before .args .table .now)) ((c .before .before .before .before .before .before .before .before .args .s) .members))) (c .own-fault3 .ensures)) (λ z. absurd (omega arith))
 
 returns-8 : tie.Need-returns-8
-returns-8 c = left-over (readingAt (wordsOf (c .before .before .before .before .before .before .before .before .before .before .before .before .before .before .before .before .before .before .before .args .table .now)) (c .before .before .before .before .before .before .before .before .before .before .before .before .before .before .before .before .before .before .before .args .s)) (member (memberValues (c .before .before .before .before .before .before .before .before .before .before .before .before .read .given .0 .0))) (length (drop (wordsRead (c .before .before .before .before .before .before .before .before .before .before .before .before .before .before .before .before .before .before .before .args .s)) (wordsOf (c .before .before .before .before .before .before .before .before .before .before .before .before .before .before .before .before .before .before .before .args .table .now)))) false false false false false refl (unknown-member (wordsOf (c .before .before .before .before .before .before .before .before .before .before .before .before .before .before .before .before .before .before .before .args .table .now)) (c .before .before .before .before .before .before .before .before .before .before .before .before .before .before .before .before .before .before .before .args .s) (memberValues (c .before .before .before .before .before .before .before .before .before .before .before .before .read .given .0 .0)) ∙ simp (lt-ltb _ _ (c .before .before .before .before .before .before .if2 .left), sym (c .before .before .before .before .is-vid-known .ensures ∙ ap (λ (n : ℕ). any (hasVid (c .before .before .before .before .before .before .before .before .before .before .before .before .read .given .0 .0 .vid)) (recordsAt vidOf 1 n (wordsOf (c .before .before .before .before .before .before .before .before .before .before .before .before .before .before .before .before .before .before .before .args .table .now)) (c .before .before .before .before .before .before .before .before .before .before .before .before .before .before .before .before .before .before .before .args .s .vids))) (c .before .before .before .before .before .vids-from .ensures)) ∙ not-false _ (c .before .before .before .if3 .left))) (sym (c .before .is-member-repeated .ensures ∙ ap (λ (n : ℕ). any (repeatsMember (memberValues (c .before .before .before .before .before .before .before .before .before .before .before .before .read .given .0 .0))) (recordsAt memberOf 2 n (wordsOf (c .before .before .before .before .before .before .before .before .before .before .before .before .before .before .before .before .before .before .before .args .table .now)) (c .before .before .before .before .before .before .before .before .before .before .before .before .before .before .before .before .before .before .before .args .s .members))) (c .before .before .members-from .ensures)) ∙ c .if4 .left) refl refl ∙ fault-left (judged-at memberLayout (c .before .before .before .before .before .before .before .before .before .before .before .before .before .before .before .before .before .before .before .args .table .now) (c .before .before .before .before .before .before .before .before .before .before .before .before .before .before .before .before .before .before .before .args .s) _ _ (whole (member (memberValues (c .before .before .before .before .before .before .before .before .before .before .before .before .read .given .0 .0)))) _ _ _ (omega (arith, c .before .before .before .before .before .before .before .before .before .before .before .before .before .before .before .before .before .words-read .ensures)) (c .before .before .before .before .before .before .before .before .before .before .before .before .before .before .read-member .ensures) (ap (λ (x : MemberRead). memberRead x) (c .before .before .before .before .before .before .before .before .before .before .before .before .read .given .1)) (c .before .before .before .before .before .before .before .before .before .before .before .before .before .before .before .before .last-kind .ensures) (sym (how-many memberOf 2 (membersFrom (c .before .before .before .before .before .before .before .before .before .before .before .before .before .before .before .before .before .before .before .args .s)) (wordsOf (c .before .before .before .before .before .before .before .before .before .before .before .before .before .before .before .before .before .before .before .args .table .now)) ((c .before .before .before .before .before .before .before .before .before .before .before .before .before .before .before .before .before .before .before .args .s) .members))) (c .before .before .before .before .before .before .before .before .before .before .own-fault4 .ensures)) (member (memberValues (c .before .before .before .before .before .before .before .before .before .before .before .before .read .given .0 .0))) refl (c .before .before .before .before .before .before .before .before .before .if1 .left)
+returns-8 c = left-over (readingAt (wordsOf (c .before .before .before .before .before .before .before .before .before .before .before .before .before .before .before .before .before .before .before .args .table .now)) (c .before .before .before .before .before .before .before .before .before .before .before .before .before .before .before .before .before .before .before .args .s)) (member (memberValues (c .before .before .before .before .before .before .before .before .before .before .before .before .read .given .0 .0))) (length (drop (wordsRead (c .before .before .before .before .before .before .before .before .before .before .before .before .before .before .before .before .before .before .before .args .s)) (wordsOf (c .before .before .before .before .before .before .before .before .before .before .before .before .before .before .before .before .before .before .before .args .table .now)))) false false false false false refl (unknown-member (wordsOf (c .before .before .before .before .before .before .before .before .before .before .before .before .before .before .before .before .before .before .before .args .table .now)) (c .before .before .before .before .before .before .before .before .before .before .before .before .before .before .before .before .before .before .before .args .s) (memberValues (c .before .before .before .before .before .before .before .before .before .before .before .before .read .given .0 .0)) ∙ simp (lt-ltb _ _ (c .before .before .before .before .before .before .if2 .left), sym (c .before .before .before .before .is-vid-known .ensures ∙ ap (λ (n : ℕ). anyPasses (hasVid (c .before .before .before .before .before .before .before .before .before .before .before .before .read .given .0 .0 .vid)) (recordsAt vidOf 1 n (wordsOf (c .before .before .before .before .before .before .before .before .before .before .before .before .before .before .before .before .before .before .before .args .table .now)) (c .before .before .before .before .before .before .before .before .before .before .before .before .before .before .before .before .before .before .before .args .s .vids))) (c .before .before .before .before .before .vids-from .ensures)) ∙ not-false _ (c .before .before .before .if3 .left))) (sym (c .before .is-member-repeated .ensures ∙ ap (λ (n : ℕ). anyPasses (repeatsMember (memberValues (c .before .before .before .before .before .before .before .before .before .before .before .before .read .given .0 .0))) (recordsAt memberOf 2 n (wordsOf (c .before .before .before .before .before .before .before .before .before .before .before .before .before .before .before .before .before .before .before .args .table .now)) (c .before .before .before .before .before .before .before .before .before .before .before .before .before .before .before .before .before .before .before .args .s .members))) (c .before .before .members-from .ensures)) ∙ c .if4 .left) refl refl ∙ fault-left (judged-at memberLayout (c .before .before .before .before .before .before .before .before .before .before .before .before .before .before .before .before .before .before .before .args .table .now) (c .before .before .before .before .before .before .before .before .before .before .before .before .before .before .before .before .before .before .before .args .s) _ _ (whole (member (memberValues (c .before .before .before .before .before .before .before .before .before .before .before .before .read .given .0 .0)))) _ _ _ (omega (arith, c .before .before .before .before .before .before .before .before .before .before .before .before .before .before .before .before .before .words-read .ensures)) (c .before .before .before .before .before .before .before .before .before .before .before .before .before .before .read-member .ensures) (ap (λ (x : MemberRead). memberRead x) (c .before .before .before .before .before .before .before .before .before .before .before .before .read .given .1)) (c .before .before .before .before .before .before .before .before .before .before .before .before .before .before .before .before .last-kind .ensures) (sym (how-many memberOf 2 (membersFrom (c .before .before .before .before .before .before .before .before .before .before .before .before .before .before .before .before .before .before .before .args .s)) (wordsOf (c .before .before .before .before .before .before .before .before .before .before .before .before .before .before .before .before .before .before .before .args .table .now)) ((c .before .before .before .before .before .before .before .before .before .before .before .before .before .before .before .before .before .before .before .args .s) .members))) (c .before .before .before .before .before .before .before .before .before .before .own-fault4 .ensures)) (member (memberValues (c .before .before .before .before .before .before .before .before .before .before .before .before .read .given .0 .0))) refl (c .before .before .before .before .before .before .before .before .before .if1 .left)
 
 pub member-fault-spec : {M : Type 1} → statement M
 member-fault-spec =

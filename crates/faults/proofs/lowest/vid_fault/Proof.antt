@@ -9,7 +9,7 @@ use Rattle.table.specs.PositionLaws.{how-many}
 use Rattle.table.specs.Readers.{cut, outOfRange, whole, vidRead, vidValues}
 use Rattle.faults.specs.FaultLaws.{judged-at, own-fault, found-fault, fault-left, left-over}
 use Prim.Native.Nat.{ℕ}
-use Rattle.graph.specs.Lists.{any}
+use Rattle.graph.specs.Lists.{anyPasses}
 use Rattle.rule.specs.Records.{vid, vidOf, vidLayout}
 use Rattle.rule.specs.Plan.{hasVid}
 use Rattle.table.specs.declared.vid.VidRead.{VidRead}
@@ -66,7 +66,7 @@ is-vid-known-requires : tie.Need-is-vid-known-requires
 is-vid-known-requires c κs = search needs
 
 returns-2 : tie.Need-returns-2
-returns-2 c = left-over (readingAt (wordsOf (c .before .before .before .before .before .before .before .before .before .before .before .before .before .args .table .now)) (c .before .before .before .before .before .before .before .before .before .before .before .before .before .args .s)) (vid (vidValues (c .before .before .before .before .before .before .read .given .0 .0))) (length (drop (wordsRead (c .before .before .before .before .before .before .before .before .before .before .before .before .before .args .s)) (wordsOf (c .before .before .before .before .before .before .before .before .before .before .before .before .before .args .table .now)))) false false true false false refl refl (sym (c .before .is-vid-known .ensures ∙ ap (λ (n : ℕ). any (hasVid (c .before .before .before .before .before .before .read .given .0 .0 .vid)) (recordsAt vidOf 1 n (wordsOf (c .before .before .before .before .before .before .before .before .before .before .before .before .before .args .table .now)) (c .before .before .before .before .before .before .before .before .before .before .before .before .before .args .s .vids))) (c .before .before .vids-from .ensures)) ∙ c .if2 .taken) refl refl ∙ fault-left (judged-at vidLayout (c .before .before .before .before .before .before .before .before .before .before .before .before .before .args .table .now) (c .before .before .before .before .before .before .before .before .before .before .before .before .before .args .s) _ _ (whole (vid (vidValues (c .before .before .before .before .before .before .read .given .0 .0)))) _ _ _ (omega (arith, c .before .before .before .before .before .before .before .before .before .before .before .words-read .ensures)) (c .before .before .before .before .before .before .before .before .read-vid .ensures) (ap (λ (x : VidRead). vidRead x) (c .before .before .before .before .before .before .read .given .1)) (c .before .before .before .before .before .before .before .before .before .before .last-kind .ensures) (sym (how-many vidOf 1 (vidsFrom (c .before .before .before .before .before .before .before .before .before .before .before .before .before .args .s)) (wordsOf (c .before .before .before .before .before .before .before .before .before .before .before .before .before .args .table .now)) ((c .before .before .before .before .before .before .before .before .before .before .before .before .before .args .s) .vids))) (c .before .before .before .before .own-fault3 .ensures)) (vid (vidValues (c .before .before .before .before .before .before .read .given .0 .0))) refl (c .before .before .before .if1 .left)
+returns-2 c = left-over (readingAt (wordsOf (c .before .before .before .before .before .before .before .before .before .before .before .before .before .args .table .now)) (c .before .before .before .before .before .before .before .before .before .before .before .before .before .args .s)) (vid (vidValues (c .before .before .before .before .before .before .read .given .0 .0))) (length (drop (wordsRead (c .before .before .before .before .before .before .before .before .before .before .before .before .before .args .s)) (wordsOf (c .before .before .before .before .before .before .before .before .before .before .before .before .before .args .table .now)))) false false true false false refl refl (sym (c .before .is-vid-known .ensures ∙ ap (λ (n : ℕ). anyPasses (hasVid (c .before .before .before .before .before .before .read .given .0 .0 .vid)) (recordsAt vidOf 1 n (wordsOf (c .before .before .before .before .before .before .before .before .before .before .before .before .before .args .table .now)) (c .before .before .before .before .before .before .before .before .before .before .before .before .before .args .s .vids))) (c .before .before .vids-from .ensures)) ∙ c .if2 .taken) refl refl ∙ fault-left (judged-at vidLayout (c .before .before .before .before .before .before .before .before .before .before .before .before .before .args .table .now) (c .before .before .before .before .before .before .before .before .before .before .before .before .before .args .s) _ _ (whole (vid (vidValues (c .before .before .before .before .before .before .read .given .0 .0)))) _ _ _ (omega (arith, c .before .before .before .before .before .before .before .before .before .before .before .words-read .ensures)) (c .before .before .before .before .before .before .before .before .read-vid .ensures) (ap (λ (x : VidRead). vidRead x) (c .before .before .before .before .before .before .read .given .1)) (c .before .before .before .before .before .before .before .before .before .before .last-kind .ensures) (sym (how-many vidOf 1 (vidsFrom (c .before .before .before .before .before .before .before .before .before .before .before .before .before .args .s)) (wordsOf (c .before .before .before .before .before .before .before .before .before .before .before .before .before .args .table .now)) ((c .before .before .before .before .before .before .before .before .before .before .before .before .before .args .s) .vids))) (c .before .before .before .before .own-fault3 .ensures)) (vid (vidValues (c .before .before .before .before .before .before .read .given .0 .0))) refl (c .before .before .before .if1 .left)
 
 returns-3 : tie.Need-returns-3
 returns-3 c = found-fault (judged-at vidLayout (c .before .before .before .before .before .before .before .before .args .table .now) (c .before .before .before .before .before .before .before .before .args .s) _ _ cut _ _ _ (omega (arith, c .before .before .before .before .before .before .words-read .ensures)) (c .before .before .before .read-vid .ensures) (ap (λ (x : VidRead). vidRead x) (c .before .enum-told .given .1)) (c .before .before .before .before .before .last-kind .ensures) (sym (how-many vidOf 1 (vidsFrom (c .before .before .before .before .before .before .before .before .args .s)) (wordsOf (c .before .before .before .before .before .before .before .before .args .table .now)) ((c .before .before .before .before .before .before .before .before .args .s) .vids))) (c .own-fault .ensures)) (λ z. absurd (omega arith))
@@ -75,7 +75,7 @@ returns-4 : tie.Need-returns-4
 returns-4 c = found-fault (judged-at vidLayout (c .before .before .before .before .before .before .before .before .args .table .now) (c .before .before .before .before .before .before .before .before .args .s) _ _ outOfRange _ _ _ (omega (arith, c .before .before .before .before .before .before .words-read .ensures)) (c .before .before .before .read-vid .ensures) (ap (λ (x : VidRead). vidRead x) (c .before .enum-told2 .given .1)) (c .before .before .before .before .before .last-kind .ensures) (sym (how-many vidOf 1 (vidsFrom (c .before .before .before .before .before .before .before .before .args .s)) (wordsOf (c .before .before .before .before .before .before .before .before .args .table .now)) ((c .before .before .before .before .before .before .before .before .args .s) .vids))) (c .own-fault2 .ensures)) (λ z. absurd (omega arith))
 
 returns-5 : tie.Need-returns-5
-returns-5 c = left-over (readingAt (wordsOf (c .before .before .before .before .before .before .before .before .before .before .before .before .before .args .table .now)) (c .before .before .before .before .before .before .before .before .before .before .before .before .before .args .s)) (vid (vidValues (c .before .before .before .before .before .before .read .given .0 .0))) (length (drop (wordsRead (c .before .before .before .before .before .before .before .before .before .before .before .before .before .args .s)) (wordsOf (c .before .before .before .before .before .before .before .before .before .before .before .before .before .args .table .now)))) false false false false false refl refl (sym (c .before .is-vid-known .ensures ∙ ap (λ (n : ℕ). any (hasVid (c .before .before .before .before .before .before .read .given .0 .0 .vid)) (recordsAt vidOf 1 n (wordsOf (c .before .before .before .before .before .before .before .before .before .before .before .before .before .args .table .now)) (c .before .before .before .before .before .before .before .before .before .before .before .before .before .args .s .vids))) (c .before .before .vids-from .ensures)) ∙ c .if2 .left) refl refl ∙ fault-left (judged-at vidLayout (c .before .before .before .before .before .before .before .before .before .before .before .before .before .args .table .now) (c .before .before .before .before .before .before .before .before .before .before .before .before .before .args .s) _ _ (whole (vid (vidValues (c .before .before .before .before .before .before .read .given .0 .0)))) _ _ _ (omega (arith, c .before .before .before .before .before .before .before .before .before .before .before .words-read .ensures)) (c .before .before .before .before .before .before .before .before .read-vid .ensures) (ap (λ (x : VidRead). vidRead x) (c .before .before .before .before .before .before .read .given .1)) (c .before .before .before .before .before .before .before .before .before .before .last-kind .ensures) (sym (how-many vidOf 1 (vidsFrom (c .before .before .before .before .before .before .before .before .before .before .before .before .before .args .s)) (wordsOf (c .before .before .before .before .before .before .before .before .before .before .before .before .before .args .table .now)) ((c .before .before .before .before .before .before .before .before .before .before .before .before .before .args .s) .vids))) (c .before .before .before .before .own-fault3 .ensures)) (vid (vidValues (c .before .before .before .before .before .before .read .given .0 .0))) refl (c .before .before .before .if1 .left)
+returns-5 c = left-over (readingAt (wordsOf (c .before .before .before .before .before .before .before .before .before .before .before .before .before .args .table .now)) (c .before .before .before .before .before .before .before .before .before .before .before .before .before .args .s)) (vid (vidValues (c .before .before .before .before .before .before .read .given .0 .0))) (length (drop (wordsRead (c .before .before .before .before .before .before .before .before .before .before .before .before .before .args .s)) (wordsOf (c .before .before .before .before .before .before .before .before .before .before .before .before .before .args .table .now)))) false false false false false refl refl (sym (c .before .is-vid-known .ensures ∙ ap (λ (n : ℕ). anyPasses (hasVid (c .before .before .before .before .before .before .read .given .0 .0 .vid)) (recordsAt vidOf 1 n (wordsOf (c .before .before .before .before .before .before .before .before .before .before .before .before .before .args .table .now)) (c .before .before .before .before .before .before .before .before .before .before .before .before .before .args .s .vids))) (c .before .before .vids-from .ensures)) ∙ c .if2 .left) refl refl ∙ fault-left (judged-at vidLayout (c .before .before .before .before .before .before .before .before .before .before .before .before .before .args .table .now) (c .before .before .before .before .before .before .before .before .before .before .before .before .before .args .s) _ _ (whole (vid (vidValues (c .before .before .before .before .before .before .read .given .0 .0)))) _ _ _ (omega (arith, c .before .before .before .before .before .before .before .before .before .before .before .words-read .ensures)) (c .before .before .before .before .before .before .before .before .read-vid .ensures) (ap (λ (x : VidRead). vidRead x) (c .before .before .before .before .before .before .read .given .1)) (c .before .before .before .before .before .before .before .before .before .before .last-kind .ensures) (sym (how-many vidOf 1 (vidsFrom (c .before .before .before .before .before .before .before .before .before .before .before .before .before .args .s)) (wordsOf (c .before .before .before .before .before .before .before .before .before .before .before .before .before .args .table .now)) ((c .before .before .before .before .before .before .before .before .before .before .before .before .before .args .s) .vids))) (c .before .before .before .before .own-fault3 .ensures)) (vid (vidValues (c .before .before .before .before .before .before .read .given .0 .0))) refl (c .before .before .before .if1 .left)
 
 pub vid-fault-spec : {M : Type 1} → statement M
 vid-fault-spec =
