@@ -1,35 +1,14 @@
--- The whole list of a bridge, from the lists of a plan: what each step gives the next. And lists copied to where they are lent.
--- Assumes nothing.
-use Prim.Native.Nat.{ℕ, _+_, _≤_, _<_}
-use native.Mathlib.Omega.{arith}
-use mathlib.Core.Path.{_≡_, refl, sym, ap, _∙_, subst}
-use mathlib.Core.List.{List, [], _∷_, _++_}
-use mathlib.Core.Bool.{Bool, cond}
-use borrow.Author.Tests.{lt-leb, le-leb, lt-ltb, le-ltb}
-use lib.ListN.{length, getD, set, take, drop}
-use Rattle.graph.specs.Lists.{rising, spliced}
-use Rattle.graph.specs.ListLaws.{flatMap-one, by-places}
-use Rattle.graph.specs.Appending.{Appended, Room, one-word, eachOf, Appending, appending-starts, appending-length, appending-room, appending-goes-on, appending-ends}
+-- The whole list of a bridge, from the lists of a plan: what it takes, and what is answered. Assumes nothing.
+use Prim.Native.Nat.{ℕ, _≤_}
+use mathlib.Core.List.{List}
+use lib.ListN.{length}
 use Rattle.rule.specs.Words.{wordsOf}
-use Rattle.rule.specs.Plan.{Plan, knownBridge}
-use Rattle.rule.specs.PlanLaws.{PlanLaws}
-use Rattle.rule.specs.Outcome.{Outcome, answered, refusedAs, Written, overwritten, lentTo}
-use Rattle.rule.specs.Calls.{planEntries}
-use Rattle.rule.specs.Entries.{entryListOf}
-use Rattle.rule.specs.ListBound.{few-words}
+use Rattle.rule.specs.Outcome.{Outcome, answered, Written}
 use Rattle.table.specs.declared.shape.Shape.{Shape}
 use Rattle.table.specs.Positions.{planAt}
-use Rattle.links.specs.NeighbourLaws.{NeighboursOf}
-use Rattle.links.specs.Mates.{Checked}
-use Rattle.network.specs.PlanLists.{ListsOf, IdentifiersOf}
-use Rattle.network.specs.PlanListLaws.{lists-of-table}
-use Rattle.ports.specs.Hops.{HopLists, HopPorts, InRange, RisingPorts}
-use Rattle.ports.specs.Leaving.{PlanHops}
-use Rattle.ports.specs.PlanPorts.{PlanPorts, hop-lists, plan-hops, hops-in-range, plan-ports}
+use Rattle.links.specs.Neighbours.{NeighboursOf}
+use Rattle.network.specs.PlanLists.{ListsOf}
 use Rattle.words.specs.Words.{Readable}
-use Rattle.entries.specs.PlanWords.{bridges-are}
-use Rattle.entries.specs.Needed.{Lists, RowsReady, few-bridges}
-use Rattle.entries.specs.Parts.{wholeList, whole-is, front-is}
 
 -- The answer with these words.
 abbrev pub listAnswer : List ℕ → Outcome (Written ℕ)
@@ -42,125 +21,3 @@ pub record PlanOf (t : List ℕ) (s : Shape) (starts neighbours costs ports iden
   pub hops : NeighboursOf (planAt (wordsOf t) s) (s .bridges) starts neighbours costs ports
   pub few-identifiers : length identifiers ≤ 64
   pub has-ports : 512 ≤ length ports
-
-module _ {t : List ℕ} {s : Shape} {starts neighbours costs ports identifiers : List ℕ} (P : PlanOf t s starts neighbours costs ports identifiers)
-    (b : ℕ) (known : b < s .bridges) where
-  pub hop-lists-of : HopLists (s .bridges) starts neighbours ports b
-  hop-lists-of = hop-lists (P .lists) (P .hops) (P .has-ports) b known
-
-  module _ {hops : List ℕ} (H : HopPorts (s .bridges) starts neighbours ports b hops) where
-    hops-of : PlanHops (planAt (wordsOf t) s) (s .bridges) b hops
-    hops-of = plan-hops (P .lists) (P .hops) (P .has-ports) b known H
-
-    pub in-range : InRange hops (s .bridges)
-    in-range = hops-in-range (P .readable .laws) hops-of
-
-    pub lists-of : 64 ≤ length hops → Lists t s starts neighbours costs identifiers hops b
-    lists-of l = record {
-      readable = P .readable;
-      lists = P .lists;
-      hop-ports = hops-of;
-      few-identifiers = P .few-identifiers;
-      has-hops = l;
-      known = known;
-    }
-
-    module _ {rises : List ℕ} (G : RisingPorts hops (s .bridges) rises) {rows : List ℕ} (W : RowsReady t s b rows) where
-      list-is : wholeList (wordsOf t) s rows rises b ≡ entryListOf (planAt (wordsOf t) s) b
-      list-is = whole-is (P .readable) W (plan-ports (P .readable .laws) hops-of (bridges-are (P .readable)) G) known
-
-      -- "No bridge's list exceeds 14,931 words."
-      pub whole-room : (words : List ℕ) → 14931 ≤ length words → Room words 0 (wholeList (wordsOf t) s rows rises b)
-      whole-room words l = omega (
-        arith,
-        ap (λ (x : List ℕ). length x) list-is,
-        few-words (planAt (wordsOf t) s) (P .readable .laws) b (omega (arith, bridges-are (P .readable))),
-      )
-
-      pub whole-written : {words written : List ℕ} {end : ℕ} → Appended words 0 (wholeList (wordsOf t) s rows rises b) written end
-          → Appended words 0 (entryListOf (planAt (wordsOf t) s) b) written end
-      whole-written {words} {written} {end} A = subst (λ (x : List ℕ). Appended words 0 x written end) list-is A
-
--- The lists made of a table that passed the check are those of its plan.
-pub plan-of : {t links : List ℕ} {s : Shape} → Checked t links s → {starts neighbours costs ports identifiers : List ℕ}
-    → NeighboursOf (planAt (wordsOf t) s) (s .bridges) starts neighbours costs ports → IdentifiersOf (planAt (wordsOf t) s) (s .bridges) identifiers
-    → s .bridges < length starts → 512 ≤ length neighbours → 512 ≤ length costs → 512 ≤ length ports → s .bridges ≤ length identifiers → length identifiers ≤ 64
-    → PlanOf t s starts neighbours costs ports identifiers
-plan-of C N I a c d e f g = record {
-  readable = record { whole = C .whole; bounded = C .bounded; laws = C .laws };
-  lists = lists-of-table C N I a c d f;
-  hops = N;
-  few-identifiers = g;
-  has-ports = e;
-}
-
-pub few-in-table : {t links : List ℕ} {s : Shape} → Checked t links s → s .bridges ≤ 64
-few-in-table C = few-bridges (record { whole = C .whole; bounded = C .bounded; laws = C .laws })
-
--- A list copied place by place.
-abbrev pub placesOf : List ℕ → ℕ → List ℕ
-placesOf words i = getD words i 0 ∷ []
-
-pub copied : (words : List ℕ) → eachOf (placesOf words) (length words) ≡ words
-copied words = flatMap-one (λ i. getD words i 0) (rising 0 (length words)) ∙ by-places words 0
-
--- The first `i` words are copied.
-pub record Copying (words list₀ list : List ℕ) (i : ℕ) : Type 0 where
-  pub so-far : Appending (placesOf words) (length words) list₀ 0 i list i
-
-pub copying-starts : (words list : List ℕ) → length words ≤ length list → Copying words list list 0
-copying-starts words list l = record { so-far = appending-starts (placesOf words) (length words) list 0 (omega (arith, ap (λ (x : List ℕ). length x) (copied words))) }
-
-module _ {words list₀ list : List ℕ} {i : ℕ} (C : Copying words list₀ list i) where
-  pub copying-length : length list ≡ length list₀
-  copying-length = appending-length (C .so-far)
-
-  pub copying-room : i < length words → i < length list
-  copying-room l = omega (arith, appending-room (C .so-far) l)
-
-  pub copying-goes-on : i < length words → Copying words list₀ (set list i (getD words i 0)) (i + 1)
-  copying-goes-on l = record { so-far = appending-goes-on (C .so-far) l (one-word list i (getD words i 0) (copying-room l)) }
-
-  pub copying-ends : length words ≤ i → list ≡ spliced list₀ 0 words
-  copying-ends l = appending-ends (C .so-far) l .words-are ∙ ap (spliced list₀ 0) (copied words)
-
--- A list of words that fits, and one that does not.
-module _ (words list : List ℕ) where
-  pub fits-not : length list < length words → _≡_ {A = Outcome ℕ × List ℕ} (refusedAs 13, list) (lentTo list (listAnswer words))
-  fits-not l = rw (lt-leb (length words) (length list) l)
-
-  pub fits-in : length words ≤ length list → {list′ : List ℕ} → list′ ≡ spliced list 0 words
-      → _≡_ {A = Outcome ℕ × List ℕ} (answered (length words), list′) (lentTo list (listAnswer words))
-  fits-in l e = rw (le-leb (length words) (length list) l) (λ i. (answered (length words), (e ∙ front) i))
-    where
-      front : spliced list 0 words ≡ overwritten words list
-      front = ap (λ (k : ℕ). words ++ drop k list) zero
-        where
-          zero : 0 + length words ≡ length words
-          zero = omega arith
-
--- A bridge that the table has, and one that it lacks.
-module _ {t links : List ℕ} {s : Shape} (C : Checked t links s) (bridge : ℕ) where
-  pub lacks-bridge : s .bridges ≤ bridge → (list : List ℕ) → _≡_ {A = Outcome ℕ × List ℕ} (refusedAs 11, list) (lentTo list (planEntries (planAt (wordsOf t) s) bridge))
-  lacks-bridge l list = rw (le-ltb bridge (length (planAt (wordsOf t) s .bridges)) (omega (arith, bridges-are (record { whole = C .whole; bounded = C .bounded; laws = C .laws }))))
-
-  pub has-bridge : bridge < s .bridges → planEntries (planAt (wordsOf t) s) bridge ≡ listAnswer (entryListOf (planAt (wordsOf t) s) bridge)
-  has-bridge l = rw (lt-ltb bridge (length (planAt (wordsOf t) s .bridges)) (omega (arith, bridges-are (record { whole = C .whole; bounded = C .bounded; laws = C .laws }))))
-
-  -- The list made has at most 14,931 words.
-  pub few-made : bridge < s .bridges → {lent written : List ℕ} {count : ℕ} → Appended lent 0 (entryListOf (planAt (wordsOf t) s) bridge) written count → count ≤ 14931
-  few-made l A = omega (
-    arith,
-    A .end-is,
-    few-words (planAt (wordsOf t) s) (C .laws) bridge (omega (arith, bridges-are (record { whole = C .whole; bounded = C .bounded; laws = C .laws }))),
-  )
-
-  pub answer-made : bridge < s .bridges → {lent written : List ℕ} {count : ℕ} → Appended lent 0 (entryListOf (planAt (wordsOf t) s) bridge) written count
-      → listAnswer (take count written) ≡ planEntries (planAt (wordsOf t) s) bridge
-  answer-made l A = ap listAnswer (front-is A) ∙ sym (has-bridge l)
-
--- A caller who lends 14,931 words never gets 13.
-pub never-thirteen : (p : Plan) → PlanLaws p → (b : ℕ) → b < length (p .bridges) → (list : List ℕ) → 14931 ≤ length list
-    → lentTo list (planEntries p b) ≡ (answered (length (entryListOf p b)), overwritten (entryListOf p b) list)
-never-thirteen p L b known list l =
-    rw (lt-ltb b (length (p .bridges)) known, le-leb (length (entryListOf p b)) (length list) (omega (arith, few-words p L b known))) refl

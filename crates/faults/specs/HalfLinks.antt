@@ -4,8 +4,8 @@ use Prim.Native.Nat.{ℕ, _+_, _*_, _<_}
 use mathlib.Core.Path.{_≡_}
 use mathlib.Core.List.{List}
 use Rattle.rule.specs.Records.{HalfLink, halfLinkOf}
-use Rattle.table.specs.Positions.{recordAt}
 use Rattle.index.specs.Index.{keyAt, Indexed}
+use Rattle.table.specs.Positions.{recordAt}
 
 abbrev pub portKey : HalfLink → ℕ
 portKey h = h .near * 65536 + h .port

@@ -1,5 +1,4 @@
 -- The faults of a record as numbers, and the laws that link the code's tests to them.
 pub mod HalfLinks
-pub mod HalfLinkLaws
 pub mod Faults
-pub mod FaultLaws
+pub mod laws

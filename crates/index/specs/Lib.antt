@@ -1,5 +1,4 @@
 -- An index of keys in a list of numbers: what it holds, and what finding a key comes to.
 pub mod Places
-pub mod Passing
 pub mod Index
-pub mod IndexLaws
+pub mod laws

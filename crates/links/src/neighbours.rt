@@ -7,7 +7,7 @@ ghost use Rattle.rule.specs.Words.{wordsOf};
 ghost use Rattle.table.specs.Positions.{planAt};
 ghost use Rattle.links.specs.Mates.{Checked};
 ghost use Rattle.links.specs.Neighbours.{Listed, Room, Row, Lists};
-ghost use Rattle.links.specs.NeighbourLaws.{NeighboursOf};
+ghost use Rattle.links.specs.Neighbours.{NeighboursOf};
 
 // Lists the hops of the bridge `u` from the place `from` on, and gives the place after them.
 fn list_hops(

@@ -1,3 +1,2 @@
 -- Laws that link the tests of the code, entry by entry, to the definitions of lookup.
-pub mod EntryLaws
-pub mod EntryListLaws
+pub mod laws

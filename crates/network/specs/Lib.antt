@@ -1,6 +1,4 @@
 -- The lists of a plan, its trees, and a store of them.
 pub mod PlanLists
-pub mod PlanListLaws
-pub mod RecordLaws
 pub mod KeptTrees
-pub mod KeptTreeLaws
+pub mod laws

@@ -3,4 +3,4 @@ pub mod Followed
 pub mod Labelled
 pub mod Named
 pub mod Places
-pub mod PlanCalls
+pub mod laws

@@ -1,7 +1,6 @@
 -- The ports of a bridge's hops, and the ports by which chosen paths leave it.
 pub mod Hops
-pub mod HopLaws
 pub mod Leaving
-pub mod LeavingLaws
 pub mod PlanPorts
 pub mod Rows
+pub mod laws

@@ -1,5 +1,4 @@
 -- What reading one record and examining a table come to, and the laws that link them to the verdict.
 pub mod Steps
-pub mod StepLaws
-pub mod KindLaws
 pub mod Examination
+pub mod laws

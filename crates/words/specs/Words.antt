@@ -6,13 +6,13 @@ use mathlib.Core.Bool.{Bool, cond}
 use lib.Dec.{eqb}
 use lib.ListN.{length, getD}
 use Rattle.graph.specs.Lists.{anyPasses}
+use Rattle.graph.specs.Appending.{eachOf}
 use Rattle.rule.specs.Words.{wordsOf}
 use Rattle.rule.specs.Records.{Bridge, Vid, Member, bridgeOf, vidOf, memberOf, address}
 use Rattle.rule.specs.Entries.{Entry, entryWords, receives}
 use Rattle.rule.specs.PlanLaws.{PlanLaws}
 use Rattle.table.specs.declared.shape.Shape.{Shape}
 use Rattle.table.specs.Positions.{recordAt, vidsFrom, membersFrom, wordsRead, planAt}
-use Rattle.graph.specs.Appending.{eachOf}
 
 -- A table whose records, as many of each kind as `s` says, are those of an accepted plan.
 pub record Readable (t : List ℕ) (s : Shape) : Type 0 where

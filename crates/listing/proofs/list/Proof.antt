@@ -1,7 +1,7 @@
 -- `listing::list` lists the plan that the examination found, or its refusal. Assumes nothing.
 use borrow.Author.Needs.{needs}
-use Rattle.index.specs.IndexLaws.{no-keys-yet}
-use Rattle.spb.specs.Examined.{accepted-checked}
+use Rattle.index.specs.laws.IndexLaws.{no-keys-yet}
+use Rattle.spb.specs.laws.Examined.{accepted-checked}
 use Rattle.listing.proofs.list.Statement.{statement}
 use Rattle.listing.proofs.list.Tie as tie
 

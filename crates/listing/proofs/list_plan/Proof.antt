@@ -3,8 +3,8 @@ use borrow.Author.Needs.{needs}
 use native.Mathlib.Omega.{arith}
 use lib.ListN.{getD-replicate}
 use Prim.Native.Nat.{ℕ}
-use Rattle.network.specs.KeptTreeLaws.{no-trees}
-use Rattle.entries.specs.Whole.{plan-of, few-in-table}
+use Rattle.network.specs.laws.KeptTreeLaws.{no-trees}
+use Rattle.entries.specs.laws.WholeLaws.{plan-of, few-in-table}
 use Rattle.listing.proofs.list_plan.Statement.{statement}
 use Rattle.listing.proofs.list_plan.Tie as tie
 

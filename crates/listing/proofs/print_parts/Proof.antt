@@ -6,8 +6,8 @@ use Prim.Native.Nat.{_-_, _≤_}
 use lib.ListN.{length, length-take}
 use Rattle.rule.specs.Words.{wordsOf}
 use Rattle.network.specs.KeptTrees.{TreesHeld}
-use Rattle.entries.specs.Needed.{few-bridges, few-vids}
-use Rattle.listed.specs.TableParts.{parts-are}
+use Rattle.entries.specs.laws.NeededLaws.{few-bridges, few-vids}
+use Rattle.listed.specs.laws.TableParts.{parts-are}
 use Rattle.listing.proofs.print_parts.Statement.{statement}
 use Rattle.listing.proofs.print_parts.Tie as tie
 

@@ -4,9 +4,9 @@ use Prim.Native.Nat.{_-_}
 use mathlib.Core.Path.{refl}
 use lib.ListN.{length}
 use native.Mathlib.Omega.{arith}
-use Rattle.path.specs.Places.{Filling, filling-starts, filling-on}
+use Rattle.path.specs.laws.PlaceLaws.{Filling, filling-starts, filling-on}
 use Rattle.asking.specs.AnswerText.{untouchedPlace}
-use Rattle.asking.specs.UntouchedLaws.{all-untouched}
+use Rattle.asking.specs.laws.UntouchedLaws.{all-untouched}
 use Rattle.asking.proofs.lent.set_untouched.Statement.{statement}
 use Rattle.asking.proofs.lent.set_untouched.Tie as tie
 

@@ -3,7 +3,7 @@ use borrow.Author.Needs.{needs}
 use mathlib.Core.Path.{sym, ap}
 use Rattle.rule.specs.declared.answer.EntriesAnswer.{EntriesAnswer}
 use Rattle.rule.specs.Answers.{entriesValues}
-use Rattle.text.specs.TextLaws.{written-as}
+use Rattle.text.specs.laws.TextLaws.{written-as}
 use Rattle.asking.specs.AnswerText.{entriesAnswerText}
 use Rattle.asking.proofs.line.write_entries_answer.Statement.{statement}
 use Rattle.asking.proofs.line.write_entries_answer.Tie as tie

@@ -1,6 +1,6 @@
 -- `asking::line::write_given_tree` writes the word and the number of bridges. Assumes nothing.
 use borrow.Author.Needs.{needs}
-use Rattle.text.specs.TextLaws.{written-on}
+use Rattle.text.specs.laws.TextLaws.{written-on}
 use native.Mathlib.Omega.{arith}
 use Rattle.asking.proofs.line.write_given_tree.Statement.{statement}
 use Rattle.asking.proofs.line.write_given_tree.Tie as tie

@@ -5,7 +5,7 @@ use mathlib.Core.List.{List}
 use Prim.Native.Nat.{ℕ}
 use Rattle.rule.specs.Outcome.{Outcome}
 use Rattle.rule.specs.Answers.{CostAndHops}
-use Rattle.text.specs.TextLaws.{written-on, written-as}
+use Rattle.text.specs.laws.TextLaws.{written-on, written-as}
 use Rattle.asking.specs.AnswerText.{pathText}
 use native.Mathlib.Omega.{arith}
 use Rattle.asking.proofs.line.write_path.Statement.{statement}

@@ -3,7 +3,7 @@ use borrow.Author.Needs.{needs}
 use mathlib.Core.Path.{sym, ap}
 use Rattle.rule.specs.declared.answer.PathAnswer.{PathAnswer}
 use Rattle.rule.specs.Answers.{pathValues}
-use Rattle.text.specs.TextLaws.{written-as}
+use Rattle.text.specs.laws.TextLaws.{written-as}
 use Rattle.asking.specs.AnswerText.{pathAnswerText}
 use Rattle.asking.proofs.line.write_path_answer.Statement.{statement}
 use Rattle.asking.proofs.line.write_path_answer.Tie as tie

@@ -4,7 +4,7 @@ use mathlib.Core.Path.{ap}
 use mathlib.Core.List.{List}
 use Prim.Native.Nat.{ℕ}
 use Rattle.rule.specs.Outcome.{Outcome}
-use Rattle.text.specs.TextLaws.{written-on, written-as}
+use Rattle.text.specs.laws.TextLaws.{written-on, written-as}
 use Rattle.asking.specs.AnswerText.{treeText}
 use native.Mathlib.Omega.{arith}
 use Rattle.asking.proofs.line.write_tree.Statement.{statement}

@@ -3,7 +3,7 @@ use borrow.Author.Needs.{needs}
 use mathlib.Core.Path.{sym, ap}
 use Rattle.rule.specs.declared.answer.TreeAnswer.{TreeAnswer}
 use Rattle.rule.specs.Answers.{treeValues}
-use Rattle.text.specs.TextLaws.{written-as}
+use Rattle.text.specs.laws.TextLaws.{written-as}
 use Rattle.asking.specs.AnswerText.{treeAnswerText}
 use Rattle.asking.proofs.line.write_tree_answer.Statement.{statement}
 use Rattle.asking.proofs.line.write_tree_answer.Tie as tie

@@ -6,9 +6,9 @@ use Prim.Native.Nat.{ℕ}
 use lib.ListN.{length-take}
 use native.Mathlib.Omega.{arith}
 use Rattle.rule.specs.Calls.{entriesOutcome}
-use Rattle.text.specs.TextLaws.{written-as}
+use Rattle.text.specs.laws.TextLaws.{written-as}
 use Rattle.asking.specs.AnswerText.{entriesText}
-use Rattle.asking.specs.UntouchedLaws.{front-untouched}
+use Rattle.asking.specs.laws.UntouchedLaws.{front-untouched}
 use Rattle.asking.proofs.question.write_asked_entries.Statement.{statement}
 use Rattle.asking.proofs.question.write_asked_entries.Tie as tie
 

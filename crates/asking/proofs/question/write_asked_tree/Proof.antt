@@ -2,8 +2,8 @@
 use borrow.Author.Needs.{needs}
 use lib.ListN.{length-take}
 use native.Mathlib.Omega.{arith}
-use Rattle.text.specs.TextLaws.{written-as}
-use Rattle.asking.specs.UntouchedLaws.{front-untouched, same-tree-text}
+use Rattle.text.specs.laws.TextLaws.{written-as}
+use Rattle.asking.specs.laws.UntouchedLaws.{front-untouched, same-tree-text}
 use Rattle.asking.proofs.question.write_asked_tree.Statement.{statement}
 use Rattle.asking.proofs.question.write_asked_tree.Tie as tie
 

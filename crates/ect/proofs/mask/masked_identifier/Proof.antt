@@ -2,7 +2,7 @@
 use native.Mathlib.Omega.{arith}
 use mathlib.Core.Path.{_∙_, ap}
 use lib.Bits.{bitXor}
-use Rattle.ect.specs.MaskLaws.{eight-bytes}
+use Rattle.ect.specs.laws.MaskLaws.{eight-bytes}
 use borrow.Author.Needs.{needs}
 use Rattle.ect.proofs.mask.masked_identifier.Statement.{statement}
 use Rattle.ect.proofs.mask.masked_identifier.Tie as tie

@@ -2,7 +2,7 @@
 use Prim.Native.Nat.{_-_}
 use lib.ListN.{length}
 use borrow.Author.Needs.{needs}
-use Rattle.ect.specs.KeyLaws.{Masking, masking-starts, masking-goes-on, masking-ends}
+use Rattle.ect.specs.laws.KeyLaws.{Masking, masking-starts, masking-goes-on, masking-ends}
 use Rattle.ect.proofs.mask.write_keys.Statement.{statement}
 use Rattle.ect.proofs.mask.write_keys.Tie as tie
 

@@ -2,7 +2,7 @@
 use native.Mathlib.Omega.{arith}
 use Prim.Native.Nat.{_-_}
 use lib.ListN.{length}
-use Rattle.entries.specs.Whole.{Copying, copying-starts, copying-length, copying-room, copying-goes-on, copying-ends}
+use Rattle.entries.specs.laws.WholeLaws.{Copying, copying-starts, copying-length, copying-room, copying-goes-on, copying-ends}
 use borrow.Author.Needs.{needs}
 use Rattle.entries.proofs.list.copy.Statement.{statement}
 use Rattle.entries.proofs.list.copy.Tie as tie

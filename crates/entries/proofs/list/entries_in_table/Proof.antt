@@ -5,7 +5,7 @@ use mathlib.Core.List.{List}
 use Prim.Native.Nat.{ℕ}
 use lib.ListN.{length-take}
 use Rattle.rule.specs.Outcome.{Outcome, Written, lentTo}
-use Rattle.entries.specs.Whole.{lacks-bridge, few-made, answer-made}
+use Rattle.entries.specs.laws.WholeLaws.{lacks-bridge, few-made, answer-made}
 use borrow.Author.Needs.{needs}
 use Rattle.entries.proofs.list.entries_in_table.Statement.{statement}
 use Rattle.entries.proofs.list.entries_in_table.Tie as tie

@@ -3,7 +3,7 @@ use borrow.Author.Needs.{needs}
 use native.Mathlib.Omega.{arith}
 use mathlib.Core.Path.{refl, ap}
 use Rattle.rule.specs.Records.{Vid}
-use Rattle.entries.specs.Needed.{listed, vid-fits, row-of}
+use Rattle.entries.specs.laws.NeededLaws.{listed, vid-fits, row-of}
 use Rattle.entries.proofs.needed.keep_own_row.Statement.{statement}
 use Rattle.entries.proofs.needed.keep_own_row.Tie as tie
 

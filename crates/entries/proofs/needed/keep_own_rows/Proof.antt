@@ -5,7 +5,7 @@ use mathlib.Core.Path.{_≡_, refl}
 use Prim.Native.Nat.{_-_}
 use lib.ListN.{length}
 use Rattle.network.specs.KeptTrees.{TreesHeld}
-use Rattle.entries.specs.Needed.{KeepingOwn, own-starts, own-room, own-goes-on, own-ends}
+use Rattle.entries.specs.laws.NeededLaws.{KeepingOwn, own-starts, own-room, own-goes-on, own-ends}
 use Rattle.entries.proofs.needed.keep_own_rows.Statement.{statement}
 use Rattle.entries.proofs.needed.keep_own_rows.Tie as tie
 

@@ -5,7 +5,7 @@ use mathlib.Core.Path.{_≡_, refl, _∙_}
 use Prim.Native.Nat.{_-_}
 use lib.ListN.{length}
 use Rattle.network.specs.KeptTrees.{TreesHeld}
-use Rattle.entries.specs.Needed.{KeepingMembers, members-start, members-room, members-go-on, members-end}
+use Rattle.entries.specs.laws.NeededLaws.{KeepingMembers, members-start, members-room, members-go-on, members-end}
 use Rattle.entries.proofs.needed.keep_rows.Statement.{statement}
 use Rattle.entries.proofs.needed.keep_rows.Tie as tie
 

@@ -5,9 +5,9 @@ use borrow.Author.Tests.{not-true, not-false}
 use Rattle.rule.specs.Words.{wordsOf}
 use Rattle.rule.specs.Records.{Member}
 use Rattle.table.specs.Readers.{vidValues, memberValues}
-use Rattle.entries.specs.PlanWords.{bridges-are}
-use Rattle.entries.specs.Needed.{member-fits}
-use Rattle.entries.specs.Parts.{silent-part, other-part, member-room, member-written}
+use Rattle.entries.specs.laws.PlanWords.{bridges-are}
+use Rattle.entries.specs.laws.NeededLaws.{member-fits}
+use Rattle.entries.specs.laws.PartLaws.{silent-part, other-part, member-room, member-written}
 use borrow.Author.Needs.{needs}
 use Rattle.entries.proofs.parts.member_words.Statement.{statement}
 use Rattle.entries.proofs.parts.member_words.Tie as tie

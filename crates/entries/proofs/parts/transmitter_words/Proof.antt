@@ -5,9 +5,9 @@ use lib.ListN.{length-take}
 use Rattle.rule.specs.Words.{wordsOf}
 use Rattle.rule.specs.Records.{Bridge}
 use Rattle.table.specs.Readers.{vidValues, memberValues, bridgeValues}
-use Rattle.entries.specs.Needed.{few-bridges}
-use Rattle.words.specs.Receivers.{behind-few}
-use Rattle.entries.specs.Parts.{source-fits, row-lent, transmitter-room, transmitter-written}
+use Rattle.entries.specs.laws.NeededLaws.{few-bridges}
+use Rattle.words.specs.laws.Receivers.{behind-few}
+use Rattle.entries.specs.laws.PartLaws.{source-fits, row-lent, transmitter-room, transmitter-written}
 use borrow.Author.Needs.{needs}
 use Rattle.entries.proofs.parts.transmitter_words.Statement.{statement}
 use Rattle.entries.proofs.parts.transmitter_words.Tie as tie

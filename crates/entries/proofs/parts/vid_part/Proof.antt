@@ -4,8 +4,8 @@ use mathlib.Core.Path.{ap}
 use Rattle.rule.specs.Words.{wordsOf}
 use Rattle.rule.specs.Records.{Vid}
 use Rattle.table.specs.Readers.{vidValues}
-use Rattle.entries.specs.Needed.{few-bridges, vid-fits}
-use Rattle.entries.specs.Parts.{row-lent, row-place-inside, first-room, second-room, vid-written}
+use Rattle.entries.specs.laws.NeededLaws.{few-bridges, vid-fits}
+use Rattle.entries.specs.laws.PartLaws.{row-lent, row-place-inside, first-room, second-room, vid-written}
 use borrow.Author.Needs.{needs}
 use Rattle.entries.proofs.parts.vid_part.Statement.{statement}
 use Rattle.entries.proofs.parts.vid_part.Tie as tie

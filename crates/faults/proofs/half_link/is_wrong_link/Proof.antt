@@ -3,9 +3,9 @@ use Prim.Native.Nat.{_+_, _*_, _-_}
 use native.Mathlib.Omega.{arith}
 use mathlib.Core.Path.{refl}
 use Rattle.index.specs.Index.{holds}
-use Rattle.index.specs.Places.{last-within}
+use Rattle.index.specs.laws.PlaceLaws.{last-within}
 use Rattle.table.specs.Readers.{halfLinkValues}
-use Rattle.faults.specs.HalfLinkLaws.{first-of-number, third-of-number, second-of-number}
+use Rattle.faults.specs.laws.HalfLinkLaws.{first-of-number, third-of-number, second-of-number}
 use borrow.Author.Needs.{needs}
 use Rattle.faults.proofs.half_link.is_wrong_link.Statement.{statement}
 use Rattle.faults.proofs.half_link.is_wrong_link.Tie as tie

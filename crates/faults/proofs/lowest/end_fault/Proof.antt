@@ -6,13 +6,13 @@ use lib.ListN.{length, drop}
 use Rattle.rule.specs.Words.{wordsOf}
 use Rattle.table.specs.Positions.{wordsRead, readingAt}
 use Rattle.table.specs.Readers.{cut, whole, endRead}
-use Rattle.faults.specs.FaultLaws.{judged-at, own-fault, found-fault, fault-left, left-over}
+use Rattle.faults.specs.laws.FaultLaws.{judged-at, own-fault, found-fault, fault-left, left-over}
 use Prim.Native.Nat.{ℕ, _+_, _/_}
 use lib.Dec.{ltb}
 use borrow.Author.Tests.{lt-ltb, le-ltb, eq-eqb, ne-eqb}
 use Rattle.rule.specs.Records.{end, endLayout}
 use Rattle.table.specs.declared.end.EndRead.{EndRead}
-use Rattle.faults.specs.FaultLaws.{words-follow}
+use Rattle.faults.specs.laws.FaultLaws.{words-follow}
 use borrow.Author.Needs.{needs}
 use Rattle.faults.proofs.lowest.end_fault.Statement.{statement}
 use Rattle.faults.proofs.lowest.end_fault.Tie as tie

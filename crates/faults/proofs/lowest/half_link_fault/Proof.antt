@@ -5,17 +5,17 @@ use mathlib.Core.Bool.{true, false}
 use lib.ListN.{length, drop}
 use Rattle.rule.specs.Words.{wordsOf}
 use Rattle.table.specs.Positions.{halfLinksFrom, wordsRead, readingAt}
-use Rattle.table.specs.PositionLaws.{how-many}
+use Rattle.table.specs.laws.PositionLaws.{how-many}
 use Rattle.table.specs.Readers.{cut, zeroBit, outOfRange, whole, halfLinkRead, halfLinkValues}
-use Rattle.faults.specs.FaultLaws.{judged-at, own-fault, found-fault, fault-left, left-over}
+use Rattle.faults.specs.laws.FaultLaws.{judged-at, own-fault, found-fault, fault-left, left-over}
 use Rattle.rule.specs.Records.{halfLink, halfLinkOf, halfLinkLayout}
 use Rattle.table.specs.declared.half_link.HalfLinkRead.{HalfLinkRead}
-use Rattle.faults.specs.FaultLaws.{unknown-ends, read-of-16-bits}
+use Rattle.faults.specs.laws.FaultLaws.{unknown-ends, read-of-16-bits}
 use Prim.Native.Nat.{ℕ}
 use Rattle.graph.specs.Lists.{selected}
 use Rattle.rule.specs.Check.{hasLink, wrongHalf}
 use Rattle.table.specs.Positions.{recordsAt}
-use Rattle.faults.specs.HalfLinkLaws.{port-repeated}
+use Rattle.faults.specs.laws.HalfLinkLaws.{port-repeated}
 use borrow.Author.Needs.{needs}
 use Rattle.faults.proofs.lowest.half_link_fault.Statement.{statement}
 use Rattle.faults.proofs.lowest.half_link_fault.Tie as tie

@@ -5,9 +5,9 @@ use mathlib.Core.Bool.{true, false}
 use lib.ListN.{length, drop}
 use Rattle.rule.specs.Words.{wordsOf}
 use Rattle.table.specs.Positions.{recordsAt, vidsFrom, membersFrom, wordsRead, readingAt}
-use Rattle.table.specs.PositionLaws.{how-many}
+use Rattle.table.specs.laws.PositionLaws.{how-many}
 use Rattle.table.specs.Readers.{cut, zeroBit, outOfRange, whole, memberRead, memberValues}
-use Rattle.faults.specs.FaultLaws.{judged-at, own-fault, found-fault, fault-left, left-over}
+use Rattle.faults.specs.laws.FaultLaws.{judged-at, own-fault, found-fault, fault-left, left-over}
 use Prim.Native.Nat.{ℕ}
 use borrow.Author.Tests.{lt-ltb, le-ltb, not-true, not-false}
 use Rattle.graph.specs.Lists.{anyPasses}
@@ -15,7 +15,7 @@ use Rattle.rule.specs.Records.{member, vidOf, memberOf, memberLayout}
 use Rattle.rule.specs.Plan.{hasVid}
 use Rattle.rule.specs.Check.{repeatsMember}
 use Rattle.table.specs.declared.member.MemberRead.{MemberRead}
-use Rattle.faults.specs.FaultLaws.{unknown-member}
+use Rattle.faults.specs.laws.FaultLaws.{unknown-member}
 use borrow.Author.Needs.{needs}
 use Rattle.faults.proofs.lowest.member_fault.Statement.{statement}
 use Rattle.faults.proofs.lowest.member_fault.Tie as tie

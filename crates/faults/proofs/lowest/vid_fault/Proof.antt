@@ -5,9 +5,9 @@ use mathlib.Core.Bool.{true, false}
 use lib.ListN.{length, drop}
 use Rattle.rule.specs.Words.{wordsOf}
 use Rattle.table.specs.Positions.{recordsAt, vidsFrom, wordsRead, readingAt}
-use Rattle.table.specs.PositionLaws.{how-many}
+use Rattle.table.specs.laws.PositionLaws.{how-many}
 use Rattle.table.specs.Readers.{cut, outOfRange, whole, vidRead, vidValues}
-use Rattle.faults.specs.FaultLaws.{judged-at, own-fault, found-fault, fault-left, left-over}
+use Rattle.faults.specs.laws.FaultLaws.{judged-at, own-fault, found-fault, fault-left, left-over}
 use Prim.Native.Nat.{ℕ}
 use Rattle.graph.specs.Lists.{anyPasses}
 use Rattle.rule.specs.Records.{vid, vidOf, vidLayout}

@@ -3,12 +3,12 @@ use Prim.Native.Nat.{_-_, _+_, _*_}
 use native.Mathlib.Omega.{arith}
 use mathlib.Core.Path.{refl}
 use borrow.Author.Tests.{eq-eqb, ne-eqb}
-use Rattle.graph.specs.Searching.{search-starts}
+use Rattle.graph.specs.laws.Searching.{search-starts}
 use Rattle.rule.specs.Words.{wordsOf}
 use Rattle.rule.specs.Records.{memberOf}
 use Rattle.rule.specs.Check.{repeatsMember}
 use Rattle.table.specs.Readers.{memberValues}
-use Rattle.table.specs.PositionLaws.{SearchingRecords, record-passed, record-found, no-record-found}
+use Rattle.table.specs.laws.PositionLaws.{SearchingRecords, record-passed, record-found, no-record-found}
 use borrow.Author.Needs.{needs}
 use Rattle.faults.proofs.repeats.is_member_repeated.Statement.{statement}
 use Rattle.faults.proofs.repeats.is_member_repeated.Tie as tie

@@ -1,7 +1,7 @@
 -- `index::chain::last_in_chain` follows the chain until a place holds the key; places fall. Assumes nothing.
 use native.Mathlib.Omega.{arith}
 use borrow.Author.Needs.{needs}
-use Rattle.index.specs.IndexLaws.{Following, follows, follows-to-none, follows-to-key, follows-less, follows-on}
+use Rattle.index.specs.laws.IndexLaws.{Following, follows, follows-to-none, follows-to-key, follows-less, follows-on}
 use Rattle.index.proofs.chain.last_in_chain.Statement.{statement}
 use Rattle.index.proofs.chain.last_in_chain.Tie as tie
 

@@ -1,6 +1,6 @@
 -- `index::chain::last_place` follows the whole chain of the key. Assumes nothing.
 use mathlib.Core.Path.{_∙_}
-use Rattle.index.specs.IndexLaws.{begins}
+use Rattle.index.specs.laws.IndexLaws.{begins}
 use borrow.Author.Needs.{needs}
 use Rattle.index.proofs.chain.last_place.Statement.{statement}
 use Rattle.index.proofs.chain.last_place.Tie as tie

@@ -1,6 +1,6 @@
 -- `index::chain::other_place` gives the last place of the key, or where that is the place itself the one before. Assumes nothing.
 use mathlib.Core.Path.{_∙_}
-use Rattle.index.specs.IndexLaws.{other-is-last, other-is-before}
+use Rattle.index.specs.laws.IndexLaws.{other-is-last, other-is-before}
 use borrow.Author.Needs.{needs}
 use Rattle.index.proofs.chain.other_place.Statement.{statement}
 use Rattle.index.proofs.chain.other_place.Tie as tie

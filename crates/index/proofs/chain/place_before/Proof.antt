@@ -1,6 +1,6 @@
 -- `index::chain::place_before` follows the chain from the place on. Assumes nothing.
 use mathlib.Core.Path.{_∙_}
-use Rattle.index.specs.IndexLaws.{goes-back}
+use Rattle.index.specs.laws.IndexLaws.{goes-back}
 use borrow.Author.Needs.{needs}
 use Rattle.index.proofs.chain.place_before.Statement.{statement}
 use Rattle.index.proofs.chain.place_before.Tie as tie

@@ -1,7 +1,7 @@
 -- `index::entry::enter` stores the key, its chain's last place and the new last place. Assumes nothing.
 use native.Mathlib.Omega.{arith}
 use lib.ListN.{length-set}
-use Rattle.index.specs.IndexLaws.{entered-in}
+use Rattle.index.specs.laws.IndexLaws.{entered-in}
 use borrow.Author.Needs.{needs}
 use Rattle.index.proofs.entry.enter.Statement.{statement}
 use Rattle.index.proofs.entry.enter.Tie as tie

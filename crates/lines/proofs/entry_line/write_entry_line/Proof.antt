@@ -1,9 +1,9 @@
 -- `lines::entry_line::write_entry_line` writes the word, the numbers, the address and the newline one after the other. Assumes nothing.
 use borrow.Author.Needs.{needs}
 use Rattle.rule.specs.Lookup.{entryOf}
-use Rattle.text.specs.TextLaws.{written-on, written-as}
-use Rattle.text.specs.DigitLaws.{length-digits}
-use Rattle.lines.specs.EntryLineLaws.{line-of-numbers}
+use Rattle.text.specs.laws.TextLaws.{written-on, written-as}
+use Rattle.text.specs.laws.DigitLaws.{length-digits}
+use Rattle.lines.specs.laws.EntryLineLaws.{line-of-numbers}
 use native.Mathlib.Omega.{arith}
 use Rattle.lines.proofs.entry_line.write_entry_line.Statement.{statement}
 use Rattle.lines.proofs.entry_line.write_entry_line.Tie as tie

@@ -2,7 +2,7 @@
 use borrow.Author.Needs.{needs}
 use Prim.Native.Nat.{_-_}
 use lib.ListN.{length}
-use Rattle.lines.specs.EntryLineLaws.{EntryListing, entry-listing-starts, entry-listing-room, entry-listing-goes-on, entry-listing-ends}
+use Rattle.lines.specs.laws.EntryLineLaws.{EntryListing, entry-listing-starts, entry-listing-room, entry-listing-goes-on, entry-listing-ends}
 use Rattle.lines.proofs.entry_line.write_entry_lines.Statement.{statement}
 use Rattle.lines.proofs.entry_line.write_entry_lines.Tie as tie
 

@@ -4,8 +4,8 @@ use mathlib.Core.Path.{ap}
 use mathlib.Core.List.{List, [], _∷_, _++_}
 use Prim.Native.Nat.{ℕ}
 use Rattle.text.specs.Text.{newline, pathWord}
-use Rattle.text.specs.TextLaws.{written-on, written-as}
-use Rattle.lines.specs.PathLineLaws.{fields-of-both}
+use Rattle.text.specs.laws.TextLaws.{written-on, written-as}
+use Rattle.lines.specs.laws.PathLineLaws.{fields-of-both}
 use native.Mathlib.Omega.{arith}
 use Rattle.lines.proofs.path_line.write_given_path.Statement.{statement}
 use Rattle.lines.proofs.path_line.write_given_path.Tie as tie

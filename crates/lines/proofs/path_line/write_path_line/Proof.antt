@@ -4,9 +4,9 @@ use Prim.Native.Nat.{ℕ}
 use mathlib.Core.Path.{ap}
 use lib.ListN.{replicate, length-take, length-replicate}
 use Rattle.rule.specs.Answers.{pathValues}
-use Rattle.text.specs.TextLaws.{written-as}
+use Rattle.text.specs.laws.TextLaws.{written-as}
 use Rattle.lines.specs.Listing.{pathLine}
-use Rattle.lines.specs.PathLineLaws.{given-path, no-path-given}
+use Rattle.lines.specs.laws.PathLineLaws.{given-path, no-path-given}
 use native.Mathlib.Omega.{arith}
 use Rattle.lines.proofs.path_line.write_path_line.Statement.{statement}
 use Rattle.lines.proofs.path_line.write_path_line.Tie as tie

@@ -1,7 +1,8 @@
 -- `links::neighbours::list_hops` goes through the places of the bridge and lists each hop. Assumes nothing.
 use native.Mathlib.Omega.{arith}
 use Prim.Native.Nat.{_+_, _*_, _-_}
-use Rattle.links.specs.Neighbours.{Row, row-starts, row-passes, row-takes, row-ends, room-for-hop}
+use Rattle.links.specs.Neighbours.{Row}
+use Rattle.links.specs.laws.NeighbourListLaws.{row-starts, row-passes, row-takes, row-ends, room-for-hop}
 use borrow.Author.Needs.{needs}
 use Rattle.links.proofs.neighbours.list_hops.Statement.{statement}
 use Rattle.links.proofs.neighbours.list_hops.Tie as tie

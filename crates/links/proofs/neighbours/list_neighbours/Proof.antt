@@ -3,7 +3,7 @@ use native.Mathlib.Omega.{arith}
 use Prim.Native.Nat.{_-_}
 use mathlib.Core.Path.{_∙_}
 use lib.ListN.{length-set}
-use Rattle.links.specs.Neighbours.{Filling, filling-starts, filling-room, filling-goes-on, filling-ends}
+use Rattle.links.specs.laws.NeighbourListLaws.{Filling, filling-starts, filling-room, filling-goes-on, filling-ends}
 use borrow.Author.Needs.{needs}
 use Rattle.links.proofs.neighbours.list_neighbours.Statement.{statement}
 use Rattle.links.proofs.neighbours.list_neighbours.Tie as tie

@@ -1,5 +1,5 @@
 -- `links::neighbours::neighbours_of` finds the lowest hops and lists them. Assumes nothing.
-use Rattle.links.specs.NeighbourLaws.{room, neighbours-of-plan}
+use Rattle.links.specs.laws.NeighbourLaws.{room, neighbours-of-plan}
 use borrow.Author.Needs.{needs}
 use Rattle.links.proofs.neighbours.neighbours_of.Statement.{statement}
 use Rattle.links.proofs.neighbours.neighbours_of.Tie as tie

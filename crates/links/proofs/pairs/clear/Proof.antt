@@ -1,7 +1,7 @@
 -- `links::pairs::clear` writes no hop to each place. Assumes nothing.
 use native.Mathlib.Omega.{arith}
 use Prim.Native.Nat.{_*_, _-_}
-use Rattle.links.specs.PairLaws.{Clearing, clearing-starts, clearing-goes-on, clearing-ends}
+use Rattle.links.specs.laws.PairLaws.{Clearing, clearing-starts, clearing-goes-on, clearing-ends}
 use borrow.Author.Needs.{needs}
 use Rattle.links.proofs.pairs.clear.Statement.{statement}
 use Rattle.links.proofs.pairs.clear.Tie as tie

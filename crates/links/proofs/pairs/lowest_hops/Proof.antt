@@ -1,6 +1,6 @@
 -- `links::pairs::lowest_hops` clears the places and offers every half-link. Assumes nothing.
 use Prim.Native.Nat.{_-_}
-use Rattle.links.specs.PairLaws.{Offering, few-bridges, offering-starts, offering-goes-on, offering-ends}
+use Rattle.links.specs.laws.PairLaws.{Offering, few-bridges, offering-starts, offering-goes-on, offering-ends}
 use borrow.Author.Needs.{needs}
 use Rattle.links.proofs.pairs.lowest_hops.Statement.{statement}
 use Rattle.links.proofs.pairs.lowest_hops.Tie as tie

@@ -6,7 +6,7 @@ use Rattle.rule.specs.Words.{wordsOf}
 use Rattle.table.specs.Readers.{halfLinkValues}
 use Rattle.table.specs.Positions.{planAt}
 use Rattle.links.specs.Mates.{halfLinkAt}
-use Rattle.links.specs.PairLaws.{offered-unusable, offered-usable, place-there, hop-fits}
+use Rattle.links.specs.laws.PairLaws.{offered-unusable, offered-usable, place-there, hop-fits}
 use borrow.Author.Needs.{needs}
 use Rattle.links.proofs.pairs.offer.Statement.{statement}
 use Rattle.links.proofs.pairs.offer.Tie as tie

@@ -4,7 +4,7 @@ use Rattle.rule.specs.Words.{wordsOf}
 use Rattle.table.specs.Readers.{halfLinkValues}
 use Rattle.table.specs.Positions.{planAt}
 use Rattle.links.specs.Mates.{halfLinkAt}
-use Rattle.links.specs.CountLaws.{counted-higher, counted-usable, counted-unusable}
+use Rattle.links.specs.laws.CountLaws.{counted-higher, counted-usable, counted-unusable}
 use borrow.Author.Needs.{needs}
 use Rattle.links.proofs.usable.count_one.Statement.{statement}
 use Rattle.links.proofs.usable.count_one.Tie as tie

@@ -4,7 +4,7 @@ use Prim.Native.Nat.{_-_}
 use Rattle.rule.specs.Words.{wordsOf}
 use Rattle.table.specs.Positions.{planAt}
 use Rattle.links.specs.Mates.{halfLinkAt}
-use Rattle.links.specs.CountLaws.{Counting, counting-starts, counting-goes-on, counting-ends, counted-most}
+use Rattle.links.specs.laws.CountLaws.{Counting, counting-starts, counting-goes-on, counting-ends, counted-most}
 use borrow.Author.Needs.{needs}
 use Rattle.links.proofs.usable.count_usable.Statement.{statement}
 use Rattle.links.proofs.usable.count_usable.Tie as tie

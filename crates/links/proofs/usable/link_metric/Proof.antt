@@ -2,7 +2,7 @@
 use native.Mathlib.Omega.{arith}
 use mathlib.Core.Path.{_∙_}
 use Rattle.table.specs.Readers.{halfLinkValues}
-use Rattle.links.specs.MateLaws.{mate-within, metric-alone, metric-linked}
+use Rattle.links.specs.laws.MateLaws.{mate-within, metric-alone, metric-linked}
 use borrow.Author.Needs.{needs}
 use Rattle.links.proofs.usable.link_metric.Statement.{statement}
 use Rattle.links.proofs.usable.link_metric.Tie as tie

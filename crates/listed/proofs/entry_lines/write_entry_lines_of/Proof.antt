@@ -2,8 +2,8 @@
 use borrow.Author.Needs.{needs}
 use native.Mathlib.Omega.{arith}
 use lib.ListN.{length-take}
-use Rattle.entries.specs.Needed.{few-bridges}
-use Rattle.listed.specs.EntryLines.{few-listed, few-bytes, lines-listed}
+use Rattle.entries.specs.laws.NeededLaws.{few-bridges}
+use Rattle.listed.specs.laws.EntryLines.{few-listed, few-bytes, lines-listed}
 use Rattle.listed.proofs.entry_lines.write_entry_lines_of.Statement.{statement}
 use Rattle.listed.proofs.entry_lines.write_entry_lines_of.Tie as tie
 

@@ -1,7 +1,7 @@
 -- `listed::part::part_count` counts the parts: few enough for every sum and product. Assumes nothing.
 use borrow.Author.Needs.{needs}
 use native.Mathlib.Omega.{arith}
-use Rattle.listed.specs.TableParts.{few-pairs}
+use Rattle.listed.specs.laws.TableParts.{few-pairs}
 use Rattle.listed.proofs.part.part_count.Statement.{statement}
 use Rattle.listed.proofs.part.part_count.Tie as tie
 

@@ -2,8 +2,8 @@
 use borrow.Author.Needs.{needs}
 use native.Mathlib.Omega.{arith}
 use Rattle.rule.specs.Words.{wordsOf}
-use Rattle.entries.specs.Needed.{few-bridges, few-vids}
-use Rattle.listed.specs.TableParts.{few-pairs, table-lists, counts-part, some-bridge, known-vid, known-from, path-lines-part, known-bridge, entry-lines-part}
+use Rattle.entries.specs.laws.NeededLaws.{few-bridges, few-vids}
+use Rattle.listed.specs.laws.TableParts.{few-pairs, table-lists, counts-part, some-bridge, known-vid, known-from, path-lines-part, known-bridge, entry-lines-part}
 use Rattle.listed.proofs.part.write_part.Statement.{statement}
 use Rattle.listed.proofs.part.write_part.Tie as tie
 

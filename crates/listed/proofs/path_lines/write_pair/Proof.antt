@@ -4,10 +4,10 @@ use native.Mathlib.Omega.{arith}
 use lib.ListN.{length-take}
 use Rattle.rule.specs.Words.{wordsOf}
 use Rattle.table.specs.Positions.{planAt}
-use Rattle.network.specs.KeptTreeLaws.{lent-tree}
+use Rattle.network.specs.laws.KeptTreeLaws.{lent-tree}
 use Rattle.words.specs.Words.{vidNumber}
-use Rattle.entries.specs.Needed.{few-bridges}
-use Rattle.listed.specs.PathLines.{one-bridge, lists-listed, index-fits, pair-followable, pair-written}
+use Rattle.entries.specs.laws.NeededLaws.{few-bridges}
+use Rattle.listed.specs.laws.PathLineLaws.{one-bridge, lists-listed, index-fits, pair-followable, pair-written}
 use Rattle.listed.proofs.path_lines.write_pair.Statement.{statement}
 use Rattle.listed.proofs.path_lines.write_pair.Tie as tie
 

@@ -4,12 +4,13 @@ use native.Mathlib.Omega.{arith}
 use mathlib.Core.Path.{_≡_, refl, _∙_}
 use Prim.Native.Nat.{_-_, _≤_}
 use lib.ListN.{length}
-use Rattle.graph.specs.Appending.{AppendingFew, few-starts, few-room, few-goes-on}
+use Rattle.graph.specs.laws.AppendingLaws.{AppendingFew, few-starts, few-room, few-goes-on}
 use Rattle.rule.specs.Words.{wordsOf}
 use Rattle.table.specs.Positions.{planAt}
 use Rattle.network.specs.KeptTrees.{TreesHeld}
 use Rattle.words.specs.Words.{vidNumber}
-use Rattle.listed.specs.PathLines.{pairLine, pairs-written}
+use Rattle.listed.specs.PathLines.{pairLine}
+use Rattle.listed.specs.laws.PathLineLaws.{pairs-written}
 use Rattle.listed.proofs.path_lines.write_path_lines.Statement.{statement}
 use Rattle.listed.proofs.path_lines.write_path_lines.Tie as tie
 

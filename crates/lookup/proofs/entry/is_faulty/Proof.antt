@@ -5,7 +5,7 @@ use mathlib.Core.Path.{sym}
 use borrow.Author.Tests.{not-true, not-false}
 use Rattle.rule.specs.Words.{bits}
 use Rattle.rule.specs.Lookup.{entryOf}
-use Rattle.lookup.specs.EntryLaws.{vid-outside, port-outside, zero-bit-set, by-group-bit}
+use Rattle.lookup.specs.laws.EntryLaws.{vid-outside, port-outside, zero-bit-set, by-group-bit}
 use borrow.Author.Needs.{needs}
 use Rattle.lookup.proofs.entry.is_faulty.Statement.{statement}
 use Rattle.lookup.proofs.entry.is_faulty.Tie as tie

@@ -3,7 +3,7 @@ use Prim.Native.Nat.{_-_}
 use lib.ListN.{length}
 use mathlib.Core.Path.{sym, _∙_}
 use borrow.Author.Needs.{needs}
-use Rattle.lookup.specs.EntryListLaws.{Testing, testing-starts, testing-goes-on, testing-finds, testing-ends}
+use Rattle.lookup.specs.laws.EntryListLaws.{Testing, testing-starts, testing-goes-on, testing-finds, testing-ends}
 use Rattle.lookup.proofs.list.is_faulty_list.Statement.{statement}
 use Rattle.lookup.proofs.list.is_faulty_list.Tie as tie
 

@@ -7,7 +7,7 @@ use mathlib.Core.Option.{some}
 use borrow.Author.Tests.{not-true, not-false}
 use borrow.Author.Needs.{needs}
 use Rattle.rule.specs.Outcome.{answered}
-use Rattle.lookup.specs.EntryListLaws.{Looking, looking-starts, looking-passes, looking-counts, looking-finds, looking-ends}
+use Rattle.lookup.specs.laws.EntryListLaws.{Looking, looking-starts, looking-passes, looking-counts, looking-finds, looking-ends}
 use Rattle.lookup.proofs.list.matching.Statement.{statement}
 use Rattle.lookup.proofs.list.matching.Tie as tie
 

@@ -1,8 +1,8 @@
 -- `measured::measured::measured_trees` examines a table and makes trees of it. Assumes nothing.
 use borrow.Author.Needs.{needs}
 use native.Mathlib.Omega.{arith}
-use Rattle.index.specs.IndexLaws.{no-keys-yet}
-use Rattle.spb.specs.Examined.{accepted-checked}
+use Rattle.index.specs.laws.IndexLaws.{no-keys-yet}
+use Rattle.spb.specs.laws.Examined.{accepted-checked}
 use Rattle.measured.proofs.measured.measured_trees.Statement.{statement}
 use Rattle.measured.proofs.measured.measured_trees.Tie as tie
 

@@ -1,8 +1,8 @@
 -- `measured::measured::trees_of_table` makes the lists of the table's plan and trees over them. Assumes nothing.
 use borrow.Author.Needs.{needs}
 use native.Mathlib.Omega.{arith}
-use Rattle.links.specs.PairLaws.{few-bridges}
-use Rattle.network.specs.PlanListLaws.{lists-of-table}
+use Rattle.links.specs.laws.PairLaws.{few-bridges}
+use Rattle.network.specs.laws.PlanListLaws.{lists-of-table}
 use Rattle.measured.proofs.measured.trees_of_table.Statement.{statement}
 use Rattle.measured.proofs.measured.trees_of_table.Tie as tie
 

@@ -2,7 +2,7 @@
 use borrow.Author.Needs.{needs}
 use native.Mathlib.Omega.{arith}
 use lib.ListN.{length-take, length-drop}
-use Rattle.network.specs.KeptTreeLaws.{tree-there, tree-kept, new-tree}
+use Rattle.network.specs.laws.KeptTreeLaws.{tree-there, tree-kept, new-tree}
 use Rattle.network.proofs.kept.kept_tree.Statement.{statement}
 use Rattle.network.proofs.kept.kept_tree.Tie as tie
 

@@ -1,7 +1,7 @@
 -- `network::plan_tree::tree_over_lists` makes the keys of the ECT index and searches. Assumes nothing.
 use borrow.Author.Needs.{needs}
 use native.Mathlib.Omega.{arith}
-use Rattle.network.specs.PlanListLaws.{lists-represented, tree-of-lists}
+use Rattle.network.specs.laws.PlanListLaws.{lists-represented, tree-of-lists}
 use Rattle.network.proofs.plan_tree.tree_over_lists.Statement.{statement}
 use Rattle.network.proofs.plan_tree.tree_over_lists.Tie as tie
 

@@ -3,7 +3,7 @@ use Prim.Native.Nat.{_-_}
 use native.Mathlib.Omega.{arith}
 use borrow.Author.Needs.{needs}
 use Rattle.rule.specs.Words.{wordsOf}
-use Rattle.network.specs.RecordLaws.{SeekingVid, vid-starts, vid-on, vid-found, vid-missing}
+use Rattle.network.specs.laws.RecordLaws.{SeekingVid, vid-starts, vid-on, vid-found, vid-missing}
 use Rattle.network.proofs.records.index_of.Statement.{statement}
 use Rattle.network.proofs.records.index_of.Tie as tie
 

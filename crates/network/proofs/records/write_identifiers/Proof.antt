@@ -3,7 +3,7 @@ use Prim.Native.Nat.{_-_}
 use native.Mathlib.Omega.{arith}
 use borrow.Author.Needs.{needs}
 use Rattle.rule.specs.Words.{wordsOf}
-use Rattle.network.specs.RecordLaws.{Identifying, identifying-starts, identifying-on, identifying-ends}
+use Rattle.network.specs.laws.RecordLaws.{Identifying, identifying-starts, identifying-on, identifying-ends}
 use Rattle.network.proofs.records.write_identifiers.Statement.{statement}
 use Rattle.network.proofs.records.write_identifiers.Tie as tie
 

@@ -4,8 +4,8 @@ use native.Mathlib.Omega.{arith}
 use mathlib.Core.Path.{sym, _∙_}
 use Rattle.rule.specs.Words.{wordsOf}
 use Rattle.table.specs.Positions.{planAt}
-use Rattle.links.specs.PairLaws.{bridges-counted}
-use Rattle.path.specs.Named.{no-tree, known-tree, no-from, no-root, both-known, named-fits}
+use Rattle.links.specs.laws.PairLaws.{bridges-counted}
+use Rattle.path.specs.laws.NamedLaws.{no-tree, known-tree, no-from, no-root, both-known, named-fits}
 use Rattle.path.proofs.named.named_tree.Statement.{statement}
 use Rattle.path.proofs.named.named_tree.Tie as tie
 

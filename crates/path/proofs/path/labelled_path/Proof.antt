@@ -1,7 +1,7 @@
 -- `path::path::labelled_path` answers by a label. Assumes nothing.
 use borrow.Author.Needs.{needs}
 use native.Mathlib.Omega.{arith}
-use Rattle.path.specs.Labelled.{no-path-labelled, list-too-short, path-written}
+use Rattle.path.specs.laws.LabelledLaws.{no-path-labelled, list-too-short, path-written}
 use Rattle.path.proofs.path.labelled_path.Statement.{statement}
 use Rattle.path.proofs.path.labelled_path.Tie as tie
 

@@ -3,7 +3,7 @@ use borrow.Author.Needs.{needs}
 use native.Mathlib.Omega.{arith}
 use Rattle.rule.specs.Words.{wordsOf}
 use Rattle.table.specs.Positions.{planAt}
-use Rattle.path.specs.PlanCalls.{nothing-named-number, no-path-number, path-number, named-followable, named-cost}
+use Rattle.path.specs.laws.PlanCalls.{nothing-named-number, no-path-number, path-number, named-followable, named-cost}
 use Rattle.path.proofs.path.path_cost_in_table.Statement.{statement}
 use Rattle.path.proofs.path.path_cost_in_table.Tie as tie
 

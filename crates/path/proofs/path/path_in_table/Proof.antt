@@ -5,7 +5,7 @@ use mathlib.Core.Path.{ap, _∙_}
 use Rattle.rule.specs.Words.{wordsOf}
 use Rattle.rule.specs.Outcome.{lentTo}
 use Rattle.table.specs.Positions.{planAt}
-use Rattle.path.specs.PlanCalls.{nothing-named, named-followable, named-path}
+use Rattle.path.specs.laws.PlanCalls.{nothing-named, named-followable, named-path}
 use Rattle.path.proofs.path.path_in_table.Statement.{statement}
 use Rattle.path.proofs.path.path_in_table.Tie as tie
 

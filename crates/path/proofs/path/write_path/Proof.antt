@@ -2,7 +2,7 @@
 use borrow.Author.Needs.{needs}
 use Prim.Native.Nat.{_-_}
 use native.Mathlib.Omega.{arith}
-use Rattle.path.specs.Followed.{Following, following-starts, following-inside, following-on, following-ends}
+use Rattle.path.specs.laws.FollowedLaws.{Following, following-starts, following-inside, following-on, following-ends}
 use Rattle.path.proofs.path.write_path.Statement.{statement}
 use Rattle.path.proofs.path.write_path.Tie as tie
 

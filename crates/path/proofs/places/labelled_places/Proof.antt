@@ -1,7 +1,7 @@
 -- `path::places::labelled_places` writes three numbers of each place. Assumes nothing.
 use borrow.Author.Needs.{needs}
 use native.Mathlib.Omega.{arith}
-use Rattle.path.specs.Places.{short-costs, short-hops, short-lasts, places-written}
+use Rattle.path.specs.laws.PlaceLaws.{short-costs, short-hops, short-lasts, places-written}
 use Rattle.path.proofs.places.labelled_places.Statement.{statement}
 use Rattle.path.proofs.places.labelled_places.Tie as tie
 

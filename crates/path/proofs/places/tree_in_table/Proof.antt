@@ -5,8 +5,8 @@ use mathlib.Core.Path.{sym, ap, _∙_}
 use Rattle.rule.specs.Words.{wordsOf}
 use Rattle.rule.specs.Calls.{lentToThree}
 use Rattle.table.specs.Positions.{planAt}
-use Rattle.links.specs.PairLaws.{bridges-counted, few-bridges}
-use Rattle.path.specs.PlanCalls.{no-places-named, named-places}
+use Rattle.links.specs.laws.PairLaws.{bridges-counted, few-bridges}
+use Rattle.path.specs.laws.PlanCalls.{no-places-named, named-places}
 use Rattle.path.proofs.places.tree_in_table.Statement.{statement}
 use Rattle.path.proofs.places.tree_in_table.Tie as tie
 

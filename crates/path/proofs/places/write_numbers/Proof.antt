@@ -2,7 +2,8 @@
 use borrow.Author.Needs.{needs}
 use Prim.Native.Nat.{_-_}
 use native.Mathlib.Omega.{arith}
-use Rattle.path.specs.Places.{placeNumber, Filling, filling-starts, filling-on, filling-ends}
+use Rattle.path.specs.Places.{placeNumber}
+use Rattle.path.specs.laws.PlaceLaws.{Filling, filling-starts, filling-on, filling-ends}
 use Rattle.path.proofs.places.write_numbers.Statement.{statement}
 use Rattle.path.proofs.places.write_numbers.Tie as tie
 

@@ -2,7 +2,7 @@
 use native.Mathlib.Omega.{arith}
 use lib.ListN.{getD}
 use Prim.Native.Nat.{_+_}
-use Rattle.ports.specs.Leaving.{Walking, no-way, walking-starts, walking-inside, fewer-hops, walking-goes-on, walking-finds, walking-ends}
+use Rattle.ports.specs.laws.WalkingLaws.{Walking, no-way, walking-starts, walking-inside, fewer-hops, walking-goes-on, walking-finds, walking-ends}
 use borrow.Author.Needs.{needs}
 use Rattle.ports.proofs.leaving.leaving_port.Statement.{statement}
 use Rattle.ports.proofs.leaving.leaving_port.Tie as tie

@@ -1,7 +1,7 @@
 -- `ports::leaving::leaving_row` writes the port for bridge after bridge. Assumes nothing.
 use native.Mathlib.Omega.{arith}
 use Prim.Native.Nat.{_-_}
-use Rattle.ports.specs.Leaving.{Rowing, rowing-starts, rowing-length, rowing-room, rowing-goes-on, rowing-ends}
+use Rattle.ports.specs.laws.WalkingLaws.{Rowing, rowing-starts, rowing-length, rowing-room, rowing-goes-on, rowing-ends}
 use borrow.Author.Needs.{needs}
 use Rattle.ports.proofs.leaving.leaving_row.Statement.{statement}
 use Rattle.ports.proofs.leaving.leaving_row.Tie as tie

@@ -2,9 +2,9 @@
 use borrow.Author.Needs.{needs}
 use native.Mathlib.Omega.{arith}
 use lib.ListN.{length-set, length-take, length-drop}
-use Rattle.network.specs.KeptTreeLaws.{lent-tree}
-use Rattle.ports.specs.LeavingLaws.{tree-walkable}
-use Rattle.ports.specs.Rows.{kept-all, row-added, row-kept, row-there, rows-length}
+use Rattle.network.specs.laws.KeptTreeLaws.{lent-tree}
+use Rattle.ports.specs.laws.LeavingLaws.{tree-walkable}
+use Rattle.ports.specs.laws.RowLaws.{kept-all, row-added, row-kept, row-there, rows-length}
 use Rattle.ports.proofs.rows.keep_row.Statement.{statement}
 use Rattle.ports.proofs.rows.keep_row.Tie as tie
 

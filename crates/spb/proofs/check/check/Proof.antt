@@ -1,7 +1,7 @@
 -- `spb::check::check` gives the counts of an accepted table, or the refusal of the verdict. Assumes nothing.
-use Rattle.index.specs.IndexLaws.{no-keys-yet}
-use Rattle.spb.specs.Examined.{accepted-checked}
-use Rattle.spb.specs.CallLaws.{check-accepted, check-refused}
+use Rattle.index.specs.laws.IndexLaws.{no-keys-yet}
+use Rattle.spb.specs.laws.Examined.{accepted-checked}
+use Rattle.spb.specs.laws.CallLaws.{check-accepted, check-refused}
 use borrow.Author.Needs.{needs}
 use Rattle.spb.proofs.check.check.Statement.{statement}
 use Rattle.spb.proofs.check.check.Tie as tie

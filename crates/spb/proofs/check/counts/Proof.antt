@@ -3,8 +3,8 @@ use mathlib.Core.Path.{refl, sym}
 use Rattle.rule.specs.Words.{wordsOf}
 use Rattle.rule.specs.Records.{bridgeOf, halfLinkOf, vidOf, memberOf}
 use Rattle.table.specs.Positions.{halfLinksFrom, vidsFrom, membersFrom}
-use Rattle.table.specs.PositionLaws.{how-many}
-use Rattle.spb.specs.CallLaws.{same-counts}
+use Rattle.table.specs.laws.PositionLaws.{how-many}
+use Rattle.spb.specs.laws.CallLaws.{same-counts}
 use borrow.Author.Needs.{needs}
 use Rattle.spb.proofs.check.counts.Statement.{statement}
 use Rattle.spb.proofs.check.counts.Tie as tie

@@ -1,6 +1,6 @@
 -- `spb::exported::spb_check` gives the number of the verdict. Assumes nothing.
-use Rattle.index.specs.IndexLaws.{no-keys-yet}
-use Rattle.spb.specs.CallLaws.{accepted-number, refused-number}
+use Rattle.index.specs.laws.IndexLaws.{no-keys-yet}
+use Rattle.spb.specs.laws.CallLaws.{accepted-number, refused-number}
 use borrow.Author.Needs.{needs}
 use Rattle.spb.proofs.exported.spb_check.Statement.{statement}
 use Rattle.spb.proofs.exported.spb_check.Tie as tie

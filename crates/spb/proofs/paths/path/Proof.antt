@@ -1,8 +1,8 @@
 -- `spb::paths::path` asks the path of an accepted table, or passes the refusal of the verdict on. Assumes nothing.
 use borrow.Author.Needs.{needs}
-use Rattle.index.specs.IndexLaws.{no-keys-yet}
-use Rattle.spb.specs.Examined.{accepted-checked}
-use Rattle.spb.specs.CallLaws.{path-accepted, path-refused}
+use Rattle.index.specs.laws.IndexLaws.{no-keys-yet}
+use Rattle.spb.specs.laws.Examined.{accepted-checked}
+use Rattle.spb.specs.laws.CallLaws.{path-accepted, path-refused}
 use Rattle.spb.proofs.paths.path.Statement.{statement}
 use Rattle.spb.proofs.paths.path.Tie as tie
 

@@ -1,8 +1,8 @@
 -- `spb::trees::tree` asks the places of an accepted table, or passes the refusal of the verdict on. Assumes nothing.
 use borrow.Author.Needs.{needs}
-use Rattle.index.specs.IndexLaws.{no-keys-yet}
-use Rattle.spb.specs.Examined.{accepted-checked}
-use Rattle.spb.specs.CallLaws.{tree-accepted, tree-refused}
+use Rattle.index.specs.laws.IndexLaws.{no-keys-yet}
+use Rattle.spb.specs.laws.Examined.{accepted-checked}
+use Rattle.spb.specs.laws.CallLaws.{tree-accepted, tree-refused}
 use Rattle.spb.proofs.trees.tree.Statement.{statement}
 use Rattle.spb.proofs.trees.tree.Tie as tie
 

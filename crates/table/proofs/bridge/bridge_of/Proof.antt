@@ -1,6 +1,6 @@
 -- `table::bridge::bridge_of` gives the record of kind 1: field by field. Assumes nothing.
 use native.Mathlib.Omega.{arith}
-use Rattle.table.specs.Readers.{same-bridge}
+use Rattle.table.specs.laws.ReaderLaws.{same-bridge}
 use borrow.Author.Needs.{needs}
 use Rattle.table.proofs.bridge.bridge_of.Statement.{statement}
 use Rattle.table.proofs.bridge.bridge_of.Tie as tie

@@ -3,8 +3,9 @@ use native.Mathlib.Omega.{arith}
 use mathlib.Core.Path.{refl, sym, ap, _∙_}
 use Rattle.rule.specs.Words.{wordsOf}
 use Rattle.rule.specs.Records.{end, endLayout}
-use Rattle.table.specs.WordLaws.{count-of-words}
-use Rattle.table.specs.Readers.{whole, read-cut, read-whole, inside-all}
+use Rattle.table.specs.laws.WordLaws.{count-of-words}
+use Rattle.table.specs.Readers.{whole}
+use Rattle.table.specs.laws.ReaderLaws.{read-cut, read-whole, inside-all}
 use borrow.Author.Needs.{needs}
 use Rattle.table.proofs.end.read_end.Statement.{statement}
 use Rattle.table.proofs.end.read_end.Tie as tie

@@ -1,6 +1,6 @@
 -- `table::half_link::half_link_of` gives the record of kind 2: field by field. Assumes nothing.
 use native.Mathlib.Omega.{arith}
-use Rattle.table.specs.Readers.{same-half-link}
+use Rattle.table.specs.laws.ReaderLaws.{same-half-link}
 use borrow.Author.Needs.{needs}
 use Rattle.table.proofs.half_link.half_link_of.Statement.{statement}
 use Rattle.table.proofs.half_link.half_link_of.Tie as tie

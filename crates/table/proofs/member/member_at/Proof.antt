@@ -3,7 +3,7 @@ use Prim.Native.Nat.{ℕ}
 use mathlib.Core.Path.{ap, _∙_}
 use mathlib.Core.List.{List}
 use Rattle.rule.specs.Records.{memberOf}
-use Rattle.table.specs.WordLaws.{words-from}
+use Rattle.table.specs.laws.WordLaws.{words-from}
 use borrow.Author.Needs.{needs}
 use Rattle.table.proofs.member.member_at.Statement.{statement}
 use Rattle.table.proofs.member.member_at.Tie as tie

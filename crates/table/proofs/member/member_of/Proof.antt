@@ -1,6 +1,6 @@
 -- `table::member::member_of` gives the record of kind 4: field by field. Assumes nothing.
 use native.Mathlib.Omega.{arith}
-use Rattle.table.specs.Readers.{same-member}
+use Rattle.table.specs.laws.ReaderLaws.{same-member}
 use borrow.Author.Needs.{needs}
 use Rattle.table.proofs.member.member_of.Statement.{statement}
 use Rattle.table.proofs.member.member_of.Tie as tie

@@ -4,8 +4,9 @@ use native.Mathlib.Omega.{arith}
 use borrow.Author.Tests.{not-true, not-false}
 use Rattle.rule.specs.Words.{wordsOf}
 use Rattle.rule.specs.Records.{Vid, vid, vidLayout}
-use Rattle.table.specs.WordLaws.{count-of-words}
-use Rattle.table.specs.Readers.{read-cut, read-outside, read-whole, outside-here, inside-here, inside-all, whole}
+use Rattle.table.specs.laws.WordLaws.{count-of-words}
+use Rattle.table.specs.laws.ReaderLaws.{read-cut, read-outside, read-whole, outside-here, inside-here, inside-all}
+use Rattle.table.specs.Readers.{whole}
 use borrow.Author.Needs.{needs}
 use Rattle.table.proofs.vid.read_vid.Statement.{statement}
 use Rattle.table.proofs.vid.read_vid.Tie as tie

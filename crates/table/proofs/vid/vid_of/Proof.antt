@@ -1,6 +1,6 @@
 -- `table::vid::vid_of` gives the record of kind 3: field by field. Assumes nothing.
 use native.Mathlib.Omega.{arith}
-use Rattle.table.specs.Readers.{same-vid}
+use Rattle.table.specs.laws.ReaderLaws.{same-vid}
 use borrow.Author.Needs.{needs}
 use Rattle.table.proofs.vid.vid_of.Statement.{statement}
 use Rattle.table.proofs.vid.vid_of.Tie as tie

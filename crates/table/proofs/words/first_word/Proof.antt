@@ -1,6 +1,6 @@
 -- `table::words::first_word` gives the first word: by its four bytes. Assumes nothing.
 use native.Mathlib.Omega.{arith}
-use Rattle.table.specs.WordLaws.{first-word}
+use Rattle.table.specs.laws.WordLaws.{first-word}
 use borrow.Author.Needs.{needs}
 use Rattle.table.proofs.words.first_word.Statement.{statement}
 use Rattle.table.proofs.words.first_word.Tie as tie

@@ -1,7 +1,7 @@
 -- `table::words::word_at` gives the word `n`: it is the first of the part that begins there. Assumes nothing.
 use Prim.Native.Nat.{_*_}
 use mathlib.Core.Path.{_∙_}
-use Rattle.table.specs.WordLaws.{part-from, word-of-part}
+use Rattle.table.specs.laws.WordLaws.{part-from, word-of-part}
 use borrow.Author.Needs.{needs}
 use Rattle.table.proofs.words.word_at.Statement.{statement}
 use Rattle.table.proofs.words.word_at.Tie as tie

@@ -2,7 +2,7 @@
 use mathlib.Core.Path.{sym, ap}
 use Rattle.rule.specs.declared.answer.CheckAnswer.{CheckAnswer}
 use Rattle.rule.specs.Answers.{checkValues}
-use Rattle.text.specs.TextLaws.{written-as}
+use Rattle.text.specs.laws.TextLaws.{written-as}
 use Rattle.text.specs.CheckText.{checkText}
 use borrow.Author.Needs.{needs}
 use Rattle.text.proofs.check.write_check.Statement.{statement}

@@ -2,7 +2,7 @@
 use mathlib.Core.Path.{sym, ap}
 use Rattle.rule.specs.declared.answer.RecordKind.{RecordKind}
 use Rattle.rule.specs.Answers.{kindNumber}
-use Rattle.text.specs.TextLaws.{written-as}
+use Rattle.text.specs.laws.TextLaws.{written-as}
 use Rattle.text.specs.CheckText.{kindField}
 use borrow.Author.Needs.{needs}
 use native.Mathlib.Omega.{arith}

@@ -1,6 +1,6 @@
 -- `text::check::write_refusal` writes the word, number, kind and word number one after the other. Assumes nothing.
 use borrow.Author.Needs.{needs}
-use Rattle.text.specs.TextLaws.{written-on}
+use Rattle.text.specs.laws.TextLaws.{written-on}
 use native.Mathlib.Omega.{arith}
 use Rattle.text.proofs.check.write_refusal.Statement.{statement}
 use Rattle.text.proofs.check.write_refusal.Tie as tie

@@ -1,6 +1,6 @@
 -- `text::check::write_refused` writes the refusal and the newline. Assumes nothing.
 use borrow.Author.Needs.{needs}
-use Rattle.text.specs.TextLaws.{written-on}
+use Rattle.text.specs.laws.TextLaws.{written-on}
 use native.Mathlib.Omega.{arith}
 use Rattle.text.proofs.check.write_refused.Statement.{statement}
 use Rattle.text.proofs.check.write_refused.Tie as tie

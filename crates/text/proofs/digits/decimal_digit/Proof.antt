@@ -1,5 +1,5 @@
 -- `text::digits::decimal_digit` gives a digit below 10. Assumes nothing.
-use Rattle.text.specs.DigitLaws.{low-digit}
+use Rattle.text.specs.laws.DigitLaws.{low-digit}
 use borrow.Author.Needs.{needs}
 use Rattle.text.proofs.digits.decimal_digit.Statement.{statement}
 use Rattle.text.proofs.digits.decimal_digit.Tie as tie

@@ -1,6 +1,6 @@
 -- `text::digits::decimal_places` counts the places: what is left of the number has the others. Assumes nothing.
 use Prim.Native.Nat.{_-_}
-use Rattle.text.specs.DigitLaws.{Counting, counting-starts, counting-goes-on, counting-finds, counting-ends}
+use Rattle.text.specs.laws.DigitLaws.{Counting, counting-starts, counting-goes-on, counting-finds, counting-ends}
 use borrow.Author.Needs.{needs}
 use Rattle.text.proofs.digits.decimal_places.Statement.{statement}
 use Rattle.text.proofs.digits.decimal_places.Tie as tie

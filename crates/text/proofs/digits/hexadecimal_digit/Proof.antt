@@ -1,5 +1,5 @@
 -- `text::digits::hexadecimal_digit` gives a digit below 16. Assumes nothing.
-use Rattle.text.specs.DigitLaws.{low-digit, high-digit}
+use Rattle.text.specs.laws.DigitLaws.{low-digit, high-digit}
 use borrow.Author.Needs.{needs}
 use Rattle.text.proofs.digits.hexadecimal_digit.Statement.{statement}
 use Rattle.text.proofs.digits.hexadecimal_digit.Tie as tie

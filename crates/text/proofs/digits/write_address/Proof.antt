@@ -1,5 +1,5 @@
 -- `text::digits::write_address` writes the twelve digits from the last to the first. Assumes nothing.
-use Rattle.text.specs.DigitLaws.{Spelling, spelling-starts, spelling-goes-on, spelling-ends, address-written}
+use Rattle.text.specs.laws.DigitLaws.{Spelling, spelling-starts, spelling-goes-on, spelling-ends, address-written}
 use borrow.Author.Needs.{needs}
 use native.Mathlib.Omega.{arith}
 use mathlib.Core.Path.{refl}

@@ -1,5 +1,5 @@
 -- `text::digits::write_decimal` writes as many digits as the number has places. Assumes nothing.
-use Rattle.text.specs.DigitLaws.{decimal-written}
+use Rattle.text.specs.laws.DigitLaws.{decimal-written}
 use borrow.Author.Needs.{needs}
 use mathlib.Core.Path.{refl}
 use borrow.Author.Needs.{needs}

@@ -1,6 +1,6 @@
 -- `text::fields::write_field` writes a space and the number. Assumes nothing.
-use Rattle.text.specs.DigitLaws.{length-decimal}
-use Rattle.text.specs.TextLaws.{written-on}
+use Rattle.text.specs.laws.DigitLaws.{length-decimal}
+use Rattle.text.specs.laws.TextLaws.{written-on}
 use borrow.Author.Needs.{needs}
 use native.Mathlib.Omega.{arith}
 use Rattle.text.proofs.fields.write_field.Statement.{statement}

@@ -2,7 +2,7 @@
 use Prim.Native.Nat.{_-_}
 use lib.ListN.{length}
 use native.Mathlib.Omega.{arith}
-use Rattle.text.specs.TextLaws.{Fielding, fielding-starts, fielding-goes-on, fielding-room, fielding-ends}
+use Rattle.text.specs.laws.TextLaws.{Fielding, fielding-starts, fielding-goes-on, fielding-room, fielding-ends}
 use borrow.Author.Needs.{needs}
 use Rattle.text.proofs.fields.write_fields.Statement.{statement}
 use Rattle.text.proofs.fields.write_fields.Tie as tie

@@ -1,5 +1,5 @@
 -- `text::fields::write_line` writes the word, the fields and the newline one after the other. Assumes nothing.
-use Rattle.text.specs.TextLaws.{written-on}
+use Rattle.text.specs.laws.TextLaws.{written-on}
 use borrow.Author.Needs.{needs}
 use native.Mathlib.Omega.{arith}
 use Rattle.text.proofs.fields.write_line.Statement.{statement}

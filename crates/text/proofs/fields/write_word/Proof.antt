@@ -1,7 +1,7 @@
 -- `text::fields::write_word` copies byte after byte. Assumes nothing.
 use Prim.Native.Nat.{_-_}
 use lib.ListN.{length}
-use Rattle.text.specs.TextLaws.{Copying, copying-starts, copying-goes-on, copying-ends}
+use Rattle.text.specs.laws.TextLaws.{Copying, copying-starts, copying-goes-on, copying-ends}
 use borrow.Author.Needs.{needs}
 use mathlib.Core.Path.{refl}
 use Rattle.text.proofs.fields.write_word.Statement.{statement}

@@ -1,6 +1,6 @@
 -- `tree::nearest::first_waiting` passes the bridges that wait at another cost, or do not wait. Assumes nothing.
 use Prim.Native.Nat.{_-_}
-use Rattle.tree.specs.NearestLaws.{Finding, finding-starts, finding-goes-on, finding-ends}
+use Rattle.tree.specs.laws.NearestLaws.{Finding, finding-starts, finding-goes-on, finding-ends}
 use borrow.Author.Needs.{needs}
 use Rattle.tree.proofs.nearest.first_waiting.Statement.{statement}
 use Rattle.tree.proofs.nearest.first_waiting.Tie as tie

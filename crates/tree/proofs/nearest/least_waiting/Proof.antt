@@ -1,6 +1,6 @@
 -- `tree::nearest::least_waiting` compares the bridges one after the other. Assumes nothing.
 use Prim.Native.Nat.{_-_}
-use Rattle.tree.specs.NearestLaws.{Leasting, leasting-starts, leasting-goes-on, leasting-ends}
+use Rattle.tree.specs.laws.NearestLaws.{Leasting, leasting-starts, leasting-goes-on, leasting-ends}
 use borrow.Author.Needs.{needs}
 use Rattle.tree.proofs.nearest.least_waiting.Statement.{statement}
 use Rattle.tree.proofs.nearest.least_waiting.Tie as tie

@@ -1,8 +1,8 @@
 -- `tree::relax::is_lower_offer` compares the costs, then the hops, then the rows of the two next hops. Assumes nothing.
 use native.Mathlib.Omega.{arith}
 use mathlib.Core.Path.{_∙_}
-use Rattle.graph.specs.OrderLaws.{lower-by-first, lower-by-rest}
-use Rattle.tree.specs.RelaxingLaws.{lower-by-rows}
+use Rattle.graph.specs.laws.OrderLaws.{lower-by-first, lower-by-rest}
+use Rattle.tree.specs.laws.RelaxingLaws.{lower-by-rows}
 use Rattle.tree.specs.Labels.{labelAt}
 use borrow.Author.Needs.{needs}
 use Rattle.tree.proofs.relax.is_lower_offer.Statement.{statement}

@@ -1,7 +1,7 @@
 -- `tree::relax::relax` stores the offer where it is the lower. Assumes nothing.
 use native.Mathlib.Omega.{arith}
 use lib.ListN.{length-set}
-use Rattle.tree.specs.RelaxingLaws.{offer-refused, offer-taken}
+use Rattle.tree.specs.laws.RelaxingLaws.{offer-refused, offer-taken}
 use borrow.Author.Needs.{needs}
 use Rattle.tree.proofs.relax.relax.Statement.{statement}
 use Rattle.tree.proofs.relax.relax.Tie as tie

@@ -1,7 +1,7 @@
 -- `tree::relax::relax_all` offers the way to one neighbour after the other. Assumes nothing.
 use Prim.Native.Nat.{_-_}
 use native.Mathlib.Omega.{arith}
-use Rattle.tree.specs.RelaxingLaws.{Offering, offering-starts, offering-comparable, offering-goes-on, offering-ends}
+use Rattle.tree.specs.laws.RelaxingLaws.{Offering, offering-starts, offering-comparable, offering-goes-on, offering-ends}
 use borrow.Author.Needs.{needs}
 use Rattle.tree.proofs.relax.relax_all.Statement.{statement}
 use Rattle.tree.proofs.relax.relax_all.Tie as tie

@@ -1,5 +1,5 @@
 -- `tree::search::advance` settles the nearest bridge and relaxes its neighbours. Assumes nothing.
-use Rattle.tree.specs.SearchLaws.{search-settleable, search-relaxable-on, search-goes-on}
+use Rattle.tree.specs.laws.SearchLaws.{search-settleable, search-relaxable-on, search-goes-on}
 use borrow.Author.Needs.{needs}
 use Rattle.tree.proofs.search.advance.Statement.{statement}
 use Rattle.tree.proofs.search.advance.Tie as tie

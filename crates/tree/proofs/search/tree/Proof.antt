@@ -3,7 +3,7 @@ use mathlib.Core.Path.{_≡_, refl, _∙_}
 use lib.ListN.{length}
 use Rattle.tree.specs.Labels.{LeastOf}
 use Rattle.tree.specs.Tracked.{Underway, openBridges}
-use Rattle.tree.specs.SearchLaws.{search-relaxable, search-starts, search-ends}
+use Rattle.tree.specs.laws.SearchLaws.{search-relaxable, search-starts, search-ends}
 use borrow.Author.Needs.{needs}
 use Rattle.tree.proofs.search.tree.Statement.{statement}
 use Rattle.tree.proofs.search.tree.Tie as tie

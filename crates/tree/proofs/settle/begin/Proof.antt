@@ -1,7 +1,7 @@
 -- `tree::settle::begin` clears the labels and settles the root. Assumes nothing.
 use native.Mathlib.Omega.{arith}
 use lib.ListN.{length-set}
-use Rattle.tree.specs.SettlingLaws.{begun}
+use Rattle.tree.specs.laws.SettlingLaws.{begun}
 use borrow.Author.Needs.{needs}
 use Rattle.tree.proofs.settle.begin.Statement.{statement}
 use Rattle.tree.proofs.settle.begin.Tie as tie

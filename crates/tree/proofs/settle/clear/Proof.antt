@@ -2,7 +2,7 @@
 use Prim.Native.Nat.{_-_}
 use native.Mathlib.Omega.{arith}
 use lib.ListN.{length-set}
-use Rattle.tree.specs.SettlingLaws.{Clearing, clearing-starts, clearing-goes-on, clearing-ends}
+use Rattle.tree.specs.laws.SettlingLaws.{Clearing, clearing-starts, clearing-goes-on, clearing-ends}
 use borrow.Author.Needs.{needs}
 use Rattle.tree.proofs.settle.clear.Statement.{statement}
 use Rattle.tree.proofs.settle.clear.Tie as tie

@@ -4,7 +4,7 @@ use Rattle.rule.specs.declared.answer.RecordKind.{RecordKind}
 use Rattle.rule.specs.Words.{wordsOf}
 use Rattle.rule.specs.Records.{bridgeLayout}
 use Rattle.faults.specs.Faults.{numbered}
-use Rattle.verdict.specs.StepLaws.{refused-step, refused-still, bridge-taken, taken-still, bridge-stands}
+use Rattle.verdict.specs.laws.StepLaws.{refused-step, refused-still, bridge-taken, taken-still, bridge-stands}
 use borrow.Author.Needs.{needs}
 use Rattle.verdict.proofs.step.after_bridge.Statement.{statement}
 use Rattle.verdict.proofs.step.after_bridge.Tie as tie

@@ -4,7 +4,7 @@ use Rattle.rule.specs.declared.answer.RecordKind.{RecordKind}
 use Rattle.rule.specs.Words.{wordsOf}
 use Rattle.rule.specs.Records.{endLayout}
 use Rattle.faults.specs.Faults.{numbered}
-use Rattle.verdict.specs.StepLaws.{refused-step, refused-still, end-taken, end-still}
+use Rattle.verdict.specs.laws.StepLaws.{refused-step, refused-still, end-taken, end-still}
 use borrow.Author.Needs.{needs}
 use Rattle.verdict.proofs.step.after_end.Statement.{statement}
 use Rattle.verdict.proofs.step.after_end.Tie as tie

@@ -7,8 +7,8 @@ use Rattle.rule.specs.Words.{wordsOf}
 use Rattle.rule.specs.Records.{halfLinkLayout}
 use Rattle.table.specs.Readers.{halfLinkValues}
 use Rattle.faults.specs.Faults.{numbered}
-use Rattle.faults.specs.FaultLaws.{of-16-bits}
-use Rattle.verdict.specs.StepLaws.{refused-step, half-link-taken, half-link-kept, half-link-room, half-link-there, refused-keeps, taken-keeps}
+use Rattle.faults.specs.laws.FaultLaws.{of-16-bits}
+use Rattle.verdict.specs.laws.StepLaws.{refused-step, half-link-taken, half-link-kept, half-link-room, half-link-there, refused-keeps, taken-keeps}
 use borrow.Author.Needs.{needs}
 use Rattle.verdict.proofs.step.after_half_link.Statement.{statement}
 use Rattle.verdict.proofs.step.after_half_link.Tie as tie

@@ -4,7 +4,7 @@ use Rattle.rule.specs.declared.answer.RecordKind.{RecordKind}
 use Rattle.rule.specs.Words.{wordsOf}
 use Rattle.rule.specs.Records.{memberLayout}
 use Rattle.faults.specs.Faults.{numbered}
-use Rattle.verdict.specs.StepLaws.{refused-step, refused-still, member-taken, taken-still, member-stands}
+use Rattle.verdict.specs.laws.StepLaws.{refused-step, refused-still, member-taken, taken-still, member-stands}
 use borrow.Author.Needs.{needs}
 use Rattle.verdict.proofs.step.after_member.Statement.{statement}
 use Rattle.verdict.proofs.step.after_member.Tie as tie

@@ -4,7 +4,7 @@ use Rattle.rule.specs.declared.answer.RecordKind.{RecordKind}
 use Rattle.rule.specs.Words.{wordsOf}
 use Rattle.rule.specs.Records.{vidLayout}
 use Rattle.faults.specs.Faults.{numbered}
-use Rattle.verdict.specs.StepLaws.{refused-step, refused-still, vid-taken, taken-still, vid-stands}
+use Rattle.verdict.specs.laws.StepLaws.{refused-step, refused-still, vid-taken, taken-still, vid-stands}
 use borrow.Author.Needs.{needs}
 use Rattle.verdict.proofs.step.after_vid.Statement.{statement}
 use Rattle.verdict.proofs.step.after_vid.Tie as tie

@@ -2,8 +2,8 @@
 use native.Mathlib.Omega.{arith}
 use mathlib.Core.Path.{refl}
 use Rattle.rule.specs.Records.{bridgeLayout, halfLinkLayout, vidLayout, memberLayout, endLayout}
-use Rattle.verdict.specs.StepLaws.{refused-keeps, still-keeps}
-use Rattle.verdict.specs.KindLaws.{bridge-kind, half-link-kind, vid-kind, member-kind, end-kind, unknown-kind, of-kind, of-unknown-kind, no-end}
+use Rattle.verdict.specs.laws.StepLaws.{refused-keeps, still-keeps}
+use Rattle.verdict.specs.laws.KindLaws.{bridge-kind, half-link-kind, vid-kind, member-kind, end-kind, unknown-kind, of-kind, of-unknown-kind, no-end}
 use borrow.Author.Needs.{needs}
 use Rattle.verdict.proofs.step.read_record.Statement.{statement}
 use Rattle.verdict.proofs.step.read_record.Tie as tie

@@ -2,7 +2,7 @@
 use mathlib.Core.Path.{sym, _∙_}
 use borrow.Author.Tests.{not-true, not-false}
 use Rattle.table.specs.Readers.{memberValues}
-use Rattle.words.specs.Receivers.{not-receiving, other-isid, other-vid, same-service}
+use Rattle.words.specs.laws.Receivers.{not-receiving, other-isid, other-vid, same-service}
 use Rattle.words.proofs.group.is_receiver.Statement.{statement}
 use Rattle.words.proofs.group.is_receiver.Tie as tie
 

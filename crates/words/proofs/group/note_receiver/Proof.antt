@@ -5,7 +5,7 @@ use borrow.Author.Tests.{not-true, not-false}
 use Rattle.rule.specs.Words.{wordsOf}
 use Rattle.rule.specs.Records.{Member}
 use Rattle.table.specs.Readers.{memberValues}
-use Rattle.words.specs.Receivers.{member-bridge, not-noted, noted-room, noted}
+use Rattle.words.specs.laws.Receivers.{member-bridge, not-noted, noted-room, noted}
 use borrow.Author.Needs.{needs}
 use Rattle.words.proofs.group.note_receiver.Statement.{statement}
 use Rattle.words.proofs.group.note_receiver.Tie as tie

@@ -4,8 +4,8 @@ use Prim.Native.Nat.{_-_}
 use Rattle.rule.specs.Words.{wordsOf}
 use Rattle.table.specs.Readers.{memberValues}
 use Rattle.words.specs.Words.{behindAt, portsBehind}
-use Rattle.graph.specs.Appending.{Appending, appending-starts, appending-room, appending-goes-on, appending-length, appending-ends}
-use Rattle.words.specs.Receivers.{behind-room}
+use Rattle.graph.specs.laws.AppendingLaws.{Appending, appending-starts, appending-room, appending-goes-on, appending-length, appending-ends}
+use Rattle.words.specs.laws.Receivers.{behind-room}
 use borrow.Author.Needs.{needs}
 use Rattle.words.proofs.group.ports_behind.Statement.{statement}
 use Rattle.words.proofs.group.ports_behind.Tie as tie

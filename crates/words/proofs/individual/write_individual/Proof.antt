@@ -2,7 +2,7 @@
 use native.Mathlib.Omega.{arith}
 use Rattle.rule.specs.Words.{wordsOf}
 use Rattle.table.specs.Readers.{bridgeValues}
-use Rattle.words.specs.Listing.{no-individual, individual-room, individual-written}
+use Rattle.words.specs.laws.Listing.{no-individual, individual-room, individual-written}
 use borrow.Author.Needs.{needs}
 use Rattle.words.proofs.individual.write_individual.Statement.{statement}
 use Rattle.words.proofs.individual.write_individual.Tie as tie

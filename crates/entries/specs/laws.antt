@@ -1,0 +1,5 @@
+-- Theorems: nothing here is cited by a contract.
+pub mod PlanWords
+pub mod NeededLaws
+pub mod PartLaws
+pub mod WholeLaws

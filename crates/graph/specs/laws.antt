@@ -1,0 +1,23 @@
+-- Theorems: nothing here is cited by a contract.
+pub mod ListNotions
+pub mod ListLaws
+pub mod Searching
+pub mod Splices
+pub mod AppendingLaws
+pub mod OrderLaws
+pub mod Notions
+pub mod Ranks
+pub mod Paths
+pub mod LeastPaths
+pub mod ChosenPaths
+pub mod Enumeration
+pub mod Agreement
+pub mod Moves
+pub mod Forwarding
+pub mod Copies
+pub mod Handing
+pub mod Search
+pub mod Settling
+pub mod Labels
+pub mod LookupNotions
+pub mod LookupLaws

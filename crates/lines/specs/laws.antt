@@ -1,0 +1,4 @@
+-- Theorems: nothing here is cited by a contract.
+pub mod ListingLaws
+pub mod PathLineLaws
+pub mod EntryLineLaws

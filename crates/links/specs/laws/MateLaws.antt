@@ -1,0 +1,147 @@
+-- The mates of a half-link of an accepted plan: at most one, and the one that the index of link numbers has. Assumes nothing.
+use Prim.Native.Nat.{ℕ, suc, _+_, _-_, _≤_, _<_}
+use native.Mathlib.Omega.{arith}
+use native.Mathlib.Numerals.{add-one}
+use mathlib.Core.Path.{_≡_, refl, sym, ap, _∙_, subst}
+use mathlib.Core.List.{List, [], _∷_}
+use mathlib.Core.Logic.{_⊎_, inl, inr}
+use mathlib.Core.Bool.{Bool, true, not, _&&_}
+use lib.Dec.{T, eqb}
+use borrow.Author.Tests.{eq-eqb, ne-eqb, eqb-true}
+use Rattle.graph.specs.Lists.{selected}
+use Rattle.graph.specs.Members.{In}
+use Rattle.graph.specs.laws.ListLaws.{compared, first-of, last-of, true-test, is-true, equal-three, three-equal, selected-in, in-selected, selected-none, only-one, distinct-selected}
+use Rattle.rule.specs.Words.{wordsOf}
+use Rattle.rule.specs.Records.{HalfLink, halfLinkOf}
+use Rattle.rule.specs.Plan.{Plan}
+use Rattle.rule.specs.Links.{mates, combinedMetric}
+use Rattle.rule.specs.PlanLaws.{Mirrors, PlanLaws}
+use Rattle.rule.specs.laws.OneRecord.{distinct-half-links}
+use Rattle.rule.specs.laws.LinkLaws.{one-half}
+use Rattle.index.specs.laws.PlaceLaws.{last-within, last-passes, none-passes}
+use Rattle.index.specs.Index.{keyAt, holds, otherPlace}
+use Rattle.table.specs.declared.shape.Shape.{Shape}
+use Rattle.table.specs.Positions.{halfLinksFrom, planAt}
+use Rattle.table.specs.laws.PositionLaws.{record-in, in-records, every-two-records}
+use Rattle.links.specs.Mates.{Checked, halfLinkAt, metricWith, linkMetric}
+
+-- "A link is two half-links": a half-link has one mate, where it has any.
+pub one-mate :
+    (p : Plan) →
+    PlanLaws p →
+    (h m : HalfLink) →
+    In m (p .halfLinks) →
+    T (mates h m) →
+    selected (mates h) (p .halfLinks) ≡ m ∷ []
+one-mate p L h m i t =
+    only-one (selected (mates h) (p .halfLinks)) m (distinct-selected (mates h) (p .halfLinks) (distinct-half-links p L))
+    (in-selected (mates h) m (p .halfLinks) i t)
+    λ k j. same k (selected-in (mates h) k (p .halfLinks) j)
+  where
+    says : (k : HalfLink) → T (mates h k) → (h .link ≡ k .link) × (h .near ≡ k .far) × (h .far ≡ k .near)
+    says k = three-equal (h .link) (k .link) (h .near) (k .far) (h .far) (k .near)
+
+    same : (k : HalfLink) → In k (p .halfLinks) × T (mates h k) → k ≡ m
+    same k (j, u) =
+        one-half p L k m j i (sym (says k u .0) ∙ says m t .0) (sym (says k u .2) ∙ says m t .2)
+
+pub mates-at-most-one :
+    (p : Plan) →
+    PlanLaws p →
+    (h : HalfLink) →
+    (selected (mates h) (p .halfLinks) ≡ []) ⊎ ((m : HalfLink) × (selected (mates h) (p .halfLinks) ≡ m ∷ []))
+mates-at-most-one p L h = go (selected (mates h) (p .halfLinks)) refl
+  where
+    go :
+        (ms : List HalfLink) →
+        selected (mates h) (p .halfLinks) ≡ ms →
+        (selected (mates h) (p .halfLinks) ≡ []) ⊎ ((m : HalfLink) × (selected (mates h) (p .halfLinks) ≡ m ∷ []))
+    go [] e = inl e
+    go (m ∷ ms) e =
+        let r = selected-in (mates h) m (p .halfLinks) (subst (λ (t : List HalfLink). In m t) (sym e) (inl refl))
+        in inr (m, one-mate p L h m (r .0) (r .1))
+
+-- By the index: the other place of the link number.
+module _ {t links : List ℕ} {s : Shape} (C : Checked t links s) where
+  abbrev ws : List ℕ
+  ws = wordsOf t
+
+  abbrev n : ℕ
+  n = s .«half_links»
+
+  abbrev at : ℕ → HalfLink
+  at = halfLinkAt ws s
+
+  abbrev hs : List HalfLink
+  hs = planAt ws s .halfLinks
+
+  listed : (i : ℕ) → i < n → In (at i) hs
+  listed = record-in halfLinkOf 3 (halfLinksFrom s) ws n
+
+  -- Two half-links of one number at different places are mates.
+  mated-at : (i j : ℕ) → i < n → j < n → (j ≡ i → ⊥) → at j .link ≡ at i .link → T (mates (at i) (at j))
+  mated-at i j h l d e = go (compared i j)
+    where
+      earlier : (i j : ℕ) → i < j → j < n → Mirrors (at i) (at j)
+      earlier = every-two-records halfLinkOf 3 (halfLinksFrom s) ws Mirrors n (C .laws .half-links .mirrored)
+
+      go : (i < j) ⊎ (i ≡ j) ⊎ (j < i) → T (mates (at i) (at j))
+      go (inl b) =
+          let M = earlier i j b l (sym e)
+          in equal-three (at i .link) (at j .link) (at i .near) (at j .far) (at i .far) (at j .near) (sym e) (sym (M .1)) (sym (M .0))
+      go (inr (inl b)) = absurd (d (sym b))
+      go (inr (inr b)) =
+          let M = earlier j i b h e
+          in equal-three (at i .link) (at j .link) (at i .near) (at j .far) (at i .far) (at j .near) (sym e) (M .0) (M .1)
+
+  module _ (i : ℕ) (h : i < n) where
+    abbrev other : ℕ → Bool
+    other k = holds links (keyAt links i) k && not (eqb k i)
+
+    other-says : (k : ℕ) → k < n → other k ≡ true → (k ≡ i → ⊥) × (at k .link ≡ at i .link)
+    other-says k l e =
+        let u = true-test (other k) e
+        in (
+          λ d. subst (λ (b : Bool). T (not b)) (eq-eqb k i d) (last-of (holds links (keyAt links i) k) (not (eqb k i)) u),
+          sym (C .by-number .keys k l)
+              ∙ eqb-true (keyAt links k) (keyAt links i)
+              (is-true (holds links (keyAt links i) k) (first-of (holds links (keyAt links i) k) (not (eqb k i)) u))
+              ∙ C .by-number .keys i h,
+        )
+
+    says-other : (k : ℕ) → k < n → (k ≡ i → ⊥) → at k .link ≡ at i .link → other k ≡ true
+    says-other k l d e =
+        rw (eq-eqb (keyAt links k) (keyAt links i) (C .by-number .keys k l ∙ e ∙ sym (C .by-number .keys i h)), ne-eqb k i d) refl
+
+    pub has-mate : (j : ℕ) → otherPlace links n (suc i) ≡ suc j → selected (mates (at i)) hs ≡ at j ∷ []
+    has-mate j e =
+        let l : j < n = omega (arith, last-within other n)
+        in let o = other-says j l (last-passes other n j e)
+        in one-mate (planAt ws s) (C .laws) (at i) (at j) (listed j l) (mated-at i j h l (o .0) (o .1))
+
+    pub has-no-mate : otherPlace links n (suc i) ≡ 0 → selected (mates (at i)) hs ≡ []
+    has-no-mate e =
+        selected-none (mates (at i)) hs λ m k u. none (in-records halfLinkOf 3 (halfLinksFrom s) ws n m k) u
+      where
+        none : {m : HalfLink} → ((k : ℕ) × (k < n) × (m ≡ at k)) → T (mates (at i) m) → ⊥
+        none {m} (k, l, f) u =
+            let r = three-equal (at i .link) (m .link) (at i .near) (m .far) (at i .far) (m .near) u
+            in let d : (k ≡ i → ⊥) = λ z. C .laws .half-links .fits (at i) (listed i h) .apart
+            (r .1 ∙ ap (λ (x : HalfLink). x .far) f ∙ ap (λ (x : ℕ). at x .far) z)
+            in none-passes other n e k l (says-other k l d (sym (r .0 ∙ ap (λ (x : HalfLink). x .link) f)))
+
+  -- What the link of the half-link `i` costs: `h` was read there, `place` is what the index has.
+  module _ (i : ℕ) (l : i < n) (h : HalfLink) (e : h ≡ at i) (place : ℕ) (f : place ≡ otherPlace links n (i + 1)) where
+    other-place : place ≡ otherPlace links n (suc i)
+    other-place = f ∙ ap (otherPlace links n) (add-one i)
+
+    pub mate-within : place ≤ n
+    mate-within = omega (arith, other-place, last-within (other i l) n)
+
+    pub metric-alone : place ≡ 0 → 16777215 ≡ linkMetric hs h
+    metric-alone z = sym (rw e (ap (metricWith (at i)) (has-no-mate i l (sym other-place ∙ z))))
+
+    pub metric-linked : (place ≡ 0 → ⊥) → (m : HalfLink) → m ≡ at (place - 1) → combinedMetric (h .metric) (m .metric) ≡ linkMetric hs h
+    metric-linked d m k =
+        ap (λ (x : HalfLink). metricWith h (x ∷ [])) k
+        ∙ sym (rw e (ap (metricWith (at i)) (has-mate i l (place - 1) (sym other-place ∙ omega arith))))

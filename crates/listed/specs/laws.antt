@@ -1,0 +1,5 @@
+-- Theorems: nothing here is cited by a contract.
+pub mod PathLineLaws
+pub mod EntryLines
+pub mod PartLaws
+pub mod TableParts

@@ -1,0 +1,6 @@
+-- Theorems: nothing here is cited by a contract.
+pub mod FollowedLaws
+pub mod LabelledLaws
+pub mod NamedLaws
+pub mod PlaceLaws
+pub mod PlanCalls

@@ -1,0 +1,5 @@
+-- Examples that the checker computes: nothing here is cited by a contract.
+pub mod Tables
+pub mod Figures
+pub mod Worked
+pub mod Settings

@@ -1,0 +1,4 @@
+-- Theorems: nothing here is cited by a contract.
+pub mod WordLaws
+pub mod ReaderLaws
+pub mod PositionLaws

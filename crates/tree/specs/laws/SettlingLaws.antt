@@ -1,0 +1,101 @@
+-- How a search begins: the labels are cleared, then the root is settled.
+-- Assumes nothing.
+use Prim.Native.Nat.{ℕ, _+_, _≤_, _<_}
+use native.Mathlib.Omega.{arith}
+use mathlib.Core.Path.{_≡_, refl, sym, ap, _∙_}
+use mathlib.Core.List.{List, [], _∷_}
+use mathlib.Core.Logic.{_⊎_, inl, inr}
+use lib.ListN.{length, getD, set, length-set}
+use lib.Seq.{getD-set-same, getD-set-other}
+use Rattle.graph.specs.laws.ListLaws.{same-or-not}
+use Rattle.graph.specs.laws.Splices.{spliced-nothing, spliced-next}
+use Rattle.graph.specs.Lists.{spliced}
+use Rattle.ect.specs.Rows.{rowPlace, rowOf}
+use Rattle.ect.specs.laws.RowLaws.{row-written}
+use Rattle.tree.specs.Labels.{noCost}
+use Rattle.tree.specs.laws.LabelLaws.{same-label}
+use Rattle.tree.specs.Settling.{Cleared, Begun}
+
+-- The labels of the first `u` bridges are cleared.
+pub record Clearing (n : ℕ) (labels₀ labels : List ℕ) (u : ℕ) : Type 0 where
+  pub within : u ≤ n
+  pub so-far : Cleared u labels₀ labels
+
+pub clearing-starts : (n : ℕ) (labels : List ℕ) → Clearing n labels labels 0
+clearing-starts n labels = record {
+  within = omega arith;
+  so-far = record { same-length = refl; none-waits = λ x h. absurd (omega arith); none-far = λ x h. absurd (omega arith) };
+}
+
+module _ {n : ℕ} {labels₀ labels : List ℕ} {u : ℕ} (C : Clearing n labels₀ labels u) where
+  pub clearing-goes-on : n ≤ 64 → 320 ≤ length labels₀ → u < n → Clearing n labels₀ (set (set labels u noCost) (64 + u) noCost) (u + 1)
+  clearing-goes-on most has h = record {
+    within = omega arith;
+    so-far = record {
+      same-length = length-set (set labels u noCost) (64 + u) noCost ∙ length-set labels u noCost ∙ C .so-far .same-length;
+      none-waits = λ x l. waits x l (same-or-not x u);
+      none-far = λ x l. far x l (same-or-not x u);
+    };
+  }
+    where
+      waits : (x : ℕ) → x < u + 1 → (x ≡ u) ⊎ (x ≡ u → ⊥) → getD (set (set labels u noCost) (64 + u) noCost) x 0 ≡ noCost
+      waits x l (inl e) = getD-set-other (set labels u noCost) (64 + u) x noCost 0 (omega arith)
+          ∙ ap (λ (k : ℕ). getD (set labels u noCost) k 0) e ∙ getD-set-same labels u noCost 0 (omega (arith, C .so-far .same-length))
+      waits x l (inr f) = getD-set-other (set labels u noCost) (64 + u) x noCost 0 (omega arith)
+          ∙ getD-set-other labels u x noCost 0 f ∙ C .so-far .none-waits x (omega arith)
+
+      far : (x : ℕ) → x < u + 1 → (x ≡ u) ⊎ (x ≡ u → ⊥) → getD (set (set labels u noCost) (64 + u) noCost) (64 + x) 0 ≡ noCost
+      far x l (inl e) = ap (λ (k : ℕ). getD (set (set labels u noCost) (64 + u) noCost) (64 + k) 0) e
+          ∙ getD-set-same (set labels u noCost) (64 + u) noCost 0 (omega (arith, length-set labels u noCost, C .so-far .same-length))
+      far x l (inr f) = getD-set-other (set labels u noCost) (64 + u) (64 + x) noCost 0 (omega arith)
+          ∙ getD-set-other labels u (64 + x) noCost 0 (omega arith) ∙ C .so-far .none-far x (omega arith)
+
+  pub clearing-ends : n ≤ u → Cleared n labels₀ labels
+  clearing-ends h = let e : u ≡ n = omega arith in rw e at (C .so-far)
+
+-- The root is settled.
+module _ (n root key : ℕ) (labels₀ labels rows : List ℕ) (most : n ≤ 64) (inside : root < n) (has : 320 ≤ length labels₀) (has-rows : 4096 ≤ length rows)
+    (C : Cleared n labels₀ labels) where
+  abbrev one : List ℕ
+  one = set labels (64 + root) 0
+
+  abbrev two : List ℕ
+  two = set one (128 + root) 0
+
+  abbrev three : List ℕ
+  three = set two (192 + root) root
+
+  abbrev four : List ℕ
+  four = set three (256 + root) root
+
+  length-three : length three ≡ length labels₀
+  length-three = simp length-set (C .same-length)
+
+  other-place : (j : ℕ) → (j ≡ 64 + root → ⊥) → (j ≡ 128 + root → ⊥) → (j ≡ 192 + root → ⊥) → (j ≡ 256 + root → ⊥) → getD four j 0 ≡ getD labels j 0
+  other-place j e f g h =
+      getD-set-other three (256 + root) j root 0 h ∙ getD-set-other two (192 + root) j root 0 g
+      ∙ getD-set-other one (128 + root) j 0 0 f ∙ getD-set-other labels (64 + root) j 0 0 e
+
+  written : set rows (rowPlace root) key ≡ spliced rows (rowPlace root) (key ∷ [])
+  written =
+      ap (λ (t : List ℕ). set t (rowPlace root) key) (sym (spliced-nothing rows (rowPlace root)))
+      ∙ ap (λ (k : ℕ). set (spliced rows (rowPlace root) []) k key) (let e : rowPlace root ≡ rowPlace root + 0 = omega arith in e)
+      ∙ spliced-next rows (rowPlace root) [] key (omega arith)
+
+  pub begun : Begun n root key labels₀ rows four (set rows (rowPlace root) key)
+  begun = record {
+    same-labels = simp length-set (C .same-length);
+    same-rows = length-set rows (rowPlace root) key;
+    root-label = same-label
+        (other-place root (omega arith) (omega arith) (omega arith) (omega arith) ∙ C .none-waits root inside)
+        (getD-set-other three (256 + root) (64 + root) root 0 (omega arith) ∙ getD-set-other two (192 + root) (64 + root) root 0 (omega arith)
+        ∙ getD-set-other one (128 + root) (64 + root) 0 0 (omega arith) ∙ getD-set-same labels (64 + root) 0 0 (omega (arith, C .same-length)))
+        (getD-set-other three (256 + root) (128 + root) root 0 (omega arith) ∙ getD-set-other two (192 + root) (128 + root) root 0 (omega arith)
+        ∙ getD-set-same one (128 + root) 0 0 (omega (arith, length-set labels (64 + root) 0, C .same-length)))
+        (getD-set-other three (256 + root) (192 + root) root 0 (omega arith)
+        ∙ getD-set-same two (192 + root) root 0 (omega (arith, length-set one (128 + root) 0, length-set labels (64 + root) 0, C .same-length)))
+        (getD-set-same three (256 + root) root 0 (omega (arith, length-three)));
+    root-row = ap (λ (t : List ℕ). rowOf t root 1) written ∙ row-written rows root (key ∷ []) (omega arith);
+    others-wait = λ u l f. other-place u (omega arith) (omega arith) (omega arith) (omega arith) ∙ C .none-waits u l;
+    others-far = λ u l f. other-place (64 + u) (omega arith) (omega arith) (omega arith) (omega arith) ∙ C .none-far u l;
+  }

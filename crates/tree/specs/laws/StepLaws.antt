@@ -1,0 +1,460 @@
+-- One step of a search: the nearest bridge is settled with its chosen path, its neighbours are relaxed, and what is kept stays true.
+-- Assumes nothing.
+use Prim.Native.Nat.{ℕ, suc, _+_, _*_, _≤_, _<_}
+use native.Mathlib.Omega.{arith}
+use mathlib.Core.Path.{_≡_, refl, sym, ap, _∙_, subst}
+use mathlib.Core.List.{List, [], _∷_, map}
+use mathlib.Core.Logic.{_⊎_, inl, inr}
+use mathlib.Core.Bool.{cond}
+use lib.Dec.{T, ltb, eqb, ltb→lt, lt→ltb}
+use lib.ListN.{length, getD}
+use borrow.Author.Tests.{eq-eqb, ne-eqb}
+use Rattle.graph.specs.Order.{Lower, insertUpward, Upward}
+use Rattle.graph.specs.laws.OrderLaws.{sorted-upward}
+use Rattle.graph.specs.laws.ListLaws.{same-or-not, le-or-gt}
+use Rattle.graph.specs.Graph.{Graph, cost, hops, pathId}
+use Rattle.graph.specs.laws.Notions.{Least}
+use Rattle.graph.specs.laws.Ranks.{cost-most}
+use Rattle.graph.specs.Chosen.{Chosen}
+use Rattle.graph.specs.laws.ChosenPaths.{chosen-first, chosen-self, chosen-bounded, chosen-unique}
+use Rattle.graph.specs.Lookups.{State, Offers, offer, label, Says, Kept}
+use Rattle.graph.specs.laws.LookupNotions.{Stays, Takes, Advances}
+use Rattle.graph.specs.laws.LookupLaws.{Settled, kept-settles, settled-nearer, kept-advances}
+use Rattle.ect.specs.Rows.{rowOf, Insertable}
+use Rattle.ect.specs.laws.RowLaws.{insertion-read-back, insertion-keeps, length-after}
+use Rattle.tree.specs.Labels.{noCost, Label, labelAt, labelRank, settledLabels, settledRows, stateOf}
+use Rattle.tree.specs.laws.LabelLaws.{length-settled, label-settled, label-unsettled, settling-keeps, settled-says, says-settled}
+use Rattle.tree.specs.Relaxing.{Relaxable, offerAt, Unchanged, Changed, Relaxed}
+use Rattle.tree.specs.Settling.{Settleable}
+use Rattle.tree.specs.Trees.{Represents, Keyed, firstBack}
+use Rattle.tree.specs.laws.TreeLaws.{neighbour-in, offered-cost, offered-joined, joined-listed, one-cost}
+use Rattle.tree.specs.Tracked.{Tracked}
+
+-- An offer that is lower than a label costs no more.
+pub lower-far : (costs rows labels : List ℕ) (via i : ℕ) (b : Label) → Lower (offerAt costs rows labels via i) (labelRank rows b)
+    → labelAt labels via .far + getD costs i 0 ≤ b .far
+lower-far costs rows labels via i b (inl h) = omega arith
+lower-far costs rows labels via i b (inr h) = omega arith
+
+-- A search under way, and a bridge that waits at the least cost.
+pub record Step (g : Graph) (key : ℕ → ℕ) (n root : ℕ) (starts neighbours costs keys labels rows : List ℕ) (u : ℕ) : Type 0 where
+  pub represents : Represents g n starts neighbours costs
+  pub keyed : Keyed g key keys
+  pub tracked : Tracked g key n root labels rows
+  pub has-labels : 320 ≤ length labels
+  pub has-rows : 4096 ≤ length rows
+  pub u-in : u < n
+  pub waits : labelAt labels u .waits < noCost
+  pub near : (x : ℕ) → x < n → labelAt labels u .waits ≤ labelAt labels x .waits
+
+module _ {g : Graph} {key : ℕ → ℕ} {n root : ℕ} {starts neighbours costs keys labels rows : List ℕ} {u : ℕ}
+    (Z : Step g key n root starts neighbours costs keys labels rows u) where
+  R : Represents g n starts neighbours costs
+  R = Z .represents
+
+  K : Keyed g key keys
+  K = Z .keyed
+
+  M : Tracked g key n root labels rows
+  M = Z .tracked
+
+  u-in : u < n
+  u-in = Z .u-in
+
+  abbrev st : State
+  st = stateOf n labels rows
+
+  pub not-settled : T (st .settled u) → ⊥
+  not-settled h = omega (arith, settled-says n labels rows u h .2)
+
+  waits-far : labelAt labels u .waits ≡ labelAt labels u .far
+  waits-far = go (M .waits-or-not u u-in)
+    where
+      go : (labelAt labels u .waits ≡ noCost) ⊎ (labelAt labels u .waits ≡ labelAt labels u .far) → labelAt labels u .waits ≡ labelAt labels u .far
+      go (inl e) = absurd (omega arith)
+      go (inr e) = e
+
+  labelled-u : T (st .labelled u)
+  labelled-u = lt→ltb (labelAt labels u .far) noCost (omega (arith, waits-far))
+
+  inside : u < g .size
+  inside = omega (arith, R .size-is)
+
+  nearest : (x : ℕ) → x < g .size → (T (st .settled x) → ⊥) → T (st .labelled x) → st .far u ≤ st .far x
+  nearest x i f k = go (M .waits-or-not x (omega (arith, R .size-is)))
+    where
+      go : (labelAt labels x .waits ≡ noCost) ⊎ (labelAt labels x .waits ≡ labelAt labels x .far) → st .far u ≤ st .far x
+      go (inl e) = absurd (f (says-settled n labels rows x (omega (arith, R .size-is)) (ltb→lt (labelAt labels x .far) noCost k) (omega arith)))
+      go (inr e) = omega (arith, waits-far, Z .near x (omega (arith, R .size-is)))
+
+  -- The label of `u` is that of its chosen path.
+  settles : (q : List ℕ) × Settled g key root st (st .next u) q × Chosen g key u root (u ∷ q) × (st .far u ≡ cost g (u ∷ q)) × (st .steps u ≡ hops (u ∷ q))
+      × (insertUpward (key u) (st .row (st .next u)) ≡ pathId key (u ∷ q))
+  settles = kept-settles g (R .laws) key root st (M .kept) (K .laws) u inside not-settled labelled-u nearest
+
+  few-steps : st .steps u < 64
+  few-steps = omega (arith, settles .4, chosen-bounded g (R .laws) key u root (u ∷ settles .0) (settles .2), R .size-is, R .most)
+
+  cost-bound : st .far u ≤ 63 * 16777214
+  cost-bound = omega (arith, settles .3, settles .4, few-steps, cost-most g 16777214 (R .hop-most) u (settles .0))
+
+  next-steps : st .steps u ≡ suc (st .steps (st .next u))
+  next-steps = M .kept .steps-through u inside not-settled labelled-u
+
+  -- The row of the next hop.
+  next-row : rowOf rows (st .next u) (st .steps u) ≡ st .row (st .next u)
+  next-row = let e : st .steps u ≡ st .steps (st .next u) + 1 = omega (arith, next-steps) in ap (λ (k : ℕ). rowOf rows (st .next u) k) e
+
+  apart : st .next u ≡ u → ⊥
+  apart e = not-settled (subst (λ (k : ℕ). T (st .settled k)) e (settles .1 .1))
+
+  row-upward : Upward (rowOf rows (st .next u) (st .steps u))
+  row-upward = go (M .kept .found (st .next u) (settles .1 .0) (settles .1 .1))
+    where
+      go : ((p : List ℕ) × Chosen g key (st .next u) root p × Says g key st (st .next u) p) → Upward (rowOf rows (st .next u) (st .steps u))
+      go (p, P, S) = subst Upward (sym (next-row ∙ S .row-is)) (sorted-upward (map key p))
+
+  insertable : Insertable rows (st .next u) u (st .steps u)
+  insertable = record {
+    apart = apart;
+    room = few-steps;
+    has-from = omega (arith, settles .1 .0, R .size-is, R .most);
+    has-to = omega (arith, R .most);
+    upward = row-upward;
+  }
+
+  pub step-settleable : Settleable labels rows keys u
+  step-settleable = record {
+    u-in = omega (arith, R .most);
+    next-in = omega (arith, settles .1 .0, R .size-is, R .most);
+    has-labels = (Z .has-labels);
+    has-key = omega (arith, K .has-keys, R .size-is);
+    insertable = insertable;
+  }
+
+  -- The labels and rows with `u` settled.
+  abbrev labels₁ : List ℕ
+  labels₁ = settledLabels labels root u
+
+  abbrev rows₁ : List ℕ
+  rows₁ = settledRows labels rows u (getD keys u 0)
+
+  u-low : u < 64
+  u-low = omega (arith, R .most)
+
+  same-far : (x : ℕ) → x < 64 → labelAt labels₁ x .far ≡ labelAt labels x .far
+  same-far x l = ap (λ (b : Label). b .far) (settling-keeps labels root u x l u-low (Z .has-labels) .2)
+
+  same-steps : (x : ℕ) → x < 64 → labelAt labels₁ x .steps ≡ labelAt labels x .steps
+  same-steps x l = ap (λ (b : Label). b .steps) (settling-keeps labels root u x l u-low (Z .has-labels) .2)
+
+  same-next : (x : ℕ) → x < 64 → labelAt labels₁ x .next ≡ labelAt labels x .next
+  same-next x l = ap (λ (b : Label). b .next) (settling-keeps labels root u x l u-low (Z .has-labels) .2)
+
+  pub length-rows : length rows₁ ≡ length rows
+  length-rows = length-after rows (st .next u) u (st .steps u) (getD keys u 0) insertable
+
+  -- The places of the neighbours of `u`.
+  abbrev from : ℕ
+  from = getD starts u 0
+
+  abbrev end : ℕ
+  end = getD starts (u + 1) 0
+
+  way-bound : (i : ℕ) → from ≤ i → i < end → labelAt labels₁ u .far + getD costs i 0 < noCost
+  way-bound i h k = omega (arith, same-far u u-low, cost-bound, R .cost-is u i u-in h k, R .hop-most u (getD neighbours i 0))
+
+  pub step-relaxable : Relaxable starts neighbours costs rows₁ labels₁ u
+  step-relaxable = record {
+    via-in = u-low;
+    has-labels = omega (arith, length-settled labels root u);
+    has-rows = omega (arith, length-rows);
+    has-starts = omega (arith, R .has-starts);
+    has-neighbours = R .has-neighbours u u-in;
+    has-costs = R .has-costs u u-in;
+    in-order = R .in-order u u-in;
+    steps-in = omega (arith, same-steps u u-low, few-steps);
+    neighbour-in = λ i h k. omega (arith, neighbour-in R u u-in i h k, R .most);
+    cost-in = way-bound;
+    one-cost = one-cost R u u-in;
+    next-in = λ i h k f. next-in (getD neighbours i 0) (neighbour-in R u u-in i h k) f;
+  }
+    where
+      next-in : (x : ℕ) → x < n → labelAt labels₁ x .far < noCost → labelAt labels₁ x .next < 64
+      next-in x l f = omega (
+        arith,
+        same-next x (omega (arith, R .most)),
+        M .next-in x l (omega (arith, same-far x (omega (arith, R .most)))),
+        R .most,
+      )
+
+  low : (x : ℕ) → x < n → x < 64
+  low x l = omega (arith, R .most)
+
+  -- After the neighbours were offered the way through `u`.
+  module _ (labels₂ : List ℕ) (X : Relaxed starts neighbours costs rows₁ u labels₁ labels₂) where
+    abbrev st′ : State
+    st′ = stateOf n labels₂ rows₁
+
+    abbrev Same : ℕ → Type 0
+    Same x = Unchanged neighbours costs rows₁ u from end labels₁ labels₂ x
+
+    abbrev Took : ℕ → Type 0
+    Took x = Changed neighbours costs rows₁ u from end labels₁ labels₂ x
+
+    -- A settled bridge takes nothing: the way through `u` costs more.
+    not-taken : (x : ℕ) → x < n → T (st .settled x) ⊎ (x ≡ u) → Took x → ⊥
+    not-taken x l (inl k) C = omega (
+      arith,
+      lower-far costs rows₁ labels₁ u (C .place) (labelAt labels₁ x) (C .lower-now),
+      same-far u u-low,
+      same-far x (low x l),
+      offered-cost R u u-in (C .place) x (C .after) (C .before) (C .offered),
+      settled-nearer g (R .laws) key root st (M .kept) u x inside (omega (arith, R .size-is)) not-settled labelled-u k
+          (offered-joined R u u-in (C .place) x (C .after) (C .before) (C .offered)),
+    )
+    not-taken x l (inr e) C = omega (
+      arith,
+      lower-far costs rows₁ labels₁ u (C .place) (labelAt labels₁ x) (C .lower-now),
+      ap (λ (k : ℕ). labelAt labels₁ k .far) e,
+      offered-cost R u u-in (C .place) x (C .after) (C .before) (C .offered),
+      offered-joined R u u-in (C .place) x (C .after) (C .before) (C .offered),
+    )
+
+    settled-same : (x : ℕ) → x < n → T (st .settled x) ⊎ (x ≡ u) → labelAt labels₂ x ≡ labelAt labels₁ x
+    settled-same x l k = go (X .each x (low x l))
+      where
+        go : Same x ⊎ Took x → labelAt labels₂ x ≡ labelAt labels₁ x
+        go (inl U) = U .same
+        go (inr C) = absurd (not-taken x l k C)
+
+    taken-waits : (x : ℕ) (C : Took x) → labelAt labels₂ x .waits < noCost
+    taken-waits x C = omega (arith, ap (λ (b : Label). b .waits) (C .took), way-bound (C .place) (C .after) (C .before))
+
+    only : (v : ℕ) → T (st′ .settled v) → T (st .settled v) ⊎ (v ≡ u)
+    only v k = go (settled-says n labels₂ rows₁ v k) (same-or-not v u)
+      where
+        old : (v < n) × (labelAt labels₂ v .far < noCost) × (noCost ≤ labelAt labels₂ v .waits) → (v ≡ u → ⊥) → Same v ⊎ Took v → T (st .settled v)
+        old (l, j, m) f (inl U) =
+            let e : labelAt labels₂ v ≡ labelAt labels v = U .same ∙ label-unsettled labels root u v (low v l) u-low f in
+            says-settled n labels rows v l (omega (arith, ap (λ (b : Label). b .far) e)) (omega (arith, ap (λ (b : Label). b .waits) e))
+        old (l, j, m) f (inr C) = absurd (omega (arith, taken-waits v C))
+
+        go : (v < n) × (labelAt labels₂ v .far < noCost) × (noCost ≤ labelAt labels₂ v .waits) → (v ≡ u) ⊎ (v ≡ u → ⊥) → T (st .settled v) ⊎ (v ≡ u)
+        go s (inl e) = inr e
+        go s (inr f) = inl (old s f (X .each v (low v (s .0))))
+
+    pub still : (v : ℕ) → T (st .settled v) → T (st′ .settled v)
+    still v k = go (settled-says n labels rows v k)
+      where
+        go : (v < n) × (labelAt labels v .far < noCost) × (noCost ≤ labelAt labels v .waits) → T (st′ .settled v)
+        go (l, j, m) =
+            let f : v ≡ u → ⊥ = λ e. not-settled (subst (λ (z : ℕ). T (st .settled z)) e k) in
+            let e : labelAt labels₂ v ≡ labelAt labels v = settled-same v l (inl k) ∙ label-unsettled labels root u v (low v l) u-low f in
+            says-settled n labels₂ rows₁ v l (omega (arith, ap (λ (b : Label). b .far) e)) (omega (arith, ap (λ (b : Label). b .waits) e))
+
+    label-u : labelAt labels₂ u ≡ labelAt labels₁ u
+    label-u = settled-same u u-in (inr refl)
+
+    pub done : T (st′ .settled u)
+    done = says-settled n labels₂ rows₁ u u-in
+        (omega (arith, ap (λ (b : Label). b .far) label-u, same-far u u-low, waits-far))
+        (omega (arith, ap (λ (b : Label). b .waits) label-u, ap (λ (b : Label). b .waits) (label-settled labels root u u-low (Z .has-labels))))
+
+    settled-in : (v : ℕ) → T (st′ .settled v) → v < n
+    settled-in v k = settled-says n labels₂ rows₁ v k .0
+
+    kept-label : (v : ℕ) → T (st′ .settled v) → labelAt labels₂ v ≡ labelAt labels₁ v
+    kept-label v k = settled-same v (settled-in v k) (only v k)
+
+    far-kept : (v : ℕ) → T (st′ .settled v) → st′ .far v ≡ st .far v
+    far-kept v k = ap (λ (b : Label). b .far) (kept-label v k) ∙ same-far v (low v (settled-in v k))
+
+    steps-kept : (v : ℕ) → T (st′ .settled v) → st′ .steps v ≡ st .steps v
+    steps-kept v k = ap (λ (b : Label). b .steps) (kept-label v k) ∙ same-steps v (low v (settled-in v k))
+
+    next-kept : (v : ℕ) → T (st′ .settled v) → st′ .next v ≡ st .next v
+    next-kept v k = ap (λ (b : Label). b .next) (kept-label v k) ∙ same-next v (low v (settled-in v k))
+
+    settled-steps : (v : ℕ) → v < n → T (st .settled v) → st .steps v < 64
+    settled-steps v l k = go (M .kept .found v (omega (arith, R .size-is)) k)
+      where
+        go : ((p : List ℕ) × Chosen g key v root p × Says g key st v p) → st .steps v < 64
+        go (p, P, S) = omega (arith, S .steps-is, chosen-bounded g (R .laws) key v root p P, R .size-is, R .most)
+
+    -- Rows of bridges settled before are as they were.
+    old-row : (v m : ℕ) → v < n → T (st .settled v) → m ≤ 64 → rowOf rows₁ v m ≡ rowOf rows v m
+    old-row v m l k h = insertion-keeps rows (st .next u) u (st .steps u) (getD keys u 0) insertable v m
+        (λ e. not-settled (subst (λ (z : ℕ). T (st .settled z)) e k)) h
+
+    row-kept : (v : ℕ) → T (st .settled v) → st′ .row v ≡ st .row v
+    row-kept v k =
+        let l : v < n = settled-says n labels rows v k .0 in
+        ap (λ (m : ℕ). rowOf rows₁ v (m + 1)) (steps-kept v (still v k)) ∙ old-row v (st .steps v + 1) l k (omega (arith, settled-steps v l k))
+
+    row-new : st′ .row u ≡ insertUpward (key u) (st .row (st .next u))
+    row-new =
+        ap (λ (m : ℕ). rowOf rows₁ u (m + 1)) (steps-kept u done)
+        ∙ insertion-read-back rows (st .next u) u (st .steps u) (getD keys u 0) insertable
+        ∙ ap (λ (k : ℕ). insertUpward k (rowOf rows (st .next u) (st .steps u))) (K .key-is u inside)
+        ∙ ap (insertUpward (key u)) next-row
+
+    not-u : (x : ℕ) → (T (st′ .settled x) → ⊥) → x ≡ u → ⊥
+    not-u x f e = f (subst (λ (z : ℕ). T (st′ .settled z)) (sym e) done)
+
+    -- The offer and the label as the code compares them.
+    offer-is : (i x : ℕ) → from ≤ i → i < end → getD neighbours i 0 ≡ x → offer g st′ x u ≡ offerAt costs rows₁ labels₁ u i
+    offer-is i x h k e = cc (costs-are, count, ap (λ (b : Label). rowOf rows₁ u (b .steps + 1)) label-u)
+      where
+        costs-are : g .hop x u + st′ .far u ≡ labelAt labels₁ u .far + getD costs i 0
+        costs-are = omega (arith, ap (λ (b : Label). b .far) label-u, offered-cost R u u-in i x h k e)
+
+        count : suc (st′ .steps u) ≡ labelAt labels₁ u .steps + 1
+        count = omega (arith, ap (λ (b : Label). b .steps) label-u)
+
+    label-is : (x : ℕ) → x < n → (x ≡ u → ⊥) → (T (st .settled x) → ⊥) → T (st .labelled x) → labelRank rows₁ (labelAt labels₁ x) ≡ label st x
+    label-is x l f o k =
+        ap (labelRank rows₁) (label-unsettled labels root u x (low x l) u-low f)
+        ∙ ap (λ (t : List ℕ). st .far x ∷ st .steps x ∷ t)
+        (old-row (st .next x) (st .steps x) next-in (O .done) (omega (arith, steps-next, settled-steps (st .next x) next-in (O .done)))
+        ∙ ap (λ (m : ℕ). rowOf rows (st .next x) m) one-more)
+      where
+        inside-x : x < g .size
+        inside-x = omega (arith, R .size-is)
+
+        O : Offers g root st x (st .next x)
+        O = M .kept .offered x inside-x o k
+
+        next-in : st .next x < n
+        next-in = settled-says n labels rows (st .next x) (O .done) .0
+
+        steps-next : st .steps x ≡ suc (st .steps (st .next x))
+        steps-next = M .kept .steps-through x inside-x o k
+
+        one-more : st .steps x ≡ st .steps (st .next x) + 1
+        one-more = omega (arith, steps-next)
+
+    lower-is : (i x : ℕ) → from ≤ i → i < end → getD neighbours i 0 ≡ x → x < n → (T (st′ .settled x) → ⊥) → T (st .labelled x)
+        → (Lower (offerAt costs rows₁ labels₁ u i) (labelRank rows₁ (labelAt labels₁ x)) → Lower (offer g st′ x u) (label st x))
+        × (Lower (offer g st′ x u) (label st x) → Lower (offerAt costs rows₁ labels₁ u i) (labelRank rows₁ (labelAt labels₁ x)))
+    lower-is i x h k e l f m = go (offer g st′ x u) (label st x) (offer-is i x h k e) (label-is x l (not-u x f) (λ s. f (still x s)) m)
+      where
+        go : (a b : List ℕ) → a ≡ offerAt costs rows₁ labels₁ u i → labelRank rows₁ (labelAt labels₁ x) ≡ b
+            → (Lower (offerAt costs rows₁ labels₁ u i) (labelRank rows₁ (labelAt labels₁ x)) → Lower a b)
+            × (Lower a b → Lower (offerAt costs rows₁ labels₁ u i) (labelRank rows₁ (labelAt labels₁ x)))
+        go a b p q = (
+          λ h. subst (λ (z : List ℕ). Lower z b) (sym p) (subst (λ (z : List ℕ). Lower (offerAt costs rows₁ labels₁ u i) z) q h),
+          λ h. subst (λ (z : List ℕ). Lower (offerAt costs rows₁ labels₁ u i) z) (sym q) (subst (λ (z : List ℕ). Lower z b) p h),
+        )
+
+    stays : (x : ℕ) → x < n → (T (st′ .settled x) → ⊥) → Same x → Stays g root u st st′ x
+    stays x l f U = record {
+      same-labelled = ap (λ (b : Label). ltb (b .far) noCost) same;
+      same-far = ap (λ (b : Label). b .far) same;
+      same-steps = ap (λ (b : Label). b .steps) same;
+      same-next = ap (λ (b : Label). b .next) same;
+      enough = λ O. enough (joined-listed R u u-in x (O .joined));
+    }
+      where
+        same : labelAt labels₂ x ≡ labelAt labels x
+        same = U .same ∙ label-unsettled labels root u x (low x l) u-low (not-u x f)
+
+        enough : ((i : ℕ) × (from ≤ i) × (i < end) × (getD neighbours i 0 ≡ x)) → T (st .labelled x) × (Lower (offer g st′ x u) (label st x) → ⊥)
+        enough (i, h, k, e) = let t = labelled-x (le-or-gt noCost (st .far x)) in
+            (t, λ q. U .not-lower i h k e (lower-is i x h k e l f t .1 q))
+          where
+            labelled-x : (noCost ≤ st .far x) ⊎ (st .far x < noCost) → T (st .labelled x)
+            labelled-x (inl m) = absurd (U .not-lower i h k e (inl (omega (arith, way-bound i h k, same-far x (low x l)))))
+            labelled-x (inr m) = lt→ltb (st .far x) noCost m
+
+    takes : (x : ℕ) → x < n → (T (st′ .settled x) → ⊥) → Took x → Takes g root u st st′ x
+    takes x l f C = record {
+      offers = record { done = done; joined = offered-joined R u u-in (C .place) x (C .after) (C .before) (C .offered); passes = inr (R .all-between u) };
+      now-labelled = lt→ltb (st′ .far x) noCost (omega (arith, far-x, way-bound (C .place) (C .after) (C .before)));
+      new-far = omega (arith, far-x, same-far u u-low, offered-cost R u u-in (C .place) x (C .after) (C .before) (C .offered));
+      new-steps = omega (arith, ap (λ (b : Label). b .steps) (C .took), same-steps u u-low);
+      new-next = ap (λ (b : Label). b .next) (C .took);
+      lower-now = λ t. lower-is (C .place) x (C .after) (C .before) (C .offered) l f t .0 (C .lower-now);
+    }
+      where
+        far-x : st′ .far x ≡ labelAt labels₁ u .far + getD costs (C .place) 0
+        far-x = ap (λ (b : Label). b .far) (C .took)
+
+    advances : Advances g key root u st st′
+    advances = record {
+      done = done;
+      still = still;
+      only = only;
+      far-kept = far-kept;
+      steps-kept = steps-kept;
+      next-kept = next-kept;
+      row-kept = row-kept;
+      row-new = row-new;
+      relaxed = λ x i f. go x (omega (arith, R .size-is)) f (X .each x (low x (omega (arith, R .size-is))));
+    }
+      where
+        go : (x : ℕ) → x < n → (T (st′ .settled x) → ⊥) → Same x ⊎ Took x → Stays g root u st st′ x ⊎ Takes g root u st st′ x
+        go x l f (inl U) = inl (stays x l f U)
+        go x l f (inr C) = inr (takes x l f C)
+
+    kept-now : Kept g key root st′
+    kept-now = kept-advances g (R .laws) key (K .laws) root u st st′ (M .kept) inside not-settled labelled-u nearest advances
+
+    -- The first hop from the root.
+    first-now : (v : ℕ) → v < n → T (st′ .settled v) → (p : List ℕ) → Chosen g key v root p → labelAt labels₂ v .first ≡ firstBack p
+    first-now v l k p P = go (only v k) (same-or-not v u)
+      where
+        through : (q : List ℕ) → Settled g key root st (st .next u) q → (st .next u ≡ root) ⊎ (st .next u ≡ root → ⊥)
+            → cond (eqb (st .next u) root) u (labelAt labels (st .next u) .first) ≡ firstBack (u ∷ q)
+        through q (i, s, Q) (inl e) = simp (eq-eqb (st .next u) root e)
+            (ap (λ (z : List ℕ). firstBack (u ∷ z)) (sym (chosen-self g key root q (subst (λ (z : ℕ). Chosen g key z root q) e Q))))
+        through q (i, s, Q) (inr f) = simp (ne-eqb (st .next u) root f)
+            (M .first-is (st .next u) (omega (arith, R .size-is)) s q Q ∙ longer (chosen-first g key (st .next u) root q Q))
+          where
+            longer : ((t : List ℕ) × (q ≡ st .next u ∷ t) × Least g (st .next u) t root) → firstBack q ≡ firstBack (u ∷ q)
+            longer ([], e, L) = absurd (f (L .way))
+            longer (y ∷ t, e, L) = rw e refl
+
+        settled-now : v ≡ u → labelAt labels₂ v .first ≡ firstBack p
+        settled-now e =
+            ap (λ (z : ℕ). labelAt labels₂ z .first) e
+            ∙ ap (λ (b : Label). b .first) (label-u ∙ label-settled labels root u u-low (Z .has-labels))
+            ∙ through (settles .0) (settles .1) (same-or-not (st .next u) root)
+            ∙ ap firstBack (chosen-unique g key u root (u ∷ settles .0) p (settles .2) (subst (λ (z : ℕ). Chosen g key z root p) e P))
+
+        go : T (st .settled v) ⊎ (v ≡ u) → (v ≡ u) ⊎ (v ≡ u → ⊥) → labelAt labels₂ v .first ≡ firstBack p
+        go s (inl e) = settled-now e
+        go (inr e) (inr f) = absurd (f e)
+        go (inl s) (inr f) =
+            ap (λ (b : Label). b .first) (kept-label v k ∙ label-unsettled labels root u v (low v l) u-low f) ∙ M .first-is v l s p P
+
+    -- What is kept stays true.
+    pub step-tracked : Tracked g key n root labels₂ rows₁
+    step-tracked = record {
+      kept = kept-now;
+      waits-or-not = λ x l. waits-or-not x l (X .each x (low x l)) (same-or-not x u);
+      far-most = λ x l. far-most x l (X .each x (low x l));
+      next-in = λ x l h. next-in x l h (X .each x (low x l));
+      root-next = next-kept root (still root (M .kept .root)) ∙ M .root-next;
+      first-is = first-now;
+    }
+      where
+        waits-or-not : (x : ℕ) → x < n → Same x ⊎ Took x → (x ≡ u) ⊎ (x ≡ u → ⊥)
+            → (labelAt labels₂ x .waits ≡ noCost) ⊎ (labelAt labels₂ x .waits ≡ labelAt labels₂ x .far)
+        waits-or-not x l s (inl e) = inl (ap (λ (z : ℕ). labelAt labels₂ z .waits) e ∙ ap (λ (b : Label). b .waits) (label-u ∙ label-settled labels root u u-low (Z .has-labels)))
+        waits-or-not x l (inr C) (inr f) = inr (ap (λ (b : Label). b .waits) (C .took) ∙ sym (ap (λ (b : Label). b .far) (C .took)))
+        waits-or-not x l (inl U) (inr f) =
+            subst (λ (b : Label). (b .waits ≡ noCost) ⊎ (b .waits ≡ b .far)) (sym (U .same ∙ label-unsettled labels root u x (low x l) u-low f)) (M .waits-or-not x l)
+
+        far-most : (x : ℕ) → x < n → Same x ⊎ Took x → labelAt labels₂ x .far ≤ noCost
+        far-most x l (inl U) = omega (arith, ap (λ (b : Label). b .far) (U .same), same-far x (low x l), M .far-most x l)
+        far-most x l (inr C) = omega (arith, ap (λ (b : Label). b .far) (C .took), way-bound (C .place) (C .after) (C .before))
+
+        next-in : (x : ℕ) → x < n → labelAt labels₂ x .far < noCost → Same x ⊎ Took x → labelAt labels₂ x .next < n
+        next-in x l h (inl U) = omega (
+          arith,
+          ap (λ (b : Label). b .next) (U .same),
+          same-next x (low x l),
+          M .next-in x l (omega (arith, ap (λ (b : Label). b .far) (U .same), same-far x (low x l))),
+        )
+        next-in x l h (inr C) = omega (arith, ap (λ (b : Label). b .next) (C .took))

@@ -1,0 +1,70 @@
+-- Neighbour lists that stand for a graph: what a neighbour is offered. And the end of a search: its labels are the tree.
+-- Assumes nothing.
+use Prim.Native.Nat.{ℕ, _+_, _≤_, _<_}
+use native.Mathlib.Omega.{arith}
+use mathlib.Core.Path.{_≡_, sym, ap, _∙_}
+use mathlib.Core.List.{List, [], _∷_}
+use mathlib.Core.Option.{none, some}
+use mathlib.Core.Logic.{_⊎_, inl, inr}
+use lib.Dec.{T, ltb→lt, lt→ltb}
+use lib.ListN.{getD}
+use Rattle.graph.specs.laws.ListLaws.{le-or-gt}
+use Rattle.graph.specs.Graph.{Graph, Joined}
+use Rattle.graph.specs.laws.Notions.{Least}
+use Rattle.graph.specs.laws.Paths.{entered-inside}
+use Rattle.graph.specs.Chosen.{Chosen, chosen}
+use Rattle.graph.specs.laws.Enumeration.{chosen-is}
+use Rattle.graph.specs.laws.ChosenPaths.{chosen-first}
+use Rattle.graph.specs.Lookups.{Says}
+use Rattle.graph.specs.laws.LookupLaws.{kept-ends}
+use Rattle.tree.specs.Labels.{noCost, labelAt, stateOf, LeastOf}
+use Rattle.tree.specs.laws.LabelLaws.{says-settled}
+use Rattle.tree.specs.Trees.{Represents, Keyed, nextOf, SaysPath, TreeOf}
+use Rattle.tree.specs.Tracked.{Tracked}
+
+module _ {g : Graph} {n : ℕ} {starts neighbours costs : List ℕ} (R : Represents g n starts neighbours costs) (u : ℕ) (u-in : u < n) where
+  pub neighbour-in : (i : ℕ) → getD starts u 0 ≤ i → i < getD starts (u + 1) 0 → getD neighbours i 0 < n
+  neighbour-in i h k = omega (arith, entered-inside g (R .laws) u (getD neighbours i 0) (R .joined u i u-in h k), R .size-is)
+
+  -- What the neighbour `x` at a place is offered.
+  pub offered-cost : (i x : ℕ) → getD starts u 0 ≤ i → i < getD starts (u + 1) 0 → getD neighbours i 0 ≡ x → getD costs i 0 ≡ g .hop x u
+  offered-cost i x h k e = R .cost-is u i u-in h k ∙ ap (g .hop u) e ∙ R .laws .symmetric u x
+
+  pub offered-joined : (i x : ℕ) → getD starts u 0 ≤ i → i < getD starts (u + 1) 0 → getD neighbours i 0 ≡ x → Joined g x u
+  offered-joined i x h k e = omega (arith, R .joined u i u-in h k, R .cost-is u i u-in h k, offered-cost i x h k e)
+
+  pub joined-listed : (x : ℕ) → Joined g x u → (i : ℕ) × (getD starts u 0 ≤ i) × (i < getD starts (u + 1) 0) × (getD neighbours i 0 ≡ x)
+  joined-listed x j = R .listed u x u-in (omega (arith, R .laws .symmetric u x))
+
+  pub one-cost : (i j : ℕ) → getD starts u 0 ≤ i → i < getD starts (u + 1) 0 → getD starts u 0 ≤ j → j < getD starts (u + 1) 0
+      → getD neighbours i 0 ≡ getD neighbours j 0 → getD costs i 0 ≡ getD costs j 0
+  one-cost i j h k l m e = R .cost-is u i u-in h k ∙ ap (g .hop u) e ∙ sym (R .cost-is u j u-in l m)
+
+-- With no bridge waiting the labels are the tree.
+module _ (g : Graph) (key : ℕ → ℕ) (n root : ℕ) (starts neighbours costs keys : List ℕ) (R : Represents g n starts neighbours costs) (K : Keyed g key keys)
+    (labels rows : List ℕ) (M : Tracked g key n root labels rows) (least : ℕ) (L : LeastOf labels n least) (h : noCost ≤ least) where
+  none-left : (x : ℕ) → x < g .size → (T (stateOf n labels rows .settled x) → ⊥) → T (stateOf n labels rows .labelled x) → ⊥
+  none-left x i f k = f (says-settled n labels rows x (omega (arith, R .size-is)) (ltb→lt (labelAt labels x .far) noCost k)
+      (omega (arith, L .none-less x (omega (arith, R .size-is)))))
+
+  next-is : (u : ℕ) (p : List ℕ) → Chosen g key u root p → Says g key (stateOf n labels rows) u p → labelAt labels u .next ≡ nextOf p
+  next-is u p P S = go (chosen-first g key u root p P)
+    where
+      go : ((t : List ℕ) × (p ≡ u ∷ t) × Least g u t root) → labelAt labels u .next ≡ nextOf p
+      go ([], e, W) = ap (λ (k : ℕ). labelAt labels k .next) (W .way) ∙ M .root-next ∙ sym (W .way) ∙ ap nextOf (sym e)
+      go (v ∷ t, e, W) = S .next-is v t e ∙ ap nextOf (sym e)
+
+  pub search-tree : TreeOf g key root labels
+  search-tree = record { each = λ u i. go u i (kept-ends g (R .laws) key root (stateOf n labels rows) (M .kept) (K .laws) none-left u i) }
+    where
+      go : (u : ℕ) → u < g .size
+          → ((p : List ℕ) × T (stateOf n labels rows .settled u) × (chosen g key u root ≡ some p) × Says g key (stateOf n labels rows) u p)
+          ⊎ ((T (stateOf n labels rows .settled u) → ⊥) × (chosen g key u root ≡ none))
+          → SaysPath g (chosen g key u root) (labelAt labels u)
+      go u i (inl (p, k, e, S)) = let P = chosen-is g (R .laws) key (K .laws) u root p e in
+          rw e (S .far-is, S .steps-is, next-is u p P S, M .first-is u (omega (arith, R .size-is)) k p P)
+      go u i (inr (f, e)) = rw e (far (le-or-gt noCost (labelAt labels u .far)))
+        where
+          far : (noCost ≤ labelAt labels u .far) ⊎ (labelAt labels u .far < noCost) → labelAt labels u .far ≡ noCost
+          far (inl l) = omega (arith, M .far-most u (omega (arith, R .size-is)))
+          far (inr l) = absurd (none-left u i f (lt→ltb (labelAt labels u .far) noCost l))

@@ -1,0 +1,4 @@
+-- Theorems: nothing here is cited by a contract.
+pub mod StepLaws
+pub mod KindLaws
+pub mod ExaminationLaws
