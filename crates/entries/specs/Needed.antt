@@ -32,10 +32,6 @@ pub record TransmitterRow (t : List ℕ) (s : Shape) (rows : List ℕ) (j : ℕ)
 pub record OwnRows (t : List ℕ) (s : Shape) (b : ℕ) (rows : List ℕ) (k : ℕ) : Type 0 where
   pub own : (i : ℕ) → i < k → HasRow rows (vidNumber (wordsOf t) s i .index) b
 
--- And those for the first `j` members.
-pub record MemberRows (t : List ℕ) (s : Shape) (rows : List ℕ) (j : ℕ) : Type 0 where
-  pub of-member : (i : ℕ) → i < j → TransmitterRow t s rows i
-
 -- Every row of the first `n` bridges is inside the list.
 pub record RowsInside (n : ℕ) (rows : List ℕ) : Type 0 where
   pub inside : (index a : ℕ) → 1 ≤ index → index ≤ 16 → a < n → rowAt rows index a + 64 ≤ length rows

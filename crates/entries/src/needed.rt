@@ -11,7 +11,7 @@ ghost use Rattle.rule.specs.Words.{wordsOf};
 ghost use Rattle.network.specs.KeptTrees.{TreesHeld};
 ghost use Rattle.ports.specs.Rows.{HasRow, RowsHeld, Kept};
 ghost use Rattle.words.specs.Words.{vidNumber};
-ghost use Rattle.entries.specs.Needed.{Lists, TransmitterRow, OwnRows, MemberRows, RowsReady};
+ghost use Rattle.entries.specs.Needed.{Lists, TransmitterRow, OwnRows, RowsReady};
 
 // Keeps the row of the bridge's own paths for the VID number `k`.
 fn keep_own_row(

@@ -1,4 +1,5 @@
 // The links of a table that passed the check (01, "Links").
+pub mod counts;
 pub mod neighbours;
 pub mod pairs;
 pub mod usable;

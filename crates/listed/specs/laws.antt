@@ -3,3 +3,4 @@ pub mod PathLineLaws
 pub mod EntryLines
 pub mod PartLaws
 pub mod TableParts
+pub mod RemainingLaws

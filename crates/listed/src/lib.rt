@@ -3,3 +3,4 @@
 pub mod entry_lines;
 pub mod part;
 pub mod path_lines;
+pub mod progress;

@@ -1,15 +1,15 @@
 // The parts of a listing by their numbers, in order (01, "Listing program").
 use crate::entry_lines::write_entry_lines_of;
 use crate::path_lines::write_path_lines;
-use spb::check::counts;
+use rule::answer::Counts;
 use table::shape::Shape;
 use text::check::write_counts;
 ghost use mathlib.Core.Path.{_≡_};
 ghost use Prim.Native.Nat.{_+_, _*_, _≤_, _<_};
 ghost use lib.ListN.{length};
 ghost use Rattle.rule.specs.Words.{wordsOf};
+ghost use Rattle.rule.specs.Calls.{countsOf};
 ghost use Rattle.table.specs.Positions.{planAt};
-ghost use Rattle.links.specs.Mates.{Checked};
 ghost use Rattle.network.specs.KeptTrees.{TreesHeld};
 ghost use Rattle.entries.specs.Whole.{PlanOf};
 ghost use Rattle.text.specs.Text.{WrittenAt};
@@ -23,11 +23,11 @@ pub fn part_count(s: Shape) -> usize
     1 + s.vids * s.bridges + s.bridges
 }
 
-// Writes the part number `part` to the front of the lent bytes, and gives how many bytes it is.
+// Writes the part number `part` to the front of the lent bytes, and gives how many bytes it is. `counts` are those of the table.
 pub fn write_part(
     table: &[u8],
     s: Shape,
-    links: &[u32],
+    counts: Counts,
     starts: &[u32],
     neighbours: &[u32],
     costs: &[u32],
@@ -40,13 +40,13 @@ pub fn write_part(
     words: &mut [u32],
     out: &mut [u8],
 ) -> usize
-    requires { ⌜ Checked (now table) (now links) s × PlanOf (now table) s (now starts) (now neighbours) (now costs) (now ports) (now identifiers) × (part < partCount (planAt (wordsOf (now table)) s)) ⌝ }
+    requires { ⌜ PlanOf (now table) s (now starts) (now neighbours) (now costs) (now ports) (now identifiers) × (counts ≡ countsOf (planAt (wordsOf (now table)) s)) × (part < partCount (planAt (wordsOf (now table)) s)) ⌝ }
     requires { ⌜ (4096 ≤ length (now «path_ids»)) × TreesHeld (s .bridges) (now starts) (now neighbours) (now costs) (now identifiers) (now marks) (now trees) × (14931 ≤ length (now words)) × (258804 ≤ length (now out)) ⌝ }
     ensures { λ r. ⌜ TreesHeld (s .bridges) (now (starts .entry)) (now (neighbours .entry)) (now (costs .entry)) (now (identifiers .entry)) (now (marks .exit)) (now (trees .exit)) ⌝ }
     ensures { λ r. ⌜ WrittenAt 0 (now (out .entry)) (now (out .exit)) (listingPart (planAt (wordsOf (now (table .entry))) s) part) r × (r ≤ 258804) ⌝ }
 {
     if part == 0 {
-        return write_counts(counts(table, s, links), out, 0);
+        return write_counts(counts, out, 0);
     }
     let pair = part - 1;
     let pairs = s.vids * s.bridges;

@@ -1,4 +1,4 @@
-// Entry lists: their faults, the matching entry n, and the lookup call (01, "Calls" and 14 under "Refusals in checking order").
+// Entry lists: their faults, the matching entry n, and what the lookup call answers (01, "Calls" and 14 under "Refusals in checking order").
 use crate::entry::is_faulty;
 use crate::entry::is_match;
 use crate::entry::port_of;
@@ -46,7 +46,7 @@ fn matching(list: &[u32], vid: u32, address: u64, n: u32) -> LookupAnswer
 }
 
 // "Lookup (entry list, VID, address, n): port of the matching entry n, counted from 0 in list order, or none."
-pub fn lookup(list: &[u32], vid: u32, address: u64, n: u32) -> LookupAnswer
+pub fn port_in_list(list: &[u32], vid: u32, address: u64, n: u32) -> LookupAnswer
     ensures { λ r. ⌜ lookupValues r ≡ lookupOutcome (now (list .entry)) vid address n ⌝ }
 {
     if is_faulty_list(list) {

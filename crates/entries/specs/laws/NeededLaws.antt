@@ -23,7 +23,11 @@ use Rattle.ports.specs.Rows.{rowAt, HasRow, RowsHeld, Kept}
 use Rattle.ports.specs.laws.RowLaws.{kept-all, kept-both, plan-row}
 use Rattle.words.specs.Words.{Readable, vidNumber, memberNumber}
 use Rattle.entries.specs.laws.PlanWords.{bridges-are}
-use Rattle.entries.specs.Needed.{Lists, TransmitterRow, OwnRows, MemberRows, RowsReady}
+use Rattle.entries.specs.Needed.{Lists, TransmitterRow, OwnRows, RowsReady}
+
+-- The rows for the first `j` members are kept.
+pub record MemberRows (t : List ℕ) (s : Shape) (rows : List ℕ) (j : ℕ) : Type 0 where
+  pub of-member : (i : ℕ) → i < j → TransmitterRow t s rows i
 
 pub listed : {t : List ℕ} {s : Shape} {starts neighbours costs identifiers hops : List ℕ} {b : ℕ} → Lists t s starts neighbours costs identifiers hops b
     → Listed (s .bridges) starts neighbours costs identifiers

@@ -30,7 +30,7 @@ use Rattle.table.specs.declared.shape.Shape.{Shape}
 use Rattle.table.specs.Positions.{vidsFrom, membersFrom, recordsAt, planAt}
 use Rattle.table.specs.laws.PositionLaws.{how-many, record-at, record-in}
 use Rattle.ports.specs.Leaving.{numberOf, portOn, LeavingRow}
-use Rattle.ports.specs.PlanPorts.{PlanPorts}
+use Rattle.ports.specs.laws.PlanPortLaws.{PlanPorts}
 use Rattle.words.specs.Words.{Readable, bridgeNumber, vidNumber, memberNumber, entryWith, individualTo, individualWords, behindAt, portsBehind, groupAt, groupWords}
 
 -- The words of a VID's part of a bridge's list, and of the group entries for one transmitter.

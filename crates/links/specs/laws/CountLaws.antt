@@ -11,6 +11,7 @@ use borrow.Author.Tests.{lt-ltb, le-ltb}
 use Rattle.graph.specs.Lists.{selected, consIf}
 use Rattle.graph.specs.Members.{sumOver}
 use Rattle.graph.specs.laws.ListLaws.{selected-flatMap, length-flatMap, sum-most, sum-append}
+use Rattle.rule.specs.declared.answer.Counts.{Counts}
 use Rattle.rule.specs.Records.{HalfLink, halfLinkOf, unusableMetric}
 use Rattle.rule.specs.Plan.{Plan}
 use Rattle.rule.specs.Links.{Link, mates, linksOf, from, to, linkCost, usableMetric, usableLinks, countUsable}
@@ -145,3 +146,16 @@ module _ (hs : List HalfLink) (k h : HalfLink) (e : h ≡ k) where
 
     pub counted-unusable : false ≡ usableMetric m → 0 ≡ counted hs k
     counted-unusable u = ap (λ (b : Bool). cond b 1 0) u ∙ lower
+
+-- Counts are the same where their numbers are.
+pub same-counts :
+    {a b c d e a′ b′ c′ d′ e′ : ℕ} →
+    a ≡ a′ →
+    b ≡ b′ →
+    c ≡ c′ →
+    d ≡ d′ →
+    e ≡ e′ →
+    _≡_ {A = Counts}
+    (record { bridges = a; «half_links» = b; «usable_links» = c; vids = d; members = e })
+    (record { bridges = a′; «half_links» = b′; «usable_links» = c′; vids = d′; members = e′ })
+same-counts i j k l m = λ x. record { bridges = i x; «half_links» = j x; «usable_links» = k x; vids = l x; members = m x }

@@ -6,7 +6,7 @@ use mathlib.Core.Path.{_≡_, refl, sym, ap, _∙_, subst}
 use mathlib.Core.List.{List}
 use mathlib.Core.Option.{Option, none, some, Option·map}
 use lib.ListN.{length, getD}
-use Rattle.graph.specs.Members.{In}
+use Rattle.graph.specs.Members.{In, EveryTwo}
 use Rattle.graph.specs.laws.ListLaws.{none-not-some}
 use Rattle.rule.specs.Plan.{Plan}
 use Rattle.rule.specs.PlanLaws.{PlanLaws}
@@ -16,7 +16,12 @@ use Rattle.links.specs.Neighbours.{NeighboursOf}
 use Rattle.network.specs.PlanLists.{ListsOf}
 use Rattle.ports.specs.Hops.{PlaceOf, HopLists, HopPorts, InRange, RisingPorts}
 use Rattle.ports.specs.Leaving.{numberOf, portTo, PlanHops}
-use Rattle.ports.specs.PlanPorts.{PlanPorts}
+
+-- The ports of a bridge of a plan, rising: those of its hops, all within their range.
+pub record PlanPorts (p : Plan) (b : ℕ) (ports : List ℕ) : Type 0 where
+  pub rises : EveryTwo (λ x y. x < y) ports
+  pub fits : (q : ℕ) → In q ports → (1 ≤ q) × (q ≤ 4095)
+  pub all : (u : ℕ) (l : Link) → hopLink (p .halfLinks) b u ≡ some l → In (l .here .port) ports
 
 some-one : {l k : Link} → some l ≡ some k → l ≡ k
 some-one {l} {k} e = let f : l ≡ k = cc in f

@@ -17,19 +17,6 @@ use Rattle.verdict.specs.declared.examine.Examined.{Examined}
 use Rattle.verdict.specs.Examination.{examinedValues}
 use Rattle.spb.specs.laws.Examined.{asked, not-asked}
 
--- Counts are the same where their numbers are.
-pub same-counts :
-    {a b c d e a′ b′ c′ d′ e′ : ℕ} →
-    a ≡ a′ →
-    b ≡ b′ →
-    c ≡ c′ →
-    d ≡ d′ →
-    e ≡ e′ →
-    _≡_ {A = Counts}
-    (record { bridges = a; «half_links» = b; «usable_links» = c; vids = d; members = e })
-    (record { bridges = a′; «half_links» = b′; «usable_links» = c′; vids = d′; members = e′ })
-same-counts i j k l m = λ x. record { bridges = i x; «half_links» = j x; «usable_links» = k x; vids = l x; members = m x }
-
 module _ (t : List ℕ) (r : Examined) (e : examinedValues (wordsOf t) r ≡ verdict t) where
   module _ (s : Shape) (f : r ≡ Examined.Accepted s) where
     pub check-accepted : (c : Counts) → c ≡ countsOf (planAt (wordsOf t) s) → answered c ≡ checkOutcome t

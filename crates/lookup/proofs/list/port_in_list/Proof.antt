@@ -1,9 +1,9 @@
--- `lookup::list::lookup` refuses a faulty list and answers from any other. Assumes nothing.
+-- `lookup::list::port_in_list` refuses a faulty list and answers from any other. Assumes nothing.
 use mathlib.Core.Path.{sym, _∙_}
 use Rattle.rule.specs.Lookup.{lookupOutcome}
 use borrow.Author.Needs.{needs}
-use Rattle.lookup.proofs.list.lookup.Statement.{statement}
-use Rattle.lookup.proofs.list.lookup.Tie as tie
+use Rattle.lookup.proofs.list.port_in_list.Statement.{statement}
+use Rattle.lookup.proofs.list.port_in_list.Tie as tie
 
 is-faulty-list-requires : tie.Need-is-faulty-list-requires
 is-faulty-list-requires c κs = search needs
@@ -19,5 +19,5 @@ returns-2 : tie.Need-returns-2
 unfolding lookupOutcome
 returns-2 c = simp (← (c .before .before .is-faulty-list .ensures), c .before .if1 .left, c .matching .ensures)
 
-pub lookup-spec : {M : Type 1} → statement M
-lookup-spec = tie.close (tie.spec is-faulty-list-requires returns matching-requires returns-2)
+pub port-in-list-spec : {M : Type 1} → statement M
+port-in-list-spec = tie.close (tie.spec is-faulty-list-requires returns matching-requires returns-2)

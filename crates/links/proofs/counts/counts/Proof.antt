@@ -1,0 +1,40 @@
+-- `links::counts::counts` counts by the shape, and the usable links by the index. Assumes nothing.
+use mathlib.Core.Path.{refl, sym}
+use Rattle.rule.specs.Words.{wordsOf}
+use Rattle.rule.specs.Records.{bridgeOf, halfLinkOf, vidOf, memberOf}
+use Rattle.table.specs.Positions.{halfLinksFrom, vidsFrom, membersFrom}
+use Rattle.table.specs.laws.PositionLaws.{how-many}
+use Rattle.links.specs.laws.CountLaws.{same-counts}
+use borrow.Author.Needs.{needs}
+use Rattle.links.proofs.counts.counts.Statement.{statement}
+use Rattle.links.proofs.counts.counts.Tie as tie
+
+cast-t4 : tie.Need-cast-t4
+cast-t4 c = search needs
+
+cast-t5 : tie.Need-cast-t5
+cast-t5 c = search needs
+
+count-usable-requires : tie.Need-count-usable-requires
+count-usable-requires c κs = search needs
+
+cast-t7 : tie.Need-cast-t7
+cast-t7 c = search needs
+
+cast-t8 : tie.Need-cast-t8
+cast-t8 c = search needs
+
+returns : tie.Need-returns
+returns c =
+    let at-entry = c .before .before .before .before .before .before .before in
+    let s = at-entry .args .s in
+    let ws = wordsOf (at-entry .args .table .now) in
+    same-counts
+    (sym (how-many bridgeOf 3 0 ws (s .bridges)))
+    (sym (how-many halfLinkOf 3 (halfLinksFrom s) ws (s .«half_links»)))
+    (c .before .before .count-usable .ensures)
+    (sym (how-many vidOf 1 (vidsFrom s) ws (s .vids)))
+    (sym (how-many memberOf 2 (membersFrom s) ws (s .members)))
+
+pub counts-spec : {M : Type 1} → statement M
+counts-spec = tie.close (tie.spec cast-t4 cast-t5 count-usable-requires cast-t7 cast-t8 returns)

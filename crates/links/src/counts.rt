@@ -1,0 +1,23 @@
+// The five counts of a table that passed the check (01, "Calls": check).
+use crate::usable::count_usable;
+use rule::answer::Counts;
+use table::shape::Shape;
+ghost use mathlib.Core.Path.{_≡_};
+ghost use Rattle.rule.specs.Words.{wordsOf};
+ghost use Rattle.rule.specs.Calls.{countsOf};
+ghost use Rattle.table.specs.Positions.{planAt};
+ghost use Rattle.links.specs.Mates.{Checked};
+
+// "counts of bridges, half-links, usable links, VIDs, members".
+pub fn counts(table: &[u8], s: Shape, links: &[u32]) -> Counts
+    requires { ⌜ Checked (now table) (now links) s ⌝ }
+    ensures { λ r. ⌜ r ≡ countsOf (planAt (wordsOf (now (table .entry))) s) ⌝ }
+{
+    Counts {
+        bridges: s.bridges as u32,
+        half_links: s.half_links as u32,
+        usable_links: count_usable(table, s, links),
+        vids: s.vids as u32,
+        members: s.members as u32,
+    }
+}
