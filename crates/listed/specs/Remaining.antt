@@ -1,5 +1,5 @@
 -- A listing given part by part (01, "Listing program"): what is left to give, and what the next part is. Assumes nothing.
-use Prim.Native.Nat.{ℕ, _-_, _<_}
+use Prim.Native.Nat.{ℕ, _-_, _≤_, _<_}
 use mathlib.Core.Path.{_≡_}
 use mathlib.Core.List.{List, [], _∷_, _++_, map, flatMap}
 use lib.ListN.{length, getD, take, drop}
@@ -39,7 +39,7 @@ Gives t before part after = part ++ remaining t after ≡ remaining t before
 
 -- What the answer to "the next part?" says: the part at the front of the lent bytes, or that nothing is left.
 abbrev pub NextOf : List ℕ → Progress → List ℕ → NextPart → Type 0
-NextOf t before out (NextPart.Part written after) = Gives t before (take written out) after
+NextOf t before out (NextPart.Part written after) = (written ≤ length out) × Gives t before (take written out) after
 NextOf t before out NextPart.None = remaining t before ≡ []
 
 -- Parts given one after the other, until none is left.

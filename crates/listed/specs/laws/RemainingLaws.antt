@@ -175,14 +175,14 @@ more b r = record { examined = r; counts = b .counts; given = b .given + 1 }
 module _ {t : List ℕ} {b : Progress} {starts neighbours costs ports identifiers marks trees : List ℕ}
     (U : Underway t b starts neighbours costs ports identifiers marks trees) where
   pub next-accepted : (s : Shape) → b .examined ≡ Examined.Accepted s → b .given < partCount (planAt (wordsOf t) s)
-      → {out out′ : List ℕ} {written : ℕ} → Appended out 0 (listingPart (planAt (wordsOf t) s) (b .given)) out′ written
+      → {out out′ : List ℕ} {written : ℕ} → Appended out 0 (listingPart (planAt (wordsOf t) s) (b .given)) out′ written → written ≤ length out′
       → {marks′ trees′ : List ℕ} → TreesHeld (s .bridges) starts neighbours costs identifiers marks′ trees′
       → (r : NextPart) → r ≡ NextPart.Part written (more b (Examined.Accepted s))
       → Answered t b starts neighbours costs ports identifiers marks′ trees′ out′ r
-  next-accepted s f l {out} {out′} A {marks′} {trees′} T r e =
+  next-accepted s f l {out} {out′} A m {marks′} {trees′} T r e =
       let P = accepted-part t b (U .of-table) s f l A (more b (Examined.Accepted s)) refl
       in subst (Answered t b starts neighbours costs ports identifiers marks′ trees′ out′) (sym e)
-      (P .0, (record { of-table = sym (ap (examinedValues (wordsOf t)) f) ∙ U .of-table; accepted = ready }, P .1))
+      ((m, P .0), (record { of-table = sym (ap (examinedValues (wordsOf t)) f) ∙ U .of-table; accepted = ready }, P .1))
     where
       ready : (s′ : Shape) → Examined.Accepted s ≡ Examined.Accepted s′
           → PartsReady t (more b (Examined.Accepted s)) s′ starts neighbours costs ports identifiers marks′ trees′
@@ -192,13 +192,13 @@ module _ {t : List ℕ} {b : Progress} {starts neighbours costs ports identifier
           (record { lists = U .accepted s f .lists; trees-held = T; counted = U .accepted s f .counted })
 
   pub next-refused : (number at : ℕ) (kind : RecordKind) → b .examined ≡ Examined.Refused number kind at → b .given ≡ 0
-      → {out out′ : List ℕ} {written : ℕ} → Appended out 0 (line refusedWord (number ∷ at ∷ [])) out′ written
+      → {out out′ : List ℕ} {written : ℕ} → Appended out 0 (line refusedWord (number ∷ at ∷ [])) out′ written → written ≤ length out′
       → (r : NextPart) → r ≡ NextPart.Part written (more b (Examined.Refused number kind at))
       → Answered t b starts neighbours costs ports identifiers marks trees out′ r
-  next-refused number at kind f l {out} {out′} A r e =
+  next-refused number at kind f l {out} {out′} A m r e =
       let P = refused-part t b (U .of-table) number at kind f l A (more b (Examined.Refused number kind at)) refl
       in subst (Answered t b starts neighbours costs ports identifiers marks trees out′) (sym e) (
-        P .0,
+        (m, P .0),
         (
           record {
             of-table = sym (ap (examinedValues (wordsOf t)) f) ∙ U .of-table;
@@ -207,3 +207,13 @@ module _ {t : List ℕ} {b : Progress} {starts neighbours costs ports identifier
           P .1,
         ),
       )
+
+-- What the answer says where it is a part.
+module _ (t : List ℕ) (b : Progress) {r : NextPart} {written : ℕ} {after : Progress} (e : r ≡ NextPart.Part written after) where
+  pub part-fits : (out : List ℕ) → NextOf t b out r → written ≤ length out
+  part-fits out N = subst (NextOf t b out) e N .0
+
+  pub part-goes-on : (starts neighbours costs ports identifiers marks trees : List ℕ) → GoesOn t b starts neighbours costs ports identifiers marks trees r
+      → Underway t after starts neighbours costs ports identifiers marks trees × (partsLeft t after < partsLeft t b)
+  part-goes-on starts neighbours costs ports identifiers marks trees G =
+      subst (GoesOn t b starts neighbours costs ports identifiers marks trees) e G

@@ -101,7 +101,8 @@ returns-3 c =
     let at-part = c .before .before .before .before .before .before .before .before .before .before .before in
     next-accepted U _ (accepted .1)
     (omega (arith, at-test .if1 .left, at-test .before .part-count .ensures, parts-are (wordsOf (at-start .args .table .now)) (accepted .0 .0)))
-    (at-part .write-part .ensures .1 .0) (at-part .write-part .ensures .0)
+    (at-part .write-part .ensures .1 .0) (omega (arith, at-part .write-part .ensures .1 .1, same-length-5 c, at-start .pre .1 .2))
+    (at-part .write-part .ensures .0)
     (c .part-given .result) (c .part-given .ensures)
 
 same-length-6 : tie.Need-same-length-6
@@ -114,6 +115,7 @@ returns-4 c =
     let at-test = c .before .before .before .before .before in
     next-refused (at-start .pre .0) _ _ _ (at-refused .examined2 .given .1) (omega (arith, at-test .if2 .left))
     (c .before .before .before .write-refused .ensures .0)
+    (omega (arith, c .before .before .before .write-refused .ensures .1, same-length-6 c, at-start .pre .1 .2))
     (c .part-given2 .result) (c .part-given2 .ensures)
 
 pub next-part-spec : {M : Type 1} → statement M
