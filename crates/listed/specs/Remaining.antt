@@ -26,12 +26,16 @@ unfoldable pub partsOf : Outcome Plan → List (List ℕ)
 partsOf (answered p) = map (listingPart p) (rising 0 (partCount p))
 partsOf (refused number kind at) = line refusedWord (number ∷ at ∷ []) ∷ []
 
+-- The parts one after the other.
+abbrev pub together : List (List ℕ) → List ℕ
+together parts = flatMap (λ part. part) parts
+
 -- How many parts are left, and the bytes that are left to give.
 abbrev pub partsLeft : List ℕ → Progress → ℕ
 partsLeft t b = length (partsOf (verdict t)) - b .given
 
 unfoldable pub remaining : List ℕ → Progress → List ℕ
-remaining t b = flatMap (λ part. part) (drop (b .given) (partsOf (verdict t)))
+remaining t b = together (drop (b .given) (partsOf (verdict t)))
 
 -- A part given: with what is left after it, it is what was left before it.
 abbrev pub Gives : List ℕ → Progress → List ℕ → Progress → Type 0

@@ -31,14 +31,11 @@ use Rattle.lines.specs.Listing.{verdictListing, listing}
 use Rattle.listed.specs.declared.progress.Progress.{Progress}
 use Rattle.listed.specs.declared.progress.NextPart.{NextPart}
 use Rattle.listed.specs.Parts.{partCount, listingPart}
-use Rattle.listed.specs.Remaining.{partsOf, partsLeft, remaining, Gives, NextOf, GivenParts, PartsReady, Underway, GoesOn}
+use Rattle.listed.specs.Remaining.{partsOf, together, partsLeft, remaining, Gives, NextOf, GivenParts, PartsReady, Underway, GoesOn}
 use Rattle.listed.specs.laws.PartLaws.{listing-parts}
 
-abbrev all : List (List ℕ) → List ℕ
-all parts = flatMap (λ part. part) parts
-
 -- The parts by the verdict, one after the other, are the listing by the verdict.
-parts-listed : (o : Outcome Plan) → all (partsOf o) ≡ verdictListing o
+parts-listed : (o : Outcome Plan) → together (partsOf o) ≡ verdictListing o
 unfolding partsOf flatMap
 parts-listed (answered p) = flatMap-map (λ part. part) (listingPart p) (rising 0 (partCount p)) ∙ listing-parts p
 parts-listed (refused number kind at) = append-nil (line refusedWord (number ∷ at ∷ []))
@@ -47,15 +44,15 @@ module _ (t : List ℕ) where
   -- Before the first part the whole listing is left.
   pub whole-left : (b : Progress) → b .given ≡ 0 → remaining t b ≡ listing t
   unfolding remaining listing
-  whole-left b e = ap (λ (n : ℕ). all (drop n (partsOf (verdict t)))) e ∙ parts-listed (verdict t)
+  whole-left b e = ap (λ (n : ℕ). together (drop n (partsOf (verdict t)))) e ∙ parts-listed (verdict t)
 
   -- The parts given until none is left are what was left, and from the beginning the listing.
-  pub parts-given : (b : Progress) (parts : List (List ℕ)) → GivenParts t b parts → all parts ≡ remaining t b
+  pub parts-given : (b : Progress) (parts : List (List ℕ)) → GivenParts t b parts → together parts ≡ remaining t b
   unfolding flatMap
   parts-given b [] g = sym g
   parts-given b (part ∷ parts) (after, g, h) = ap (λ (rest : List ℕ). part ++ rest) (parts-given after parts h) ∙ g
 
-  pub listing-given : (b : Progress) (parts : List (List ℕ)) → remaining t b ≡ listing t → GivenParts t b parts → all parts ≡ listing t
+  pub listing-given : (b : Progress) (parts : List (List ℕ)) → remaining t b ≡ listing t → GivenParts t b parts → together parts ≡ listing t
   listing-given b parts e g = parts-given b parts g ∙ e
 
 abbrev begun : Shape → Counts → Progress
@@ -93,15 +90,15 @@ module _ (t : List ℕ) (b : Progress) where
   -- Where every part was given nothing is left.
   nothing-left : length (partsOf (verdict t)) ≤ b .given → remaining t b ≡ []
   unfolding remaining flatMap
-  nothing-left l = ap all (drop-of-length-le (partsOf (verdict t)) l)
+  nothing-left l = ap together (drop-of-length-le (partsOf (verdict t)) l)
 
   -- The part of the next number leaves the others.
   module _ (after : Progress) (e : after .given ≡ b .given + 1) (inside : b .given < length (partsOf (verdict t))) where
     gives-next : {part : List ℕ} → part ≡ getD (partsOf (verdict t)) (b .given) [] → Gives t b part after
     unfolding remaining flatMap
     gives-next {part} f =
-        (λ i. f i ++ all (drop (number i) (partsOf (verdict t))))
-        ∙ ap all (sym (drop-cons (partsOf (verdict t)) (b .given) [] inside))
+        (λ i. f i ++ together (drop (number i) (partsOf (verdict t))))
+        ∙ ap together (sym (drop-cons (partsOf (verdict t)) (b .given) [] inside))
       where
         number : after .given ≡ suc (b .given)
         number = omega (arith, e)
