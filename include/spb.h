@@ -2,7 +2,9 @@
  * two calls, no memory is allocated and none is written. The contracts, equations with the written rule, are proved:
  * crates/spb/src/exported.rt.
  *
- * `table` points to `len` bytes that can be read. */
+ * `table` points to `len` bytes that can be read. With `len` 0 it may be a null pointer: nothing is read then.
+ *
+ * A call needs less than 96 KiB of stack (reference/measure-stack). */
 #ifndef SPB_H
 #define SPB_H
 

@@ -11,6 +11,7 @@ pub mod Paths
 pub mod LeastPaths
 pub mod ChosenPaths
 pub mod Enumeration
+pub mod StoredPaths
 pub mod Agreement
 pub mod Moves
 pub mod Forwarding

@@ -1,22 +1,17 @@
--- What each part of a listing is, by its number, and that the parts one after the other are the listing of an accepted table; and the
--- listing of a refused one. Assumes nothing.
+-- What each part of a listing is, by its number, and that the parts one after the other are the listing of an accepted plan.
+-- Assumes nothing.
 use Prim.Native.Nat.{ℕ, suc, _+_, _-_, _/_, _%_, _≤_, _<_}
 use native.Mathlib.Omega.{arith}
 use mathlib.Core.Path.{_≡_, refl, sym, ap, _∙_}
 use mathlib.Core.List.{List, [], _∷_, _++_, flatMap}
-use mathlib.Core.Option.{Option}
 use lib.ListN.{length}
 use borrow.Author.Tests.{lt-ltb, le-ltb}
 use Rattle.graph.specs.Lists.{rising}
 use Rattle.graph.specs.laws.ListLaws.{rising-in, rising-both, by-places, flatMap-map, flatMap-append, flatMap-same, flatMap-from, flatMap-rows}
 use Rattle.rule.specs.Records.{Vid}
-use Rattle.rule.specs.Outcome.{answered, refused}
 use Rattle.rule.specs.Plan.{Plan, vidAt}
-use Rattle.rule.specs.Check.{verdict}
 use Rattle.rule.specs.Calls.{planEntries}
-use Rattle.text.specs.Text.{line}
-use Rattle.text.specs.CheckText.{refusedWord}
-use Rattle.lines.specs.Listing.{pathLines, entryLines, planListing, verdictListing, listing}
+use Rattle.lines.specs.Listing.{pathLines, entryLines, planListing}
 use Rattle.listed.specs.Parts.{pairCount, partCount, listingPart}
 
 module _ (p : Plan) where
@@ -59,13 +54,3 @@ module _ (p : Plan) where
       ∙ ap (flatMap (λ i. listingPart p (suc i))) (rising-both 0 (pairCount p) (length (p .bridges)))
       ∙ flatMap-append (λ i. listingPart p (suc i)) (rising 0 (pairCount p)) (rising (0 + pairCount p) (length (p .bridges)))
       ∙ (λ i. path-parts i ++ entry-parts i))
-
--- The same of a table by the verdict on it.
-module _ (t : List ℕ) where
-  pub accepted-listing : (p : Plan) → verdict t ≡ answered p → flatMap (listingPart p) (rising 0 (partCount p)) ≡ listing t
-  unfolding listing
-  accepted-listing p e = listing-parts p ∙ sym (ap verdictListing e)
-
-  pub refused-listing : (number : ℕ) (kind : Option ℕ) (at : ℕ) → verdict t ≡ refused number kind at → line refusedWord (number ∷ at ∷ []) ≡ listing t
-  unfolding listing
-  refused-listing number kind at e = sym (ap verdictListing e)
