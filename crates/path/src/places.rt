@@ -3,6 +3,7 @@ use crate::named::named_tree;
 use rule::answer::RecordKind;
 use rule::answer::TreeAnswer;
 use table::shape::Shape;
+use tree::label::cost_at;
 ghost use mathlib.Core.Path.{_≡_};
 ghost use mathlib.Core.List.{List, map};
 ghost use Prim.Native.Nat.{ℕ, _≤_, _<_};
@@ -22,7 +23,7 @@ fn place_number(labels: &[u32], part: usize, absent: u32, u: usize) -> u32
     requires { ⌜ (320 ≤ length (now labels)) × (part ≤ 192) × (u < 64) ⌝ }
     ensures { λ r. ⌜ r ≡ placeNumber (now (labels .entry)) part absent u ⌝ }
 {
-    if labels[64 + u] == 4294967295 {
+    if cost_at(labels, u).is_no_path() {
         return absent;
     }
     labels[part + u]

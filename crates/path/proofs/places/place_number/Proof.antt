@@ -1,22 +1,23 @@
 -- `path::places::place_number` reads one number of a label. Assumes nothing.
-use borrow.Author.Needs.{needs}
-use native.Mathlib.Omega.{arith}
 use mathlib.Core.Path.{refl}
 use borrow.Author.Tests.{eq-eqb, ne-eqb}
+use Rattle.rule.specs.Measures.{noPathCost}
+use Rattle.rule.specs.laws.MeasureLaws.{no-path, a-path}
+use borrow.Author.Needs.{needs}
 use Rattle.path.proofs.places.place_number.Statement.{statement}
 use Rattle.path.proofs.places.place_number.Tie as tie
 
-add-if1 : tie.Need-add-if1
-add-if1 c = search needs
+cost-at-requires : tie.Need-cost-at-requires
+cost-at-requires c κs = search needs
 
-mul-if1 : tie.Need-mul-if1
-mul-if1 c = search needs
-
-shared-slice-read-if1 : tie.Need-shared-slice-read-if1
-shared-slice-read-if1 c = search needs
+is-no-path-requires : tie.Need-is-no-path-requires
+is-no-path-requires c κs = search needs
 
 returns : tie.Need-returns
-returns c = rw (eq-eqb _ 4294967295 (c .if1 .taken)) refl
+returns c =
+    let at-is-no-path = c .before in
+    let at-cost-at = at-is-no-path .before in
+    rw (eq-eqb _ noPathCost (no-path (at-cost-at .cost-at .ensures) (at-is-no-path .is-no-path .ensures) (c .if1 .taken))) refl
 
 add-result : tie.Need-add-result
 add-result c = search needs
@@ -28,15 +29,18 @@ shared-slice-read-result : tie.Need-shared-slice-read-result
 shared-slice-read-result c = search needs
 
 returns-2 : tie.Need-returns-2
-returns-2 c = rw (ne-eqb _ 4294967295 (c .before .if1 .left)) refl
+returns-2 c =
+    let at-if1 = c .before in
+    let at-is-no-path = at-if1 .before in
+    let at-cost-at = at-is-no-path .before in
+    rw (ne-eqb _ noPathCost (a-path (at-cost-at .cost-at .ensures) (at-is-no-path .is-no-path .ensures) (at-if1 .if1 .left))) refl
 
 pub place-number-spec : {M : Type 1} → statement M
 place-number-spec =
     tie.close
     (tie.spec
-    add-if1
-    mul-if1
-    shared-slice-read-if1
+    cost-at-requires
+    is-no-path-requires
     returns
     add-result
     mul-result
