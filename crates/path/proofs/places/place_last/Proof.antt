@@ -1,11 +1,11 @@
--- `path::places::place_number` reads one number of a label. Assumes nothing.
+-- `path::places::place_last` gives the next hop of a label, or 65,535. Assumes nothing.
 use mathlib.Core.Path.{refl}
 use borrow.Author.Tests.{eq-eqb, ne-eqb}
 use Rattle.rule.specs.Measures.{noPathCost}
 use Rattle.rule.specs.laws.MeasureLaws.{no-path, a-path}
 use borrow.Author.Needs.{needs}
-use Rattle.path.proofs.places.place_number.Statement.{statement}
-use Rattle.path.proofs.places.place_number.Tie as tie
+use Rattle.path.proofs.places.place_last.Statement.{statement}
+use Rattle.path.proofs.places.place_last.Tie as tie
 
 cost-at-requires : tie.Need-cost-at-requires
 cost-at-requires c κs = search needs
@@ -35,8 +35,8 @@ returns-2 c =
     let at-cost-at = at-is-no-path .before in
     rw (ne-eqb _ noPathCost (a-path (at-cost-at .cost-at .ensures) (at-is-no-path .is-no-path .ensures) (at-if1 .if1 .left))) refl
 
-pub place-number-spec : {M : Type 1} → statement M
-place-number-spec =
+pub place-last-spec : {M : Type 1} → statement M
+place-last-spec =
     tie.close
     (tie.spec
     cost-at-requires
