@@ -2,6 +2,8 @@
 // into 3 places fits, into 2 gives 13".
 use crate::plan::put_word;
 use rule::answer::PathAnswer;
+use rule::measure::Cost;
+use rule::measure::Hops;
 use spb::paths::path;
 use text::fields::write_byte;
 use text::fields::write_field;
@@ -134,13 +136,13 @@ fn write_words(words: &[u32], table: &mut [u8])
 }
 
 // `path`, cost, hops and the places of the list.
-fn write_given(cost: u32, hops: u32, list: &[u32], line: &mut [u8], at: usize) -> usize
+fn write_given(cost: Cost, hops: Hops, list: &[u32], line: &mut [u8], at: usize) -> usize
     requires { ⌜ at + 27 + 11 * length (now list) ≤ length (now line) ⌝ }
     ensures { λ r. ⌜ r ≤ at + 27 + 11 * length (now (list .entry)) ⌝ }
 {
     let after_word = write_word(b"path", line, at);
-    let after_cost = write_field(cost, line, after_word);
-    let after_hops = write_field(hops, line, after_cost);
+    let after_cost = write_field(cost.0, line, after_word);
+    let after_hops = write_field(hops.0, line, after_cost);
     let after_list = write_fields(list, line, after_hops);
     write_byte(b'\n', line, after_list)
 }
@@ -151,7 +153,7 @@ fn write_answer(answer: PathAnswer, list: &[u32], line: &mut [u8], at: usize) ->
     ensures { λ r. ⌜ r ≤ at + 27 + 11 * length (now (list .entry)) ⌝ }
 {
     match answer {
-        PathAnswer::Given { cost, hops } => write_given(cost.0, hops.0, list, line, at),
+        PathAnswer::Given { cost, hops } => write_given(cost, hops, list, line, at),
         PathAnswer::Refused {
             number,
             kind: _,

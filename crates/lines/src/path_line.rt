@@ -60,16 +60,8 @@ pub fn write_path_line(
     let answer = labelled_path(labels, from, &mut list);
     match answer {
         PathAnswer::Given { cost, hops } => {
-            write_given_path(
-                vid,
-                from,
-                to,
-                cost,
-                hops,
-                &list[..hops.0 as usize + 1],
-                out,
-                at,
-            )
+            let count = hops.bridges();
+            write_given_path(vid, from, to, cost, hops, &list[..count], out, at)
         }
         PathAnswer::Refused { .. } => write_none(vid, from, to, out, at),
     }

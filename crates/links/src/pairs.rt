@@ -18,11 +18,11 @@ fn lesser(a: u64, b: u64) -> u64
 }
 
 // The number of a hop: the lower of two is the cheaper, of equals that with the lower link number.
-fn hop_number(cost: u32, link: u32, port: u32) -> u64
-    requires { ⌜ (cost < 16777216) × (link < 65536) × (port < 65536) ⌝ }
-    ensures { λ r. ⌜ r ≡ hopNumber cost link port ⌝ }
+fn hop_number(metric: Metric, link: u32, port: u32) -> u64
+    requires { ⌜ (metric .0 < 16777216) × (link < 65536) × (port < 65536) ⌝ }
+    ensures { λ r. ⌜ r ≡ hopNumber (metric .0) link port ⌝ }
 {
-    (cost as u64 * 65536 + link as u64) * 4096 + port as u64
+    (metric.0 as u64 * 65536 + link as u64) * 4096 + port as u64
 }
 
 // No hop between the first `n` bridges.
@@ -46,11 +46,11 @@ fn offer(table: &[u8], s: Shape, links: &[u32], pairs: &mut [u64], i: usize)
     let at = 64 * h.near as usize + h.far as usize;
     let link = h.link;
     let port = h.port;
-    let cost = link_metric(table, s, links, i, h).0;
-    if !Metric(cost).is_usable() {
+    let metric = link_metric(table, s, links, i, h);
+    if !metric.is_usable() {
         return;
     }
-    pairs[at] = lesser(pairs[at], hop_number(cost, link, port));
+    pairs[at] = lesser(pairs[at], hop_number(metric, link, port));
 }
 
 // The hops between all bridges: each by the cheapest usable link, of equals the lower link number.

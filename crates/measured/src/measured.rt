@@ -5,10 +5,12 @@ use network::records::write_identifiers;
 use rule::answer::EntriesAnswer;
 use rule::answer::PathAnswer;
 use rule::answer::TreeAnswer;
+use rule::measure::Cost;
 use spb::entry_lists::entries;
 use spb::paths::path;
 use spb::trees::tree;
 use table::shape::Shape;
+use tree::label::cost_at;
 use verdict::examine::Examined;
 use verdict::examine::examine;
 ghost use Prim.Native.Nat.{_≤_};
@@ -91,7 +93,7 @@ fn make_trees(
 }
 
 // Makes the lists of a table that passed the check, and the trees of its first `count` bridges. Gives the last tree's cost of bridge 0.
-fn trees_of_table(table: &[u8], s: Shape, links: &[u32], count: usize) -> u32
+fn trees_of_table(table: &[u8], s: Shape, links: &[u32], count: usize) -> Cost
     requires { ⌜ Checked (now table) (now links) s × (count ≤ s .bridges) ⌝ }
 {
     let mut pairs = [0u64; 4096];
@@ -123,7 +125,7 @@ fn trees_of_table(table: &[u8], s: Shape, links: &[u32], count: usize) -> u32
         &mut labels,
         &mut rows,
     );
-    labels[64]
+    cost_at(&labels, 0)
 }
 
 // One check, the lists of the table once, and the trees of its first `count` bridges.
@@ -136,7 +138,7 @@ pub extern "C" fn measured_trees(table: &[u8], count: u32) -> u32 {
             if s.bridges < count as usize {
                 return 0;
             }
-            trees_of_table(table, s, &links, count as usize)
+            trees_of_table(table, s, &links, count as usize).0
         }
         Examined::Refused {
             number,

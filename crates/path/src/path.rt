@@ -3,8 +3,9 @@ use crate::named::named_tree;
 use rule::answer::PathAnswer;
 use rule::answer::RecordKind;
 use rule::measure::Cost;
-use rule::measure::Hops;
 use table::shape::Shape;
+use tree::label::cost_at;
+use tree::label::hops_at;
 ghost use mathlib.Core.Path.{_≡_};
 ghost use mathlib.Core.List.{List};
 ghost use Prim.Native.Nat.{ℕ, _≤_};
@@ -51,19 +52,19 @@ pub fn labelled_path(labels: &[u32], from: u32, list: &mut [u32]) -> PathAnswer
     ensures { λ r. ⌜ _≡_ {A = Outcome CostAndHops × List ℕ} (pathValues r, now (list .exit)) (lentTo (now (list .entry)) (labelledPath (now (labels .entry)) from)) ⌝ }
 {
     let place = from as usize;
-    let cost = labels[64 + place];
-    if cost == 4294967295 {
+    let cost = cost_at(labels, place);
+    if cost.is_no_path() {
         return refused(12);
     }
-    let hops = labels[128 + place];
-    let count = hops as usize + 1;
+    let hops = hops_at(labels, place);
+    let count = hops.bridges();
     if list.len() < count {
         return refused(13);
     }
     write_path(labels, from, count, list);
     PathAnswer::Given {
-        cost: Cost(cost),
-        hops: Hops(hops),
+        cost: cost,
+        hops: hops,
     }
 }
 
@@ -103,11 +104,11 @@ pub fn path_cost_in_table(
     let mut labels = [0u32; 320];
     let index = named_tree(table, s, links, vid, from, to, &mut labels);
     if index == 0 {
-        return 4294967307;
+        return Cost::REFUSED + 11;
     }
-    let cost = labels[64 + from as usize];
-    if cost == 4294967295 {
-        return 4294967308;
+    let cost = cost_at(&labels, from as usize);
+    if cost.is_no_path() {
+        return Cost::REFUSED + 12;
     }
-    cost as u64
+    cost.exported()
 }

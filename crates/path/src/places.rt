@@ -2,40 +2,67 @@
 use crate::named::named_tree;
 use rule::answer::RecordKind;
 use rule::answer::TreeAnswer;
+use rule::measure::Cost;
+use rule::measure::Hops;
 use table::shape::Shape;
+use tree::label::cost_at;
+use tree::label::hops_at;
 ghost use mathlib.Core.Path.{_≡_};
-ghost use mathlib.Core.List.{List, map};
+ghost use mathlib.Core.List.{List};
 ghost use Prim.Native.Nat.{ℕ, _≤_, _<_};
 ghost use lib.ListN.{length};
-ghost use Rattle.graph.specs.Lists.{rising, spliced};
 ghost use Rattle.rule.specs.Words.{wordsOf};
 ghost use Rattle.rule.specs.Outcome.{Outcome, answered, refusedAs};
 ghost use Rattle.rule.specs.Answers.{treeValues};
 ghost use Rattle.rule.specs.Calls.{lentToThree, planPlaces};
 ghost use Rattle.table.specs.Positions.{planAt};
 ghost use Rattle.links.specs.Mates.{Checked};
-ghost use Rattle.path.specs.Places.{placeNumber, labelledPlaces};
+ghost use Rattle.path.specs.Places.{placeAt, PlacesWritten, labelledPlaces};
 
-// One number of the place of the bridge `u`: what its label has in the part of the labels that begins at `part`, or `absent` where the
-// bridge has no path.
-fn place_number(labels: &[u32], part: usize, absent: u32, u: usize) -> u32
-    requires { ⌜ (320 ≤ length (now labels)) × (part ≤ 192) × (u < 64) ⌝ }
-    ensures { λ r. ⌜ r ≡ placeNumber (now (labels .entry)) part absent u ⌝ }
+// The cost of the path to the bridge `u`, 0 where there is none.
+fn place_cost(labels: &[u32], u: usize) -> Cost
+    requires { ⌜ (320 ≤ length (now labels)) × (u < 64) ⌝ }
+    ensures { λ r. ⌜ r .0 ≡ placeAt (now (labels .entry)) u .cost ⌝ }
 {
-    if labels[64 + u] == 4294967295 {
-        return absent;
+    let cost = cost_at(labels, u);
+    if cost.is_no_path() {
+        return Cost(0);
     }
-    labels[part + u]
+    cost
 }
 
-// Writes that number of each of the first `n` bridges to the front of a lent list.
-fn write_numbers(labels: &[u32], part: usize, absent: u32, n: usize, list: &mut [u32])
-    requires { ⌜ (320 ≤ length (now labels)) × (part ≤ 192) × (n ≤ 64) × (n ≤ length (now list)) ⌝ }
-    ensures { λ _. ⌜ now (list .exit) ≡ spliced (now (list .entry)) 0 (map (placeNumber (now (labels .entry)) part absent) (rising 0 n)) ⌝ }
+// Its hops, 0 where there is none.
+fn place_hops(labels: &[u32], u: usize) -> Hops
+    requires { ⌜ (320 ≤ length (now labels)) × (u < 64) ⌝ }
+    ensures { λ r. ⌜ r .0 ≡ placeAt (now (labels .entry)) u .hops ⌝ }
+{
+    if cost_at(labels, u).is_no_path() {
+        return Hops(0);
+    }
+    hops_at(labels, u)
+}
+
+// Its last bridge but one, 65,535 where there is none.
+fn place_last(labels: &[u32], u: usize) -> u32
+    requires { ⌜ (320 ≤ length (now labels)) × (u < 64) ⌝ }
+    ensures { λ r. ⌜ r ≡ placeAt (now (labels .entry)) u .last ⌝ }
+{
+    if cost_at(labels, u).is_no_path() {
+        return 65535;
+    }
+    labels[192 + u]
+}
+
+// Writes the places of the first `n` bridges to the fronts of the lent lists.
+fn write_places(labels: &[u32], n: usize, costs: &mut [u32], hops: &mut [u32], lasts: &mut [u32])
+    requires { ⌜ (320 ≤ length (now labels)) × (n ≤ 64) × (n ≤ length (now costs)) × (n ≤ length (now hops)) × (n ≤ length (now lasts)) ⌝ }
+    ensures { λ _. ⌜ PlacesWritten (now (labels .entry)) n (now (costs .entry)) (now (hops .entry)) (now (lasts .entry)) (now (costs .exit)) (now (hops .exit)) (now (lasts .exit)) ⌝ }
 {
     let mut u = 0;
     while u < n {
-        list[u] = place_number(labels, part, absent, u);
+        costs[u] = place_cost(labels, u).0;
+        hops[u] = place_hops(labels, u).0;
+        lasts[u] = place_last(labels, u);
         u += 1;
     }
 }
@@ -71,9 +98,7 @@ pub fn labelled_places(
     if lasts.len() < n {
         return refused(13);
     }
-    write_numbers(labels, 64, 0, n, costs);
-    write_numbers(labels, 128, 0, n, hops);
-    write_numbers(labels, 192, 65535, n, lasts);
+    write_places(labels, n, costs, hops, lasts);
     TreeAnswer::Given { bridges: n as u32 }
 }
 

@@ -1,4 +1,7 @@
 // Rows of ports by which the chosen paths from a root leave a bridge, from the labels of the root's tree.
+use rule::measure::Hops;
+use tree::label::cost_at;
+use tree::label::hops_at;
 ghost use mathlib.Core.Path.{_≡_};
 ghost use Prim.Native.Nat.{_+_, _≤_};
 ghost use lib.ListN.{length};
@@ -10,11 +13,11 @@ fn leaving_port(labels: &[u32], hops: &[u16], b: u32, d: usize) -> u16
     requires { ⌜ WalkableFrom (now labels) d × (320 ≤ length (now labels)) × (64 ≤ length (now hops)) ⌝ }
     ensures { λ r. ⌜ r ≡ leavingBy (now (labels .entry)) (now (hops .entry)) b d ⌝ }
 {
-    if labels[64 + d] == 4294967295 {
+    if cost_at(labels, d).is_no_path() {
         return 0;
     }
     let mut c = d;
-    while 0 < labels[128 + c] {
+    while hops_at(labels, c).differs(Hops(0)) {
         let next = labels[192 + c];
         if next == b {
             return hops[c];

@@ -2,6 +2,7 @@
 pub mod Accepted
 pub mod OneRecord
 pub mod LinkLaws
+pub mod MeasureLaws
 pub mod IdentifierLaws
 pub mod EntryLaws
 pub mod WrittenLists

@@ -1,5 +1,6 @@
 // The functions for the C screens, over numbers and byte slices (01, "Calls"). include/spb.h declares them.
 use path::path::path_cost_in_table;
+use rule::measure::Cost;
 use verdict::examine::Examined;
 use verdict::examine::examine;
 ghost use mathlib.Core.Path.{_≡_};
@@ -35,6 +36,6 @@ pub extern "C" fn spb_path_cost(table: &[u8], vid: u32, from: u32, to: u32) -> u
             number,
             kind: _,
             word: _,
-        } => 4294967296 + number as u64,
+        } => Cost::REFUSED + number as u64,
     }
 }

@@ -11,11 +11,12 @@ use lib.ListN.{getD, set}
 use Rattle.graph.specs.Lists.{spliced}
 use Rattle.graph.specs.Order.{isLower, insertUpward}
 use Rattle.graph.specs.Lookups.{State}
+use Rattle.rule.specs.Measures.{noPathCost}
 use Rattle.ect.specs.Rows.{rowPlace, rowOf}
 
--- The greatest number of 32 bits stands for no cost: a bridge that has no label, or one that no longer waits.
+-- What stands for no cost: a bridge that has no label, or one that no longer waits.
 abbrev pub noCost : ℕ
-noCost = 4294967295
+noCost = noPathCost
 
 pub record Label : Type 0 where
   pub waits : ℕ

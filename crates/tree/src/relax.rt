@@ -1,5 +1,8 @@
 // Relaxing: each neighbour of a settled bridge is offered the way through it, and takes it where it ranks below its label
 // (01, "The chosen path": "the least cost, then the fewest hops, then the lowest masked PATHID").
+use crate::label::cost_at;
+use crate::label::hops_at;
+use crate::label::next_at;
 use ect::row::is_lower_row;
 use rule::measure::Cost;
 use rule::measure::Hops;
@@ -21,16 +24,15 @@ fn is_lower_offer(
     requires { ⌜ Comparable (now labels) (now rows) via v (cost .0) (hops .0) ⌝ }
     ensures { λ r. ⌜ r ≡ isLower (offerRank (now (rows .entry)) via (cost .0) (hops .0)) (labelRank (now (rows .entry)) (labelAt (now (labels .entry)) v)) ⌝ }
 {
-    let old_cost = labels[64 + v];
-    if cost.0 != old_cost {
-        return cost.0 < old_cost;
+    let old_cost = cost_at(labels, v);
+    if cost.differs(old_cost) {
+        return cost.is_below(old_cost);
     }
-    let old_hops = labels[128 + v];
-    if hops.0 != old_hops {
-        return hops.0 < old_hops;
+    let old_hops = hops_at(labels, v);
+    if hops.differs(old_hops) {
+        return hops.is_below(old_hops);
     }
-    let next = labels[192 + v] as usize;
-    is_lower_row(rows, via, next, hops.0 as usize)
+    is_lower_row(rows, via, next_at(labels, v), hops.count())
 }
 
 // Offers the bridge `v` the way through the bridge `via`.
@@ -38,14 +40,12 @@ fn relax(labels: &mut [u32], rows: &[u64], via: usize, v: usize, cost: Cost, hop
     requires { ⌜ Comparable (now labels) (now rows) via v (cost .0) (hops .0) ⌝ }
     ensures { λ _. ⌜ now (labels .exit) ≡ relaxed (now (labels .entry)) (now (rows .entry)) via v (cost .0) (hops .0) ⌝ }
 {
-    let new_cost = cost.0;
-    let new_hops = hops.0;
     if !is_lower_offer(&labels[..], rows, via, v, cost, hops) {
         return;
     }
-    labels[v] = new_cost;
-    labels[64 + v] = new_cost;
-    labels[128 + v] = new_hops;
+    labels[v] = cost.0;
+    labels[64 + v] = cost.0;
+    labels[128 + v] = hops.0;
     labels[192 + v] = via as u32;
 }
 
@@ -61,13 +61,12 @@ pub fn relax_all(
     requires { ⌜ Relaxable (now starts) (now neighbours) (now costs) (now rows) (now labels) via ⌝ }
     ensures { λ _. ⌜ Relaxed (now (starts .entry)) (now (neighbours .entry)) (now (costs .entry)) (now (rows .entry)) via (now (labels .entry)) (now (labels .exit)) ⌝ }
 {
-    let far = labels[64 + via];
-    let steps = labels[128 + via];
+    let far = cost_at(&labels[..], via);
+    let hops = hops_at(&labels[..], via).plus(Hops(1));
     let end = starts[via + 1] as usize;
     let mut i = starts[via] as usize;
     while i < end {
-        let cost = Cost(far).plus(Cost(costs[i]));
-        let hops = Hops(steps).plus(Hops(1));
+        let cost = far.plus(Cost(costs[i]));
         relax(labels, rows, via, neighbours[i] as usize, cost, hops);
         i += 1;
     }

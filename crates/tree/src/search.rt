@@ -5,9 +5,10 @@ use crate::nearest::least_waiting;
 use crate::relax::relax_all;
 use crate::settle::begin;
 use crate::settle::settle;
+use rule::measure::Cost;
 ghost use Prim.Native.Nat.{_≤_, _<_};
 ghost use lib.ListN.{length};
-ghost use Rattle.tree.specs.Labels.{LeastOf};
+ghost use Rattle.tree.specs.Labels.{noCost, LeastOf};
 ghost use Rattle.tree.specs.Trees.{Represented, IsTree};
 ghost use Rattle.tree.specs.Tracked.{Underway, openBridges};
 
@@ -21,9 +22,9 @@ fn advance(
     rows: &mut [u64],
     n: usize,
     root: usize,
-    least: u32,
+    least: Cost,
 )
-    requires { ⌜ Underway n (now starts) (now neighbours) (now costs) (now keys) root (now labels) (now rows) × LeastOf (now labels) n least × (least < 4294967295) ⌝ }
+    requires { ⌜ Underway n (now starts) (now neighbours) (now costs) (now keys) root (now labels) (now rows) × LeastOf (now labels) n (least .0) × (least .0 < noCost) ⌝ }
     ensures { λ _. ⌜ Underway n (now (starts .entry)) (now (neighbours .entry)) (now (costs .entry)) (now (keys .entry)) root (now (labels .exit)) (now (rows .exit)) × (openBridges n (now (labels .exit)) < openBridges n (now (labels .entry))) ⌝ }
 {
     let u = first_waiting(&labels[..], n, least);
@@ -32,7 +33,7 @@ fn advance(
 }
 
 // For each of the `n` bridges the cost, the hops, the next hop towards the root and the first hop from the root of its chosen path to
-// the root; the greatest number as the cost where no path exists.
+// the root; `Cost::NO_PATH` where no path exists.
 pub fn tree(
     starts: &[u32],
     neighbours: &[u32],
@@ -49,7 +50,7 @@ pub fn tree(
     begin(labels, rows, keys, n, root);
     relax_all(starts, neighbours, costs, &rows[..], labels, root);
     let mut least = least_waiting(&labels[..], n);
-    while least < 4294967295 {
+    while least.is_below(Cost::NO_PATH) {
         advance(
             starts,
             neighbours,

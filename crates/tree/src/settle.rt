@@ -1,5 +1,8 @@
 // Settling: a bridge gets its row and its first hop from the root, and waits no more.
+use crate::label::hops_at;
+use crate::label::next_at;
 use ect::row::insert_row;
+use rule::measure::Cost;
 ghost use mathlib.Core.Path.{_≡_};
 ghost use mathlib.Core.Bool.{cond};
 ghost use lib.Dec.{eqb};
@@ -20,10 +23,10 @@ pub fn settle(labels: &mut [u32], rows: &mut [u64], keys: &[u64], root: usize, u
     requires { ⌜ Settleable (now labels) (now rows) (now keys) u ⌝ }
     ensures { λ _. ⌜ (now (labels .exit) ≡ settledLabels (now (labels .entry)) root u) × (now (rows .exit) ≡ settledRows (now (labels .entry)) (now (rows .entry)) u (getD (now (keys .entry)) u 0)) ⌝ }
 {
-    let next = labels[192 + u] as usize;
-    insert_row(rows, next, u, labels[128 + u] as usize, keys[u]);
+    let next = next_at(&labels[..], u);
+    insert_row(rows, next, u, hops_at(&labels[..], u).count(), keys[u]);
     labels[256 + u] = first_hop(u as u32, next, root, labels[256 + next]);
-    labels[u] = 4294967295;
+    labels[u] = Cost::NO_PATH.0;
 }
 
 // No bridge has a label.
@@ -33,8 +36,8 @@ fn clear(labels: &mut [u32], n: usize)
 {
     let mut u = 0;
     while u < n {
-        labels[u] = 4294967295;
-        labels[64 + u] = 4294967295;
+        labels[u] = Cost::NO_PATH.0;
+        labels[64 + u] = Cost::NO_PATH.0;
         u += 1;
     }
 }

@@ -1,6 +1,6 @@
 -- Laws of path lines: what the labels of a tree answer, by the answer given and the later contents of a list that holds every path.
 -- Assumes nothing.
-use Prim.Native.Nat.{ℕ, _+_, _<_}
+use Prim.Native.Nat.{ℕ, _+_, _≤_}
 use native.Mathlib.Omega.{arith}
 use mathlib.Core.Path.{_≡_, refl, sym, ap, _∙_}
 use mathlib.Core.List.{List, _++_, append-assoc}
@@ -35,29 +35,30 @@ module _ (labels : List ℕ) (u : ℕ) (F : Followable labels u) (old now : List
   abbrev Answered : Outcome CostAndHops → Type 0
   Answered o = _≡_ {A = Outcome CostAndHops × List ℕ} (o, now) (lentTo old (labelledPath labels u))
 
-  -- A path given: the front of the list has its bridges.
+  -- A path given: the front of the list has its bridges, `count` in all.
   pub given-path : (o : Outcome CostAndHops) → Answered o → (cost hops : ℕ) → o ≡ answered (record { cost = cost; hops = hops })
-      → (hops < 64)
+      → {count : ℕ} → count ≡ hops + 1
+      → (count ≤ 64)
       × (_≡_ {A = Outcome (Written CostAndHops)}
-      (answered (record { values = record { cost = cost; hops = hops }; words = take (hops + 1) now })) (labelledPath labels u))
-  given-path o a cost hops f = go (same-or-not (labelAt labels u .far) noCost)
+      (answered (record { values = record { cost = cost; hops = hops }; words = take count now })) (labelledPath labels u))
+  given-path o a cost hops f {count} counted = go (same-or-not (labelAt labels u .far) noCost)
     where
       e : Answered (answered (record { cost = cost; hops = hops }))
       e = (λ i. (sym f i, now)) ∙ a
 
       go : (labelAt labels u .far ≡ noCost) ⊎ (labelAt labels u .far ≡ noCost → ⊥)
-          → (hops < 64)
+          → (count ≤ 64)
           × (_≡_ {A = Outcome (Written CostAndHops)}
-          (answered (record { values = record { cost = cost; hops = hops }; words = take (hops + 1) now })) (labelledPath labels u))
+          (answered (record { values = record { cost = cost; hops = hops }; words = take count now })) (labelledPath labels u))
       go (inl d) =
           absurd (refused-not-answered (sym (ap (λ (z : Outcome CostAndHops × List ℕ). z .0) (rw (eq-eqb (labelAt labels u .far) noCost d) at e))))
       go (inr d) =
           let says = lent-says old (record { values = record { cost = labelAt labels u .far; hops = labelAt labels u .steps }; words = bridges })
           (record { cost = cost; hops = hops }) now (sym (rw (ne-eqb (labelAt labels u .far) noCost d) at e))
           in let same : labelAt labels u .steps ≡ hops = ap (λ (v : CostAndHops). v .hops) (says .0)
-          in let front : take (hops + 1) now ≡ bridges =
-          ap (λ (t : List ℕ). take (hops + 1) t) (sym (says .1))
-          ∙ ap (λ (k : ℕ). take k (overwritten bridges old)) {x = hops + 1} {y = length bridges} (omega (arith, same, many))
+          in let front : take count now ≡ bridges =
+          ap (λ (t : List ℕ). take count t) (sym (says .1))
+          ∙ ap (λ (k : ℕ). take k (overwritten bridges old)) {x = count} {y = length bridges} (omega (arith, same, many))
           ∙ take-append-seam bridges (drop (length bridges) old)
           in (
             omega (arith, F .few d, same),

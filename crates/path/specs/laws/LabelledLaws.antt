@@ -94,14 +94,6 @@ module _ (p : Plan) (L : PlanLaws p) (index root : ℕ) (labels : List ℕ) (T :
             words = (ap (λ (k : ℕ). followed labels u (k + 1)) s ∙ f) i;
           })
 
-  pub cost-fits : labelAt labels u .far ≤ noCost
-  cost-fits = go (chosen (graphOf p) (keyOf p index) u root) refl (T .each u h)
-    where
-      go : (o : Option (List ℕ)) → chosen (graphOf p) (keyOf p index) u root ≡ o → SaysPath (graphOf p) o (labelAt labels u)
-          → labelAt labels u .far ≤ noCost
-      go none e f = omega (arith, f)
-      go (some q) e (c, s, n, f) = omega (arith, path-cheaper q (chosen-says q e) .0)
-
   pub tree-followable : Followable labels u
   tree-followable = record {
     place = omega (arith, L .bridges .few);
@@ -123,23 +115,30 @@ module _ (labels : List ℕ) (u : ℕ) (old : List ℕ) where
       → _≡_ {A = Outcome CostAndHops × List ℕ} (o, old) (lentTo old (labelledPath labels u))
   no-path-labelled o f e = rw (f, eq-eqb (labelAt labels u .far) noCost e) refl
 
-  module _ (d : labelAt labels u .far ≡ noCost → ⊥) where
+  -- A path, of which `hops` was read, and how many bridges it has.
+  module _ (d : labelAt labels u .far ≡ noCost → ⊥) {hops count : ℕ} (read-hops : hops ≡ labelAt labels u .steps) (counted : count ≡ hops + 1) where
+    count-is : count ≡ labelAt labels u .steps + 1
+    count-is = omega arith
+
     bridges-labelled : length (followed labels u (labelAt labels u .steps + 1)) ≡ labelAt labels u .steps + 1
     bridges-labelled = followed-length labels u (labelAt labels u .steps + 1)
 
-    pub list-too-short : (o : Outcome CostAndHops) → o ≡ refusedAs 13 → length old < labelAt labels u .steps + 1
+    pub bridges-inside : Followable labels u → Inside labels u count
+    bridges-inside F = rw count-is (F .inside d)
+
+    pub list-too-short : (o : Outcome CostAndHops) → o ≡ refusedAs 13 → length old < count
         → _≡_ {A = Outcome CostAndHops × List ℕ} (o, old) (lentTo old (labelledPath labels u))
     list-too-short o f h =
-        rw (f, ne-eqb (labelAt labels u .far) noCost d, bridges-labelled, lt-leb (labelAt labels u .steps + 1) (length old) h) refl
+        rw (f, ne-eqb (labelAt labels u .far) noCost d, bridges-labelled, lt-leb (labelAt labels u .steps + 1) (length old) (omega arith)) refl
 
-    pub path-written : (new : List ℕ) → labelAt labels u .steps + 1 ≤ length old
-        → new ≡ spliced old 0 (followed labels u (labelAt labels u .steps + 1))
+    pub path-written : {cost : ℕ} → cost ≡ labelAt labels u .far → (new : List ℕ) → count ≤ length old
+        → new ≡ spliced old 0 (followed labels u count)
         → _≡_ {A = Outcome CostAndHops × List ℕ}
-        (answered (record { cost = labelAt labels u .far; hops = labelAt labels u .steps }), new)
+        (answered (record { cost = cost; hops = hops }), new)
         (lentTo old (labelledPath labels u))
-    path-written new h e =
+    path-written read-cost new h e =
         rw (ne-eqb (labelAt labels u .far) noCost d, le-leb (length (followed labels u (labelAt labels u .steps + 1))) (length old) (omega (arith, bridges-labelled)))
-        (λ i. (answered (record { cost = labelAt labels u .far; hops = labelAt labels u .steps }), (e ∙ front) i))
+        (λ i. (answered (record { cost = read-cost i; hops = read-hops i }), (e ∙ ap (λ (k : ℕ). spliced old 0 (followed labels u k)) count-is ∙ front) i))
       where
         front : spliced old 0 (followed labels u (labelAt labels u .steps + 1)) ≡ overwritten (followed labels u (labelAt labels u .steps + 1)) old
         front =

@@ -34,7 +34,7 @@ use Rattle.tree.specs.Labels.{noCost, labelAt}
 use Rattle.tree.specs.Trees.{SaysPath, nextOf}
 use Rattle.network.specs.PlanLists.{PlanTree}
 use Rattle.path.specs.laws.LabelledLaws.{path-cheaper}
-use Rattle.path.specs.Places.{placeNumber, placeAt, labelledPlaces}
+use Rattle.path.specs.Places.{placeAt, PlacesWritten, labelledPlaces}
 
 -- One number of each of the first `i` bridges is written to the front of the list.
 pub record Filling (f : ℕ → ℕ) (before now : List ℕ) (n i : ℕ) : Type 0 where
@@ -103,16 +103,14 @@ module _ (labels : List ℕ) (n : ℕ) (costs hopCounts lasts : List ℕ) where
       fields (u ∷ us) = λ i. e u i ∷ fields us i
 
   pub places-written : (costs′ hopCounts′ lasts′ : List ℕ) → n ≤ length costs → n ≤ length hopCounts → n ≤ length lasts
-      → costs′ ≡ spliced costs 0 (map (placeNumber labels 64 0) (rising 0 n))
-      → hopCounts′ ≡ spliced hopCounts 0 (map (placeNumber labels 128 0) (rising 0 n))
-      → lasts′ ≡ spliced lasts 0 (map (placeNumber labels 192 65535) (rising 0 n))
+      → PlacesWritten labels n costs hopCounts lasts costs′ hopCounts′ lasts′
       → _≡_ {A = Outcome ℕ × List ℕ × List ℕ × List ℕ} (answered n, costs′, hopCounts′, lasts′) (lentToThree costs hopCounts lasts (answered (labelledPlaces labels n)))
-  places-written costs′ hopCounts′ lasts′ h k l c d e =
+  places-written costs′ hopCounts′ lasts′ h k l W =
       rw (fits) (λ i. (
         answered (sym many i),
-        (c ∙ front (placeNumber labels 64 0) (λ q. q .cost) (λ u. refl) costs) i,
-        (d ∙ front (placeNumber labels 128 0) (λ q. q .hops) (λ u. refl) hopCounts) i,
-        (e ∙ front (placeNumber labels 192 65535) (λ q. q .last) (λ u. refl) lasts) i,
+        (W .costs-are ∙ front (λ u. placeAt labels u .cost) (λ q. q .cost) (λ u. refl) costs) i,
+        (W .hops-are ∙ front (λ u. placeAt labels u .hops) (λ q. q .hops) (λ u. refl) hopCounts) i,
+        (W .lasts-are ∙ front (λ u. placeAt labels u .last) (λ q. q .last) (λ u. refl) lasts) i,
       ))
     where
       fits : leb (length (labelledPlaces labels n)) (length costs) && leb (length (labelledPlaces labels n)) (length hopCounts) && leb (length (labelledPlaces labels n)) (length lasts) ≡ true

@@ -1,5 +1,5 @@
 -- What the labels of the tree that a call names answer is what the plan answers to that call. Assumes nothing.
-use Prim.Native.Nat.{ℕ, _≤_, _<_}
+use Prim.Native.Nat.{ℕ, _+_, _≤_, _<_}
 use native.Mathlib.Omega.{arith}
 use mathlib.Core.Path.{_≡_, refl, sym, ap, _∙_}
 use mathlib.Core.List.{List}
@@ -16,7 +16,7 @@ use Rattle.rule.specs.Exported.{costNumber}
 use Rattle.tree.specs.Labels.{noCost, labelAt}
 use Rattle.network.specs.PlanLists.{indexOf}
 use Rattle.path.specs.Labelled.{labelledPath, Followable}
-use Rattle.path.specs.laws.LabelledLaws.{labelled-path, cost-fits, tree-followable}
+use Rattle.path.specs.laws.LabelledLaws.{labelled-path, tree-followable}
 use Rattle.path.specs.Named.{NamedTree}
 use Rattle.path.specs.laws.NamedLaws.{not-named, is-named, known-from}
 use Rattle.path.specs.Places.{labelledPlaces}
@@ -41,18 +41,14 @@ module _ (p : Plan) (L : PlanLaws p) (vid a b : ℕ) {index : ℕ} {labels : Lis
       labelled-path p L index b labels (N .tree-is d) a (from-known d)
       ∙ is-named p L vid (λ i. pathFound p (chosenPath p i a b)) (knownBridge p a && knownBridge p b) index (N .index-is) d
 
-  -- The label's cost is a number of 32 bits.
-  pub named-cost : (index ≡ 0 → ⊥) → labelAt labels a .far ≤ noCost
-  named-cost d = cost-fits p L index b labels (N .tree-is d) a (from-known d)
-
   -- The number that exported path cost gives.
-  pub nothing-named-number : index ≡ 0 → 4294967307 ≡ costNumber (planPath p vid a b)
+  pub nothing-named-number : index ≡ 0 → 4294967296 + 11 ≡ costNumber (planPath p vid a b)
   nothing-named-number e =
       ap costNumber (not-named p L vid (λ i. pathFound p (chosenPath p i a b)) (knownBridge p a && knownBridge p b) index (N .index-is) e)
 
-  pub no-path-number : (index ≡ 0 → ⊥) → labelAt labels a .far ≡ noCost → 4294967308 ≡ costNumber (planPath p vid a b)
+  pub no-path-number : (index ≡ 0 → ⊥) → labelAt labels a .far ≡ noCost → 4294967296 + 12 ≡ costNumber (planPath p vid a b)
   no-path-number d e =
-      let f : 4294967308 ≡ costNumber (labelledPath labels a) = rw (eq-eqb (labelAt labels a .far) noCost e) refl
+      let f : 4294967296 + 12 ≡ costNumber (labelledPath labels a) = rw (eq-eqb (labelAt labels a .far) noCost e) refl
       in f ∙ ap costNumber (named-path d)
 
   pub path-number : (index ≡ 0 → ⊥) → (labelAt labels a .far ≡ noCost → ⊥) → labelAt labels a .far ≡ costNumber (planPath p vid a b)

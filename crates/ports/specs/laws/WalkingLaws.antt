@@ -32,11 +32,12 @@ module _ {labels hops : List ℕ} {b d c : ℕ} (W : Walking labels hops b d c) 
   pub walking-inside : c < 64
   walking-inside = omega (arith, W .from-here .inside, W .from-here .walkable .most)
 
-  module _ (l : 0 < labelAt labels c .steps) where
+  -- With `steps` read of the bridge `c`, where hops are left.
+  module _ {steps : ℕ} (read : steps ≡ labelAt labels c .steps) (more : steps ≡ 0 → ⊥) where
     next-of : (labelAt labels c .next < W .from-here .count)
         × (labelAt labels (labelAt labels c .next) .far ≡ noCost → ⊥)
         × (labelAt labels c .steps ≡ labelAt labels (labelAt labels c .next) .steps + 1)
-    next-of = W .from-here .walkable .onward c (W .from-here .inside) (W .reached) l
+    next-of = W .from-here .walkable .onward c (W .from-here .inside) (W .reached) (omega arith)
 
     pub fewer-hops : labelAt labels (labelAt labels c .next) .steps < labelAt labels c .steps
     fewer-hops = omega (arith, next-of .2)
@@ -44,10 +45,10 @@ module _ {labels hops : List ℕ} {b d c : ℕ} (W : Walking labels hops b d c) 
     one-hop : walked labels hops b (labelAt labels c .steps) c
         ≡ cond (eqb (labelAt labels c .next) b) (getD hops c 0) (walked labels hops b (labelAt labels (labelAt labels c .next) .steps) (labelAt labels c .next))
     unfolding walked
-    one-hop = ap (λ (k : ℕ). walked labels hops b k c) steps
+    one-hop = ap (λ (k : ℕ). walked labels hops b k c) one-more
       where
-        steps : labelAt labels c .steps ≡ suc (labelAt labels (labelAt labels c .next) .steps)
-        steps = omega (arith, next-of .2)
+        one-more : labelAt labels c .steps ≡ suc (labelAt labels (labelAt labels c .next) .steps)
+        one-more = omega (arith, next-of .2)
 
     pub walking-goes-on : (labelAt labels c .next ≡ b → ⊥) → Walking labels hops b d (labelAt labels c .next)
     walking-goes-on n = record {
@@ -59,9 +60,9 @@ module _ {labels hops : List ℕ} {b d c : ℕ} (W : Walking labels hops b d c) 
     pub walking-finds : labelAt labels c .next ≡ b → getD hops c 0 ≡ leavingBy labels hops b d
     walking-finds e = sym (rw (eq-eqb (labelAt labels c .next) b e) at one-hop) ∙ W .rest
 
-  pub walking-ends : labelAt labels c .steps ≤ 0 → 0 ≡ leavingBy labels hops b d
+  pub walking-ends : {steps : ℕ} → steps ≡ labelAt labels c .steps → steps ≡ 0 → 0 ≡ leavingBy labels hops b d
   unfolding walked
-  walking-ends l = ap (λ (k : ℕ). walked labels hops b k c) none-left ∙ W .rest
+  walking-ends read none = ap (λ (k : ℕ). walked labels hops b k c) none-left ∙ W .rest
     where
       none-left : 0 ≡ labelAt labels c .steps
       none-left = omega arith

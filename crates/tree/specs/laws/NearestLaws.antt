@@ -2,7 +2,7 @@
 -- Assumes nothing.
 use Prim.Native.Nat.{ℕ, _+_, _≤_, _<_, min}
 use native.Mathlib.Omega.{arith}
-use mathlib.Core.Path.{_≡_, refl, ap, _∙_}
+use mathlib.Core.Path.{_≡_, refl, sym, ap, _∙_}
 use mathlib.Core.List.{List}
 use mathlib.Core.Logic.{_⊎_, inl, inr}
 use lib.ListN.{getD}
@@ -21,8 +21,9 @@ leasting-starts labels n = record {
 }
 
 module _ {labels : List ℕ} {n u least : ℕ} (L : Leasting labels n u least) where
-  pub leasting-goes-on : (lesser : ℕ) → u < n → lesser ≡ min least (getD labels u 0) → Leasting labels n (u + 1) lesser
-  leasting-goes-on lesser h e = record {
+  -- With `waits` read of the bridge `u`.
+  pub leasting-goes-on : {waits lesser : ℕ} → u < n → waits ≡ labelAt labels u .waits → lesser ≡ min least waits → Leasting labels n (u + 1) lesser
+  leasting-goes-on {waits} {lesser} h read e = record {
     within = omega arith;
     so-far = record { most = omega (arith, L .so-far .most); none-less = none-less; one-has = one (le-or-gt least (getD labels u 0)) (L .so-far .one-has) };
   }
@@ -58,12 +59,13 @@ finding-starts {labels} {n} {least} L h = go (L .one-has)
     go (inr (u, k, e)) = record { place = u; ahead = omega arith; inside = k; has = e }
 
 module _ {labels : List ℕ} {n least u : ℕ} (F : Finding labels n least u) where
-  pub finding-goes-on : (getD labels u 0 ≡ least → ⊥) → Finding labels n least (u + 1)
-  finding-goes-on f = record { place = F .place; ahead = go (same-or-not u (F .place)); inside = F .inside; has = F .has }
+  -- With `waits` read of the bridge `u`.
+  pub finding-goes-on : {waits : ℕ} → waits ≡ labelAt labels u .waits → (waits ≡ least → ⊥) → Finding labels n least (u + 1)
+  finding-goes-on read f = record { place = F .place; ahead = go (same-or-not u (F .place)); inside = F .inside; has = F .has }
     where
       go : (u ≡ F .place) ⊎ (u ≡ F .place → ⊥) → u + 1 ≤ F .place
-      go (inl e) = absurd (f (ap (λ (k : ℕ). getD labels k 0) e ∙ F .has))
+      go (inl e) = absurd (f (read ∙ ap (λ (k : ℕ). getD labels k 0) e ∙ F .has))
       go (inr d) = omega (arith, F .ahead)
 
-  pub finding-ends : getD labels u 0 ≡ least → WaitsAt labels n least u
-  finding-ends e = record { inside = omega (arith, F .ahead, F .inside); has = e }
+  pub finding-ends : {waits : ℕ} → waits ≡ labelAt labels u .waits → waits ≡ least → WaitsAt labels n least u
+  finding-ends read e = record { inside = omega (arith, F .ahead, F .inside); has = sym read ∙ e }

@@ -6,23 +6,45 @@ use mathlib.Core.Path.{_≡_, refl, sym, ap, _∙_, subst}
 use mathlib.Core.List.{List, _∷_}
 use mathlib.Core.Logic.{_⊎_, inl, inr}
 use mathlib.Core.Bool.{Bool, true, false, cond, not, Bool·not-not}
-use lib.Dec.{T}
+use lib.Dec.{T, ltb}
 use lib.ListN.{length, getD}
 use Rattle.graph.specs.Order.{Lower, isLower}
-use Rattle.graph.specs.laws.OrderLaws.{test-lower, lower-test, lower-by-rest}
+use Rattle.graph.specs.laws.OrderLaws.{test-lower, lower-test, lower-by-first, lower-by-rest}
 use Rattle.graph.specs.laws.ListLaws.{same-or-not}
 use Rattle.ect.specs.Rows.{rowOf}
 use Rattle.tree.specs.Labels.{Label, labelAt, labelRank, offerRank, taken, relaxed}
 use Rattle.tree.specs.laws.LabelLaws.{length-taken, label-taken, label-passed}
 use Rattle.tree.specs.Relaxing.{Comparable, Relaxable, offerAt, tookAt, Unchanged, Changed, Relaxed}
 
--- An offer and a label of equal cost and hops are compared by the rows of their next hops.
-pub lower-by-rows : (rows : List ℕ) (via cost hops : ℕ) (b : Label) → cost ≡ b .far → hops ≡ b .steps
-    → isLower (rowOf rows via hops) (rowOf rows (b .next) hops) ≡ isLower (offerRank rows via cost hops) (labelRank rows b)
-lower-by-rows rows via cost hops b e f =
-    ap (λ (k : ℕ). isLower (rowOf rows via hops) (rowOf rows (b .next) k)) f
-    ∙ lower-by-rest hops (b .steps) (rowOf rows via hops) (rowOf rows (b .next) (b .steps)) f
-    ∙ lower-by-rest cost (b .far) (hops ∷ rowOf rows via hops) (b .steps ∷ rowOf rows (b .next) (b .steps)) e
+-- An offer is compared with the label `b`, of which `far`, `steps` and `next` were read: by the costs, by the hops, by the rows of the
+-- two next hops.
+module _ (rows : List ℕ) (via cost hops : ℕ) (b : Label) {far : ℕ} (read-far : far ≡ b .far) where
+  pub lower-by-cost : {answer : Bool} → answer ≡ ltb cost far → (cost ≡ far → ⊥) → answer ≡ isLower (offerRank rows via cost hops) (labelRank rows b)
+  lower-by-cost e d =
+      e
+      ∙ ap (ltb cost) read-far
+      ∙ lower-by-first cost (b .far) (hops ∷ rowOf rows via hops) (b .steps ∷ rowOf rows (b .next) (b .steps)) (λ i. d (i ∙ sym read-far))
+
+  module _ {steps : ℕ} (read-steps : steps ≡ b .steps) (same : cost ≡ far) where
+    then-on : isLower (hops ∷ rowOf rows via hops) (b .steps ∷ rowOf rows (b .next) (b .steps)) ≡ isLower (offerRank rows via cost hops) (labelRank rows b)
+    then-on = lower-by-rest cost (b .far) (hops ∷ rowOf rows via hops) (b .steps ∷ rowOf rows (b .next) (b .steps)) (same ∙ read-far)
+
+    pub lower-by-hops : {answer : Bool} → answer ≡ ltb hops steps → (hops ≡ steps → ⊥) → answer ≡ isLower (offerRank rows via cost hops) (labelRank rows b)
+    lower-by-hops e d =
+        e
+        ∙ ap (ltb hops) read-steps
+        ∙ lower-by-first hops (b .steps) (rowOf rows via hops) (rowOf rows (b .next) (b .steps)) (λ i. d (i ∙ sym read-steps))
+        ∙ then-on
+
+    pub lower-by-rows : {answer : Bool} {next count : ℕ} → next ≡ b .next → count ≡ hops → hops ≡ steps
+        → answer ≡ isLower (rowOf rows via count) (rowOf rows next count) → answer ≡ isLower (offerRank rows via cost hops) (labelRank rows b)
+    lower-by-rows {answer} {next} {count} read-next counted alike e =
+        e
+        ∙ ap (λ (k : ℕ). isLower (rowOf rows via k) (rowOf rows next k)) counted
+        ∙ ap (λ (x : ℕ). isLower (rowOf rows via hops) (rowOf rows x hops)) read-next
+        ∙ ap (λ (k : ℕ). isLower (rowOf rows via hops) (rowOf rows (b .next) k)) (alike ∙ read-steps)
+        ∙ lower-by-rest hops (b .steps) (rowOf rows via hops) (rowOf rows (b .next) (b .steps)) (alike ∙ read-steps)
+        ∙ then-on
 
 -- The labels after an offer, by the answer of the comparison.
 module _ (labels rows : List ℕ) (via v cost hops : ℕ) (b : Bool) (e : b ≡ isLower (offerRank rows via cost hops) (labelRank rows (labelAt labels v))) where
@@ -83,10 +105,6 @@ module _ (starts neighbours costs rows labels : List ℕ) (via : ℕ) where
             R .next-in i (O .after) h (omega (arith, R .cost-in i (O .after) h, ap (λ (b : Label). b .far) (U .same))),
           )
           next-in e (inr C) = omega (arith, ap (λ (b : Label). b .next) (C .took), R .via-in)
-
-      pub offering-comparable : (cost hops : ℕ) → cost ≡ labelAt labels via .far + getD costs i 0 → hops ≡ labelAt labels via .steps + 1
-          → Comparable labels′ rows via (getD neighbours i 0) cost hops
-      offering-comparable cost hops e f = rw (e, f) comparable
 
       earlier : {k : ℕ} → (x : ℕ) → (x ≡ v → ⊥) → from ≤ k → k < i + 1 → getD neighbours k 0 ≡ x → k < i
       earlier {k} x f l m e = go (same-or-not k i)
@@ -200,9 +218,20 @@ module _ (starts neighbours costs rows labels : List ℕ) (via : ℕ) where
                   (refuses g (O .each v v-in))
               each x l (inr d) = others labels′ x d refl (O .each x l)
 
-      pub offering-goes-on : {labels″ : List ℕ} (cost hops : ℕ) → cost ≡ labelAt labels via .far + getD costs i 0 → hops ≡ labelAt labels via .steps + 1
-          → labels″ ≡ relaxed labels′ rows via (getD neighbours i 0) cost hops → Offering labels″ (i + 1)
-      offering-goes-on {labels″} cost hops e f d = goes-on labels″ (d ∙ ap (λ (k : ℕ). relaxed labels′ rows via v k hops) e ∙ ap (relaxed labels′ rows via v way) f)
+      -- With `far` and `steps` read of the bridge `via`, and the sums made of them.
+      module _ {far steps cost hops : ℕ} (read-far : far ≡ labelAt labels via .far) (read-steps : steps ≡ labelAt labels via .steps)
+          (added : cost ≡ far + getD costs i 0) (counted : hops ≡ steps + 1) where
+        cost-is : cost ≡ way
+        cost-is = omega arith
+
+        hops-are : hops ≡ labelAt labels via .steps + 1
+        hops-are = omega arith
+
+        pub offering-comparable : Comparable labels′ rows via (getD neighbours i 0) cost hops
+        offering-comparable = rw (cost-is, hops-are) comparable
+
+        pub offering-goes-on : {labels″ : List ℕ} → labels″ ≡ relaxed labels′ rows via (getD neighbours i 0) cost hops → Offering labels″ (i + 1)
+        offering-goes-on {labels″} d = goes-on labels″ (d ∙ ap (λ (k : ℕ). relaxed labels′ rows via v k hops) cost-is ∙ ap (relaxed labels′ rows via v way) hops-are)
 
     pub offering-ends : {labels′ : List ℕ} {i : ℕ} → Offering labels′ i → end ≤ i → Relaxed starts neighbours costs rows via labels labels′
     offering-ends {labels′} {i} O h = record {

@@ -1,18 +1,21 @@
--- How a search begins: the labels are cleared, then the root is settled.
+-- How a search begins: the labels are cleared, then the root is settled. And what a bridge is settled with.
 -- Assumes nothing.
 use Prim.Native.Nat.{ℕ, _+_, _≤_, _<_}
 use native.Mathlib.Omega.{arith}
 use mathlib.Core.Path.{_≡_, refl, sym, ap, _∙_}
 use mathlib.Core.List.{List, [], _∷_}
 use mathlib.Core.Logic.{_⊎_, inl, inr}
+use mathlib.Core.Bool.{cond}
+use lib.Dec.{eqb}
 use lib.ListN.{length, getD, set, length-set}
 use lib.Seq.{getD-set-same, getD-set-other}
 use Rattle.graph.specs.laws.ListLaws.{same-or-not}
 use Rattle.graph.specs.laws.Splices.{spliced-nothing, spliced-next}
 use Rattle.graph.specs.Lists.{spliced}
-use Rattle.ect.specs.Rows.{rowPlace, rowOf}
+use Rattle.graph.specs.Order.{insertUpward}
+use Rattle.ect.specs.Rows.{rowPlace, rowOf, Insertable}
 use Rattle.ect.specs.laws.RowLaws.{row-written}
-use Rattle.tree.specs.Labels.{noCost}
+use Rattle.tree.specs.Labels.{noCost, labelAt, settledLabels, settledRows}
 use Rattle.tree.specs.laws.LabelLaws.{same-label}
 use Rattle.tree.specs.Settling.{Cleared, Begun}
 
@@ -99,3 +102,18 @@ module _ (n root key : ℕ) (labels₀ labels rows : List ℕ) (most : n ≤ 64)
     others-wait = λ u l f. other-place u (omega arith) (omega arith) (omega arith) (omega arith) ∙ C .none-waits u l;
     others-far = λ u l f. other-place (64 + u) (omega arith) (omega arith) (omega arith) (omega arith) ∙ C .none-far u l;
   }
+
+-- The bridge `u` is settled with the next hop and the hops that were read of it.
+module _ (labels rows : List ℕ) (u : ℕ) {next steps count : ℕ} (read-next : next ≡ labelAt labels u .next)
+    (read-steps : steps ≡ labelAt labels u .steps) (counted : count ≡ steps) where
+  pub read-insertable : Insertable rows (labelAt labels u .next) u (labelAt labels u .steps) → Insertable rows next u count
+  read-insertable I = rw (read-next, counted, read-steps) I
+
+  pub row-settled : (key : ℕ) {rows′ : List ℕ} → rows′ ≡ spliced rows (rowPlace u) (insertUpward key (rowOf rows next count)) → rows′ ≡ settledRows labels rows u key
+  row-settled key e = e ∙ rw (read-next, counted, read-steps) refl
+
+module _ (labels : List ℕ) (root u : ℕ) {next : ℕ} (read-next : next ≡ labelAt labels u .next) where
+  pub first-settled : {first : ℕ} → first ≡ cond (eqb next root) u (labelAt labels next .first) → set (set labels (256 + u) first) u noCost ≡ settledLabels labels root u
+  first-settled e =
+      ap (λ (k : ℕ). set (set labels (256 + u) k) u noCost)
+      (e ∙ ap (λ (x : ℕ). cond (eqb x root) u (labelAt labels x .first)) read-next)

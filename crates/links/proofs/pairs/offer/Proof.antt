@@ -33,16 +33,33 @@ is-usable-requires : tie.Need-is-usable-requires
 is-usable-requires c κs = search needs
 
 returns : tie.Need-returns
-returns c = offered-unusable (planAt (wordsOf (c .before .before .before .before .before .before .before .before .before .args .table .now)) (c .before .before .before .before .before .before .before .before .before .args .s) .halfLinks) (c .before .before .before .before .before .before .before .before .before .args .pairs .now) (halfLinkAt (wordsOf (c .before .before .before .before .before .before .before .before .before .args .table .now)) (c .before .before .before .before .before .before .before .before .before .args .s) (c .before .before .before .before .before .before .before .before .before .args .i)) (halfLinkValues (c .before .before .before .before .before .half-link .result)) (c .before .before .before .before .before .half-link .ensures) (c .before .before .link-metric .result .0) (c .before .before .link-metric .ensures) (sym (not-true _ (c .if1 .taken)) ∙ c .before .is-usable .ensures)
+returns c =
+    let at-is-usable = c .before in
+    let at-link-metric = at-is-usable .before in
+    let at-half-link = at-link-metric .before .before .before in
+    let at-start = at-half-link .before .before .before .before in
+    offered-unusable (planAt (wordsOf (at-start .args .table .now)) (at-start .args .s) .halfLinks) (at-start .args .pairs .now)
+    (halfLinkAt (wordsOf (at-start .args .table .now)) (at-start .args .s) (at-start .args .i))
+    (halfLinkValues (at-half-link .half-link .result)) (at-half-link .half-link .ensures) (at-link-metric .link-metric .result .0) (at-link-metric .link-metric .ensures)
+    (sym (not-true _ (c .if1 .taken)) ∙ at-is-usable .is-usable .ensures)
 
 mul-lesser : tie.Need-mul-lesser
 mul-lesser c = search needs
 
 slice-read-lesser : tie.Need-slice-read-lesser
-slice-read-lesser c = omega (arith, c .before .before .before .before .before .before .before .before .before .before .pre .2, place-there (c .before .before .before .before .before .before .before .before .before .before .pre .0) (c .before .before .before .before .before .before .before .before .before .before .args .i) (c .before .before .before .before .before .before .before .before .before .before .pre .1) (halfLinkValues (c .before .before .before .before .before .before .half-link .result)) (c .before .before .before .before .before .before .half-link .ensures))
+slice-read-lesser c =
+    let at-half-link = c .before .before .before .before .before .before in
+    let at-start = at-half-link .before .before .before .before in
+    omega (arith, at-start .pre .2, place-there (at-start .pre .0) (at-start .args .i) (at-start .pre .1) (halfLinkValues (at-half-link .half-link .result)) (at-half-link .half-link .ensures))
 
 hop-number-requires : tie.Need-hop-number-requires
-hop-number-requires c κs = hop-fits (c .before .before .before .before .before .before .before .before .before .before .pre .0) (c .before .before .before .before .before .before .before .before .before .before .args .i) (c .before .before .before .before .before .before .before .before .before .before .pre .1) (halfLinkValues (c .before .before .before .before .before .before .half-link .result)) (c .before .before .before .before .before .before .half-link .ensures) (c .before .before .before .link-metric .result .0) (sym (not-false _ (c .before .if1 .left)) ∙ c .before .before .is-usable .ensures)
+hop-number-requires c κs =
+    let at-if1 = c .before in
+    let at-is-usable = at-if1 .before in
+    let at-link-metric = at-is-usable .before in
+    let at-half-link = at-link-metric .before .before .before in
+    let at-start = at-half-link .before .before .before .before in
+    hop-fits (at-start .pre .0) (at-start .args .i) (at-start .pre .1) (halfLinkValues (at-half-link .half-link .result)) (at-half-link .half-link .ensures) (at-link-metric .link-metric .result .0) (sym (not-false _ (at-if1 .if1 .left)) ∙ at-is-usable .is-usable .ensures)
 
 lesser-requires : tie.Need-lesser-requires
 lesser-requires c κs = search needs
@@ -51,13 +68,26 @@ mul-pairs : tie.Need-mul-pairs
 mul-pairs c = search needs
 
 slice-write-pairs : tie.Need-slice-write-pairs
-slice-write-pairs c = omega (arith, c .before .before .before .before .before .before .before .before .before .before .before .before .pre .2, place-there (c .before .before .before .before .before .before .before .before .before .before .before .before .pre .0) (c .before .before .before .before .before .before .before .before .before .before .before .before .args .i) (c .before .before .before .before .before .before .before .before .before .before .before .before .pre .1) (halfLinkValues (c .before .before .before .before .before .before .before .before .half-link .result)) (c .before .before .before .before .before .before .before .before .half-link .ensures))
+slice-write-pairs c =
+    let at-half-link = c .before .before .before .before .before .before .before .before in
+    let at-start = at-half-link .before .before .before .before in
+    omega (arith, at-start .pre .2, place-there (at-start .pre .0) (at-start .args .i) (at-start .pre .1) (halfLinkValues (at-half-link .half-link .result)) (at-half-link .half-link .ensures))
 
 same-length : tie.Need-same-length
 same-length c = search needs
 
 returns-2 : tie.Need-returns-2
-returns-2 c = offered-usable (planAt (wordsOf (c .before .before .before .before .before .before .before .before .before .before .before .before .args .table .now)) (c .before .before .before .before .before .before .before .before .before .before .before .before .args .s) .halfLinks) (c .before .before .before .before .before .before .before .before .before .before .before .before .args .pairs .now) (halfLinkAt (wordsOf (c .before .before .before .before .before .before .before .before .before .before .before .before .args .table .now)) (c .before .before .before .before .before .before .before .before .before .before .before .before .args .s) (c .before .before .before .before .before .before .before .before .before .before .before .before .args .i)) (halfLinkValues (c .before .before .before .before .before .before .before .before .half-link .result)) (c .before .before .before .before .before .before .before .before .half-link .ensures) (c .before .before .before .before .before .link-metric .result .0) (c .before .before .before .before .before .link-metric .ensures) (sym (not-false _ (c .before .before .before .if1 .left)) ∙ c .before .before .before .before .is-usable .ensures) (c .before .hop-number .result) (c .lesser .result) (c .before .hop-number .ensures) (c .lesser .ensures)
+returns-2 c =
+    let at-hop-number = c .before in
+    let at-if1 = at-hop-number .before .before in
+    let at-is-usable = at-if1 .before in
+    let at-link-metric = at-is-usable .before in
+    let at-half-link = at-link-metric .before .before .before in
+    let at-start = at-half-link .before .before .before .before in
+    offered-usable (planAt (wordsOf (at-start .args .table .now)) (at-start .args .s) .halfLinks) (at-start .args .pairs .now)
+    (halfLinkAt (wordsOf (at-start .args .table .now)) (at-start .args .s) (at-start .args .i))
+    (halfLinkValues (at-half-link .half-link .result)) (at-half-link .half-link .ensures) (at-link-metric .link-metric .result .0) (at-link-metric .link-metric .ensures)
+    (sym (not-false _ (at-if1 .if1 .left)) ∙ at-is-usable .is-usable .ensures) (at-hop-number .hop-number .result) (c .lesser .result) (at-hop-number .hop-number .ensures) (c .lesser .ensures)
 
 pub offer-spec : {M : Type 1} → statement M
 offer-spec =

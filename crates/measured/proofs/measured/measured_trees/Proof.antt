@@ -22,7 +22,12 @@ slice-aggregate-trees-of-table : tie.Need-slice-aggregate-trees-of-table
 slice-aggregate-trees-of-table c = search needs
 
 trees-of-table-requires : tie.Need-trees-of-table-requires
-trees-of-table-requires c κs = (accepted-checked (c .before .before .before .before .before .before .before .before .before .before .args .table .now) (c .before .before .before .before .before .before .before .examine .result) (c .before .before .before .before .before .before .before .examine .ensures .0) _ _ (c .before .before .before .before .examined .given .1) (c .before .before .before .before .before .before .before .examine .ensures .1), omega (arith, (c .before .if1 .left)))
+trees-of-table-requires c κs =
+    let at-if1 = c .before in
+    let at-examined = at-if1 .before .before .before in
+    let at-examine = at-examined .before .before .before in
+    let at-start = at-examine .before .before .before in
+    (accepted-checked (at-start .args .table .now) (at-examine .examine .result) (at-examine .examine .ensures .0) _ _ (at-examined .examined .given .1) (at-examine .examine .ensures .1), omega (arith, (at-if1 .if1 .left)))
 
 enum-known-examined-2 : tie.Need-enum-known-examined-2
 enum-known-examined-2 c = search needs

@@ -28,7 +28,9 @@ slice-aggregate-write-identifiers : tie.Need-slice-aggregate-write-identifiers
 slice-aggregate-write-identifiers c = search needs
 
 write-identifiers-requires : tie.Need-write-identifiers-requires
-write-identifiers-requires c κs = ((c .before .before .before .before .before .before .before .before .before .before .before .before .before .before .pre .0 .whole), (c .before .before .before .before .before .before .before .before .before .before .before .before .before .before .pre .0 .bounded), omega (arith, few-bridges (c .before .before .before .before .before .before .before .before .before .before .before .before .before .before .pre .0)))
+write-identifiers-requires c κs =
+    let at-start = c .before .before .before .before .before .before .before .before .before .before .before .before .before .before in
+    ((at-start .pre .0 .whole), (at-start .pre .0 .bounded), omega (arith, few-bridges (at-start .pre .0)))
 
 slice-aggregate-make-trees : tie.Need-slice-aggregate-make-trees
 slice-aggregate-make-trees c = search needs
@@ -49,10 +51,26 @@ slice-aggregate-make-trees-6 : tie.Need-slice-aggregate-make-trees-6
 slice-aggregate-make-trees-6 c = search needs
 
 make-trees-requires : tie.Need-make-trees-requires
-make-trees-requires c κs = (record { plan = _; lists = lists-of-table (c .before .before .before .before .before .before .before .before .before .before .before .before .before .before .before .before .before .before .before .before .before .before .pre .0) (c .before .before .before .before .before .before .before .before .before .before .before .before .before .before .neighbours-of .ensures) (c .before .before .before .before .before .before .before .write-identifiers .ensures) (omega (arith, few-bridges (c .before .before .before .before .before .before .before .before .before .before .before .before .before .before .before .before .before .before .before .before .before .before .pre .0))) (omega arith) (omega arith) (omega (arith, few-bridges (c .before .before .before .before .before .before .before .before .before .before .before .before .before .before .before .before .before .before .before .before .before .before .pre .0))) }, omega arith, (c .before .before .before .before .before .before .before .before .before .before .before .before .before .before .before .before .before .before .before .before .before .before .pre .1), omega arith, omega arith)
+make-trees-requires c κs =
+    let at-write-identifiers = c .before .before .before .before .before .before .before in
+    let at-neighbours-of = at-write-identifiers .before .before .before .before .before .before .before in
+    let at-start = at-neighbours-of .before .before .before .before .before .before .before .before in (
+      record {
+        plan = _;
+        lists = lists-of-table (at-start .pre .0) (at-neighbours-of .neighbours-of .ensures) (at-write-identifiers .write-identifiers .ensures)
+            (omega (arith, few-bridges (at-start .pre .0))) (omega arith) (omega arith) (omega (arith, few-bridges (at-start .pre .0)));
+      },
+      omega arith,
+      at-start .pre .1,
+      omega arith,
+      omega arith,
+    )
 
-array-read-result : tie.Need-array-read-result
-array-read-result c = search needs
+slice-aggregate-cost-at : tie.Need-slice-aggregate-cost-at
+slice-aggregate-cost-at c = search needs
+
+cost-at-requires : tie.Need-cost-at-requires
+cost-at-requires c κs = search needs
 
 returns : tie.Need-returns
 returns c = search needs
@@ -76,5 +94,6 @@ trees-of-table-spec =
     slice-aggregate-make-trees-5
     slice-aggregate-make-trees-6
     make-trees-requires
-    array-read-result
+    slice-aggregate-cost-at
+    cost-at-requires
     returns)

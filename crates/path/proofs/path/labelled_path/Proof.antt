@@ -1,69 +1,94 @@
 -- `path::path::labelled_path` answers by a label. Assumes nothing.
-use borrow.Author.Needs.{needs}
 use native.Mathlib.Omega.{arith}
-use Rattle.path.specs.laws.LabelledLaws.{no-path-labelled, list-too-short, path-written}
+use Rattle.rule.specs.laws.MeasureLaws.{no-path, a-path}
+use Rattle.path.specs.laws.LabelledLaws.{no-path-labelled, bridges-inside, list-too-short, path-written}
+use borrow.Author.Needs.{needs}
 use Rattle.path.proofs.path.labelled_path.Statement.{statement}
 use Rattle.path.proofs.path.labelled_path.Tie as tie
 
-add-cost : tie.Need-add-cost
-add-cost c = search needs
+cost-at-requires : tie.Need-cost-at-requires
+cost-at-requires c κs = search needs
 
-mul-cost : tie.Need-mul-cost
-mul-cost c = search needs
-
-shared-slice-read-cost : tie.Need-shared-slice-read-cost
-shared-slice-read-cost c = search needs
+is-no-path-requires : tie.Need-is-no-path-requires
+is-no-path-requires c κs = search needs
 
 refused-requires : tie.Need-refused-requires
 refused-requires c κs = search needs
 
 returns : tie.Need-returns
-returns c = no-path-labelled (c .before .before .before .before .before .args .labels .now) (c .before .before .before .before .before .args .from) (c .before .before .before .before .before .args .list .now) _ (c .refused .ensures) (c .before .if1 .taken)
+returns c =
+    let at-if1 = c .before in
+    let at-is-no-path = at-if1 .before in
+    let at-cost-at = at-is-no-path .before in
+    let at-start = at-cost-at .before .before .before in
+    no-path-labelled (at-start .args .labels .now) (at-start .args .from) (at-start .args .list .now) _ (c .refused .ensures)
+    (no-path (at-cost-at .cost-at .ensures) (at-is-no-path .is-no-path .ensures) (at-if1 .if1 .taken))
 
-add-hops : tie.Need-add-hops
-add-hops c = search needs
+hops-at-requires : tie.Need-hops-at-requires
+hops-at-requires c κs = search needs
 
-mul-hops : tie.Need-mul-hops
-mul-hops c = search needs
-
-shared-slice-read-hops : tie.Need-shared-slice-read-hops
-shared-slice-read-hops c = search needs
-
-cast-count : tie.Need-cast-count
-cast-count c = omega (arith, (c .before .before .before .before .before .pre .1 .few) (c .before .if1 .left))
-
-add-count : tie.Need-add-count
-add-count c = omega (arith, (c .before .before .before .before .before .pre .1 .few) (c .before .if1 .left))
+bridges-requires : tie.Need-bridges-requires
+bridges-requires c κs = search needs
 
 refused-requires-2 : tie.Need-refused-requires-2
 refused-requires-2 c κs = search needs
 
 returns-2 : tie.Need-returns-2
-returns-2 c = list-too-short (c .before .before .before .before .before .before .before .args .labels .now) (c .before .before .before .before .before .before .before .args .from) (c .before .before .before .before .before .before .before .args .list .now) (c .before .before .before .if1 .left) _ (c .refused2 .ensures) (c .before .if2 .taken)
+returns-2 c =
+    let at-if2 = c .before in
+    let at-bridges = at-if2 .before in
+    let at-hops-at = at-bridges .before in
+    let at-if1 = at-hops-at .before in
+    let at-is-no-path = at-if1 .before in
+    let at-cost-at = at-is-no-path .before in
+    let at-start = at-cost-at .before .before .before in
+    list-too-short (at-start .args .labels .now) (at-start .args .from) (at-start .args .list .now)
+    (a-path (at-cost-at .cost-at .ensures) (at-is-no-path .is-no-path .ensures) (at-if1 .if1 .left))
+    (at-hops-at .hops-at .ensures) (at-bridges .bridges .ensures) _ (c .refused2 .ensures) (omega (arith, at-bridges .bridges .ensures, at-if2 .if2 .taken))
 
 write-path-requires : tie.Need-write-path-requires
-write-path-requires c κs = ((c .before .before .before .before .before .before .before .pre .0), (c .before .before .before .before .before .before .before .pre .1 .inside) (c .before .before .before .if1 .left), omega (arith, (c .before .if2 .left)))
+write-path-requires c κs =
+    let at-if2 = c .before in
+    let at-bridges = at-if2 .before in
+    let at-hops-at = at-bridges .before in
+    let at-if1 = at-hops-at .before in
+    let at-is-no-path = at-if1 .before in
+    let at-cost-at = at-is-no-path .before in
+    let at-start = at-cost-at .before .before .before in
+    let found = a-path (at-cost-at .cost-at .ensures) (at-is-no-path .is-no-path .ensures) (at-if1 .if1 .left) in (
+      at-start .pre .0,
+      bridges-inside (at-start .args .labels .now) (at-start .args .from) (at-start .args .list .now) found (at-hops-at .hops-at .ensures)
+          (at-bridges .bridges .ensures) (at-start .pre .1),
+      omega (arith, at-if2 .if2 .left),
+    )
 
 same-length : tie.Need-same-length
 same-length c = search needs
 
 returns-3 : tie.Need-returns-3
-returns-3 c = path-written (c .before .before .before .before .before .before .before .before .before .before .args .labels .now) (c .before .before .before .before .before .before .before .before .before .before .args .from) (c .before .before .before .before .before .before .before .before .before .before .args .list .now) (c .before .before .before .before .before .before .if1 .left) _ (c .before .before .before .before .if2 .left) (c .before .before .write-path .ensures)
+returns-3 c =
+    let at-write-path = c .before .before in
+    let at-if2 = at-write-path .before .before in
+    let at-bridges = at-if2 .before in
+    let at-hops-at = at-bridges .before in
+    let at-if1 = at-hops-at .before in
+    let at-is-no-path = at-if1 .before in
+    let at-cost-at = at-is-no-path .before in
+    let at-start = at-cost-at .before .before .before in
+    path-written (at-start .args .labels .now) (at-start .args .from) (at-start .args .list .now)
+    (a-path (at-cost-at .cost-at .ensures) (at-is-no-path .is-no-path .ensures) (at-if1 .if1 .left))
+    (at-hops-at .hops-at .ensures) (at-bridges .bridges .ensures) (at-cost-at .cost-at .ensures) _ (at-if2 .if2 .left) (at-write-path .write-path .ensures)
 
 pub labelled-path-spec : {M : Type 1} → statement M
 labelled-path-spec =
     tie.close
     (tie.spec
-    add-cost
-    mul-cost
-    shared-slice-read-cost
+    cost-at-requires
+    is-no-path-requires
     refused-requires
     returns
-    add-hops
-    mul-hops
-    shared-slice-read-hops
-    cast-count
-    add-count
+    hops-at-requires
+    bridges-requires
     refused-requires-2
     returns-2
     write-path-requires

@@ -1,9 +1,11 @@
 -- `path::path::path_cost_in_table` gives the number of the tree that the call names. Assumes nothing.
-use borrow.Author.Needs.{needs}
 use native.Mathlib.Omega.{arith}
+use mathlib.Core.Path.{_∙_}
 use Rattle.rule.specs.Words.{wordsOf}
 use Rattle.table.specs.Positions.{planAt}
-use Rattle.path.specs.laws.PlanCalls.{nothing-named-number, no-path-number, path-number, named-followable, named-cost}
+use Rattle.rule.specs.laws.MeasureLaws.{no-path, a-path}
+use Rattle.path.specs.laws.PlanCalls.{nothing-named-number, no-path-number, path-number, named-followable}
+use borrow.Author.Needs.{needs}
 use Rattle.path.proofs.path.path_cost_in_table.Statement.{statement}
 use Rattle.path.proofs.path.path_cost_in_table.Tie as tie
 
@@ -13,26 +15,61 @@ slice-aggregate-named-tree c = search needs
 named-tree-requires : tie.Need-named-tree-requires
 named-tree-requires c κs = search needs
 
+add-result : tie.Need-add-result
+add-result c = search needs
+
 returns : tie.Need-returns
-returns c = nothing-named-number (planAt (wordsOf (c .before .before .before .before .before .before .args .table .now)) (c .before .before .before .before .before .before .args .s)) (c .before .before .before .before .before .before .pre .laws) (c .before .before .before .before .before .before .args .vid) (c .before .before .before .before .before .before .args .from) (c .before .before .before .before .before .before .args .to) (c .before .before .named-tree .ensures) (c .if1 .taken)
+returns c =
+    let at-named-tree = c .before .before in
+    let at-start = at-named-tree .before .before .before .before in
+    nothing-named-number (planAt (wordsOf (at-start .args .table .now)) (at-start .args .s)) (at-start .pre .laws) (at-start .args .vid) (at-start .args .from)
+    (at-start .args .to) (at-named-tree .named-tree .ensures) (c .if1 .taken)
 
-add-cost : tie.Need-add-cost
-add-cost c = search needs
+slice-aggregate-cost-at : tie.Need-slice-aggregate-cost-at
+slice-aggregate-cost-at c = search needs
 
-mul-cost : tie.Need-mul-cost
-mul-cost c = search needs
+cost-at-requires : tie.Need-cost-at-requires
+cost-at-requires c κs =
+    let at-if1 = c .before in
+    let at-named-tree = at-if1 .before .before in
+    let at-start = at-named-tree .before .before .before .before in
+    let walk = named-followable (planAt (wordsOf (at-start .args .table .now)) (at-start .args .s)) (at-start .pre .laws) (at-start .args .vid)
+    (at-start .args .from) (at-start .args .to) (at-named-tree .named-tree .ensures) (at-if1 .if1 .left) in
+    omega (arith, walk .place)
 
-array-read-cost : tie.Need-array-read-cost
-array-read-cost c = omega (arith, (named-followable (planAt (wordsOf (c .before .before .before .before .before .before .args .table .now)) (c .before .before .before .before .before .before .args .s)) (c .before .before .before .before .before .before .pre .laws) (c .before .before .before .before .before .before .args .vid) (c .before .before .before .before .before .before .args .from) (c .before .before .before .before .before .before .args .to) (c .before .before .named-tree .ensures) (c .if1 .left)) .place)
+is-no-path-requires : tie.Need-is-no-path-requires
+is-no-path-requires c κs = search needs
+
+add-result-2 : tie.Need-add-result-2
+add-result-2 c = search needs
 
 returns-2 : tie.Need-returns-2
-returns-2 c = no-path-number (planAt (wordsOf (c .before .before .before .before .before .before .before .args .table .now)) (c .before .before .before .before .before .before .before .args .s)) (c .before .before .before .before .before .before .before .pre .laws) (c .before .before .before .before .before .before .before .args .vid) (c .before .before .before .before .before .before .before .args .from) (c .before .before .before .before .before .before .before .args .to) (c .before .before .before .named-tree .ensures) (c .before .if1 .left) (c .if2 .taken)
+returns-2 c =
+    let at-is-no-path = c .before in
+    let at-cost-at = at-is-no-path .before in
+    let at-if1 = at-cost-at .before .before in
+    let at-named-tree = at-if1 .before .before in
+    let at-start = at-named-tree .before .before .before .before in
+    no-path-number (planAt (wordsOf (at-start .args .table .now)) (at-start .args .s)) (at-start .pre .laws) (at-start .args .vid) (at-start .args .from)
+    (at-start .args .to) (at-named-tree .named-tree .ensures) (at-if1 .if1 .left)
+    (no-path (at-cost-at .cost-at .ensures) (at-is-no-path .is-no-path .ensures) (c .if2 .taken))
 
-cast-result : tie.Need-cast-result
-cast-result c = omega (arith, named-cost (planAt (wordsOf (c .before .before .before .before .before .before .before .args .table .now)) (c .before .before .before .before .before .before .before .args .s)) (c .before .before .before .before .before .before .before .pre .laws) (c .before .before .before .before .before .before .before .args .vid) (c .before .before .before .before .before .before .before .args .from) (c .before .before .before .before .before .before .before .args .to) (c .before .before .before .named-tree .ensures) (c .before .if1 .left))
+exported-requires : tie.Need-exported-requires
+exported-requires c κs = search needs
 
 returns-3 : tie.Need-returns-3
-returns-3 c = path-number (planAt (wordsOf (c .before .before .before .before .before .before .before .args .table .now)) (c .before .before .before .before .before .before .before .args .s)) (c .before .before .before .before .before .before .before .pre .laws) (c .before .before .before .before .before .before .before .args .vid) (c .before .before .before .before .before .before .before .args .from) (c .before .before .before .before .before .before .before .args .to) (c .before .before .before .named-tree .ensures) (c .before .if1 .left) (c .if2 .left)
+returns-3 c =
+    let at-if2 = c .before in
+    let at-is-no-path = at-if2 .before in
+    let at-cost-at = at-is-no-path .before in
+    let at-if1 = at-cost-at .before .before in
+    let at-named-tree = at-if1 .before .before in
+    let at-start = at-named-tree .before .before .before .before in
+    c .exported .ensures
+    ∙ at-cost-at .cost-at .ensures
+    ∙ path-number (planAt (wordsOf (at-start .args .table .now)) (at-start .args .s)) (at-start .pre .laws) (at-start .args .vid) (at-start .args .from)
+    (at-start .args .to) (at-named-tree .named-tree .ensures) (at-if1 .if1 .left)
+    (a-path (at-cost-at .cost-at .ensures) (at-is-no-path .is-no-path .ensures) (at-if2 .if2 .left))
 
 pub path-cost-in-table-spec : {M : Type 1} → statement M
 path-cost-in-table-spec =
@@ -40,10 +77,12 @@ path-cost-in-table-spec =
     (tie.spec
     slice-aggregate-named-tree
     named-tree-requires
+    add-result
     returns
-    add-cost
-    mul-cost
-    array-read-cost
+    slice-aggregate-cost-at
+    cost-at-requires
+    is-no-path-requires
+    add-result-2
     returns-2
-    cast-result
+    exported-requires
     returns-3)

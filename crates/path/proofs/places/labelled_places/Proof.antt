@@ -1,7 +1,6 @@
--- `path::places::labelled_places` writes three numbers of each place. Assumes nothing.
-use borrow.Author.Needs.{needs}
-use native.Mathlib.Omega.{arith}
+-- `path::places::labelled_places` writes the places where the lists have room for them. Assumes nothing.
 use Rattle.path.specs.laws.PlaceLaws.{short-costs, short-hops, short-lasts, places-written}
+use borrow.Author.Needs.{needs}
 use Rattle.path.proofs.places.labelled_places.Statement.{statement}
 use Rattle.path.proofs.places.labelled_places.Tie as tie
 
@@ -9,28 +8,37 @@ refused-requires : tie.Need-refused-requires
 refused-requires c κs = search needs
 
 returns : tie.Need-returns
-returns c = short-costs (c .before .before .before .before .before .before .args .labels .now) (c .before .before .before .before .before .before .args .n) (c .before .before .before .before .before .before .args .costs .now) (c .before .before .before .before .before .before .args .hops .now) (c .before .before .before .before .before .before .args .lasts .now) _ (c .refused .ensures) (c .before .if1 .taken)
+returns c =
+    let at-if1 = c .before in
+    let at-start = at-if1 .before .before .before .before .before in
+    short-costs (at-start .args .labels .now) (at-start .args .n) (at-start .args .costs .now) (at-start .args .hops .now) (at-start .args .lasts .now) _ (c .refused .ensures)
+    (at-if1 .if1 .taken)
 
 refused-requires-2 : tie.Need-refused-requires-2
 refused-requires-2 c κs = search needs
 
 returns-2 : tie.Need-returns-2
-returns-2 c = short-hops (c .before .before .before .before .before .before .before .args .labels .now) (c .before .before .before .before .before .before .before .args .n) (c .before .before .before .before .before .before .before .args .costs .now) (c .before .before .before .before .before .before .before .args .hops .now) (c .before .before .before .before .before .before .before .args .lasts .now) _ (c .refused2 .ensures) (c .before .before .if1 .left) (c .before .if2 .taken)
+returns-2 c =
+    let at-if2 = c .before in
+    let at-if1 = at-if2 .before in
+    let at-start = at-if1 .before .before .before .before .before in
+    short-hops (at-start .args .labels .now) (at-start .args .n) (at-start .args .costs .now) (at-start .args .hops .now) (at-start .args .lasts .now) _ (c .refused2 .ensures)
+    (at-if1 .if1 .left) (at-if2 .if2 .taken)
 
 refused-requires-3 : tie.Need-refused-requires-3
 refused-requires-3 c κs = search needs
 
 returns-3 : tie.Need-returns-3
-returns-3 c = short-lasts (c .before .before .before .before .before .before .before .before .args .labels .now) (c .before .before .before .before .before .before .before .before .args .n) (c .before .before .before .before .before .before .before .before .args .costs .now) (c .before .before .before .before .before .before .before .before .args .hops .now) (c .before .before .before .before .before .before .before .before .args .lasts .now) _ (c .refused3 .ensures) (c .before .before .before .if1 .left) (c .before .before .if2 .left) (c .before .if3 .taken)
+returns-3 c =
+    let at-if3 = c .before in
+    let at-if2 = at-if3 .before in
+    let at-if1 = at-if2 .before in
+    let at-start = at-if1 .before .before .before .before .before in
+    short-lasts (at-start .args .labels .now) (at-start .args .n) (at-start .args .costs .now) (at-start .args .hops .now) (at-start .args .lasts .now) _ (c .refused3 .ensures)
+    (at-if1 .if1 .left) (at-if2 .if2 .left) (at-if3 .if3 .taken)
 
-write-numbers-requires : tie.Need-write-numbers-requires
-write-numbers-requires c κs = search needs
-
-write-numbers-requires-2 : tie.Need-write-numbers-requires-2
-write-numbers-requires-2 c κs = search needs
-
-write-numbers-requires-3 : tie.Need-write-numbers-requires-3
-write-numbers-requires-3 c κs = search needs
+write-places-requires : tie.Need-write-places-requires
+write-places-requires c κs = search needs
 
 cast-t15 : tie.Need-cast-t15
 cast-t15 c = search needs
@@ -45,7 +53,14 @@ same-length-3 : tie.Need-same-length-3
 same-length-3 c = search needs
 
 returns-4 : tie.Need-returns-4
-returns-4 c = places-written (c .before .before .before .before .before .before .before .before .before .before .before .before .before .before .before .before .before .before .before .args .labels .now) (c .before .before .before .before .before .before .before .before .before .before .before .before .before .before .before .before .before .before .before .args .n) (c .before .before .before .before .before .before .before .before .before .before .before .before .before .before .before .before .before .before .before .args .costs .now) (c .before .before .before .before .before .before .before .before .before .before .before .before .before .before .before .before .before .before .before .args .hops .now) (c .before .before .before .before .before .before .before .before .before .before .before .before .before .before .before .before .before .before .before .args .lasts .now) _ _ _ (c .before .before .before .before .before .before .before .before .before .before .before .before .before .before .if1 .left) (c .before .before .before .before .before .before .before .before .before .before .before .before .before .if2 .left) (c .before .before .before .before .before .before .before .before .before .before .before .before .if3 .left) (c .before .before .before .before .before .before .before .before .before .before .write-numbers .ensures) (c .before .before .before .before .before .before .write-numbers2 .ensures) (c .before .before .write-numbers3 .ensures)
+returns-4 c =
+    let at-write-places = c .before .before .before .before .before .before in
+    let at-if3 = at-write-places .before .before .before .before in
+    let at-if2 = at-if3 .before in
+    let at-if1 = at-if2 .before in
+    let at-start = at-if1 .before .before .before .before .before in
+    places-written (at-start .args .labels .now) (at-start .args .n) (at-start .args .costs .now) (at-start .args .hops .now) (at-start .args .lasts .now) _ _ _ (at-if1 .if1 .left)
+    (at-if2 .if2 .left) (at-if3 .if3 .left) (at-write-places .write-places .ensures)
 
 pub labelled-places-spec : {M : Type 1} → statement M
 labelled-places-spec =
@@ -57,9 +72,7 @@ labelled-places-spec =
     returns-2
     refused-requires-3
     returns-3
-    write-numbers-requires
-    write-numbers-requires-2
-    write-numbers-requires-3
+    write-places-requires
     cast-t15
     same-length
     same-length-2

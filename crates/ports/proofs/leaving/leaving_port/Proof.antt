@@ -1,7 +1,7 @@
 -- `ports::leaving::leaving_port` goes from the bridge towards the root until a hop comes to `b`. Assumes nothing.
 use native.Mathlib.Omega.{arith}
-use lib.ListN.{getD}
-use Prim.Native.Nat.{_+_}
+use Rattle.rule.specs.laws.MeasureLaws.{no-path, a-path, differ, agree}
+use Rattle.tree.specs.Labels.{labelAt}
 use Rattle.ports.specs.laws.WalkingLaws.{Walking, no-way, walking-starts, walking-inside, fewer-hops, walking-goes-on, walking-finds, walking-ends}
 use borrow.Author.Needs.{needs}
 use Rattle.ports.proofs.leaving.leaving_port.Statement.{statement}
@@ -11,61 +11,104 @@ abbrev Inv-loop : tie.InvT-loop
 Inv-loop labels hops b d c₀ c = Walking labels hops b d c
 
 abbrev μ-loop : tie.MeasureT-loop
-μ-loop labels hops b d c₀ c = getD labels (128 + c) 0
+μ-loop labels hops b d c₀ c = labelAt labels c .steps
 
-add-if1 : tie.Need-add-if1 Inv-loop μ-loop
-add-if1 c = omega (arith, (c .pre .0 .inside), (c .pre .0 .walkable .most))
+cost-at-requires : tie.Need-cost-at-requires Inv-loop μ-loop
+cost-at-requires c κs =
+    let at-start = c .before .before in
+    omega (arith, at-start .pre .0 .inside, at-start .pre .0 .walkable .most, at-start .pre .1)
 
-mul-if1 : tie.Need-mul-if1 Inv-loop μ-loop
-mul-if1 c = omega (arith, (c .pre .0 .inside), (c .pre .0 .walkable .most))
-
-shared-slice-read-if1 : tie.Need-shared-slice-read-if1 Inv-loop μ-loop
-shared-slice-read-if1 c = omega (arith, (c .before .pre .0 .inside), (c .before .pre .0 .walkable .most), (c .before .pre .1))
+is-no-path-requires : tie.Need-is-no-path-requires Inv-loop μ-loop
+is-no-path-requires c κs = search needs
 
 returns : tie.Need-returns Inv-loop μ-loop
-returns c = no-way _ _ _ _ ((c .if1 .taken))
+returns c =
+    let at-is-no-path = c .before in
+    let at-cost-at = at-is-no-path .before in
+    no-way _ _ _ _ (no-path (at-cost-at .cost-at .ensures) (at-is-no-path .is-no-path .ensures) (c .if1 .taken))
 
 loop-holds : tie.Need-loop-holds Inv-loop μ-loop
-loop-holds c = walking-starts _ _ _ _ ((c .before .before .pre .0)) ((c .if1 .left))
+loop-holds c =
+    let at-is-no-path = c .before in
+    let at-cost-at = at-is-no-path .before in
+    let at-start = at-cost-at .before .before .before in
+    walking-starts _ _ _ _ (at-start .pre .0) (a-path (at-cost-at .cost-at .ensures) (at-is-no-path .is-no-path .ensures) (c .if1 .left))
 
-add-if2 : tie.Need-add-if2 Inv-loop μ-loop
-add-if2 c = omega (arith, walking-inside ((c .loop .inv)))
+hops-at-requires : tie.Need-hops-at-requires Inv-loop μ-loop
+hops-at-requires c κs =
+    let at-start = c .before .before .before .before .before .before in
+    omega (arith, walking-inside (c .loop .inv), at-start .pre .1)
 
-mul-if2 : tie.Need-mul-if2 Inv-loop μ-loop
-mul-if2 c = omega (arith, walking-inside ((c .loop .inv)))
-
-shared-slice-read-if2 : tie.Need-shared-slice-read-if2 Inv-loop μ-loop
-shared-slice-read-if2 c = omega (arith, walking-inside ((c .before .loop .inv)), (c .before .before .before .before .pre .1))
+differs-requires : tie.Need-differs-requires Inv-loop μ-loop
+differs-requires c κs = search needs
 
 add-next : tie.Need-add-next Inv-loop μ-loop
-add-next c = omega (arith, walking-inside ((c .before .before .loop .inv)))
+add-next c =
+    let at-loop = c .before .before .before in
+    omega (arith, walking-inside (at-loop .loop .inv))
 
 mul-next : tie.Need-mul-next Inv-loop μ-loop
-mul-next c = omega (arith, walking-inside ((c .before .before .loop .inv)))
+mul-next c =
+    let at-loop = c .before .before .before in
+    omega (arith, walking-inside (at-loop .loop .inv))
 
 shared-slice-read-next : tie.Need-shared-slice-read-next Inv-loop μ-loop
-shared-slice-read-next c = omega (arith, walking-inside ((c .before .before .before .loop .inv)), (c .before .before .before .before .before .before .pre .1))
+shared-slice-read-next c =
+    let at-loop = c .before .before .before .before in
+    let at-start = at-loop .before .before .before .before .before .before in
+    omega (arith, walking-inside (at-loop .loop .inv), at-start .pre .1)
 
 mul-result : tie.Need-mul-result Inv-loop μ-loop
-mul-result c = omega (arith, walking-inside ((c .before .before .before .before .loop .inv)))
+mul-result c =
+    let at-loop = c .before .before .before .before .before in
+    omega (arith, walking-inside (at-loop .loop .inv))
 
 shared-slice-read-result : tie.Need-shared-slice-read-result Inv-loop μ-loop
-shared-slice-read-result c = omega (arith, walking-inside ((c .before .before .before .before .before .loop .inv)), (c .before .before .before .before .before .before .before .before .pre .2))
+shared-slice-read-result c =
+    let at-loop = c .before .before .before .before .before .before in
+    let at-start = at-loop .before .before .before .before .before .before in
+    omega (arith, walking-inside (at-loop .loop .inv), at-start .pre .2)
 
 returns-2 : tie.Need-returns-2 Inv-loop μ-loop
-returns-2 c = walking-finds ((c .before .before .before .before .before .loop .inv)) ((c .before .before .before .if2 .taken)) ((c .before .if3 .taken))
+returns-2 c =
+    let at-if3 = c .before in
+    let at-if2 = at-if3 .before .before in
+    let at-differs = at-if2 .before in
+    let at-hops-at = at-differs .before in
+    let at-loop = at-hops-at .before in
+    walking-finds (at-loop .loop .inv) (at-hops-at .hops-at .ensures) (differ (at-differs .differs .ensures) (at-if2 .if2 .taken)) (at-if3 .if3 .taken)
 
 cast-c : tie.Need-cast-c Inv-loop μ-loop
-cast-c c = omega (arith, walking-inside (walking-goes-on ((c .before .before .before .before .loop .inv)) ((c .before .before .if2 .taken)) ((c .if3 .left))))
+cast-c c =
+    let at-if2 = c .before .before in
+    let at-differs = at-if2 .before in
+    let at-hops-at = at-differs .before in
+    let at-loop = at-hops-at .before in
+    let on = walking-goes-on (at-loop .loop .inv) (at-hops-at .hops-at .ensures) (differ (at-differs .differs .ensures) (at-if2 .if2 .taken)) (c .if3 .left) in
+    omega (arith, walking-inside on)
 
 loop-less : tie.Need-loop-less Inv-loop μ-loop
-loop-less c = fewer-hops ((c .before .before .before .before .loop .inv)) ((c .before .before .if2 .taken))
+loop-less c =
+    let at-if2 = c .before .before in
+    let at-differs = at-if2 .before in
+    let at-hops-at = at-differs .before in
+    let at-loop = at-hops-at .before in
+    fewer-hops (at-loop .loop .inv) (at-hops-at .hops-at .ensures) (differ (at-differs .differs .ensures) (at-if2 .if2 .taken))
 
 loop-again : tie.Need-loop-again Inv-loop μ-loop
-loop-again c = walking-goes-on ((c .before .before .before .before .loop .inv)) ((c .before .before .if2 .taken)) ((c .if3 .left))
+loop-again c =
+    let at-if2 = c .before .before in
+    let at-differs = at-if2 .before in
+    let at-hops-at = at-differs .before in
+    let at-loop = at-hops-at .before in
+    walking-goes-on (at-loop .loop .inv) (at-hops-at .hops-at .ensures) (differ (at-differs .differs .ensures) (at-if2 .if2 .taken)) (c .if3 .left)
 
 returns-3 : tie.Need-returns-3 Inv-loop μ-loop
-returns-3 c = walking-ends ((c .before .before .loop .inv)) ((c .if2 .left))
+returns-3 c =
+    let at-differs = c .before in
+    let at-hops-at = at-differs .before in
+    let at-loop = at-hops-at .before in
+    walking-ends (at-loop .loop .inv) (at-hops-at .hops-at .ensures) (agree (at-differs .differs .ensures) (c .if2 .left))
 
 pub leaving-port-spec : {M : Type 1} → statement M
 leaving-port-spec =
@@ -73,14 +116,12 @@ leaving-port-spec =
     (tie.spec
     Inv-loop
     μ-loop
-    add-if1
-    mul-if1
-    shared-slice-read-if1
+    cost-at-requires
+    is-no-path-requires
     returns
     loop-holds
-    add-if2
-    mul-if2
-    shared-slice-read-if2
+    hops-at-requires
+    differs-requires
     add-next
     mul-next
     shared-slice-read-next

@@ -6,7 +6,7 @@ use Rattle.tree.proofs.nearest.least_waiting.Statement.{statement}
 use Rattle.tree.proofs.nearest.least_waiting.Tie as tie
 
 abbrev Inv-loop : tie.InvT-loop
-Inv-loop labels n least₀ u₀ least u = Leasting labels n u least
+Inv-loop labels n least₀ u₀ least u = Leasting labels n u (least .0)
 
 abbrev μ-loop : tie.MeasureT-loop
 μ-loop labels n least₀ u₀ least u = n - u
@@ -14,11 +14,8 @@ abbrev μ-loop : tie.MeasureT-loop
 loop-holds : tie.Need-loop-holds Inv-loop μ-loop
 loop-holds c = leasting-starts _ _
 
-mul-lesser : tie.Need-mul-lesser Inv-loop μ-loop
-mul-lesser c = search needs
-
-shared-slice-read-lesser : tie.Need-shared-slice-read-lesser Inv-loop μ-loop
-shared-slice-read-lesser c = search needs
+waits-at-requires : tie.Need-waits-at-requires Inv-loop μ-loop
+waits-at-requires c κs = search needs
 
 lesser-requires : tie.Need-lesser-requires Inv-loop μ-loop
 lesser-requires c κs = search needs
@@ -30,7 +27,10 @@ loop-less : tie.Need-loop-less Inv-loop μ-loop
 loop-less c = search needs
 
 loop-again : tie.Need-loop-again Inv-loop μ-loop
-loop-again c = leasting-goes-on (c .before .before .before .loop .inv) _ (c .before .before .loop-test .taken) (c .lesser .ensures)
+loop-again c =
+    let at-waits-at = c .before in
+    let at-loop-test = at-waits-at .before in
+    leasting-goes-on (at-loop-test .before .loop .inv) (at-loop-test .loop-test .taken) (at-waits-at .waits-at .ensures) (c .lesser .ensures)
 
 returns : tie.Need-returns Inv-loop μ-loop
 returns c = leasting-ends (c .before .loop .inv) (c .loop-test .left)
@@ -42,8 +42,7 @@ least-waiting-spec =
     Inv-loop
     μ-loop
     loop-holds
-    mul-lesser
-    shared-slice-read-lesser
+    waits-at-requires
     lesser-requires
     add-u
     loop-less

@@ -13,7 +13,10 @@ same-length : tie.Need-same-length
 same-length c = search needs
 
 returns : tie.Need-returns
-returns c = offer-refused (c .before .before .before .before .before .args .labels .now) (c .before .before .before .before .before .args .rows .now) (c .before .before .before .before .before .args .via) (c .before .before .before .before .before .args .v) (c .before .before .before .before .before .args .cost .0) (c .before .before .before .before .before .args .hops .0) (c .before .is-lower-offer .result) (c .before .is-lower-offer .ensures) (c .if1 .taken)
+returns c =
+    let at-is-lower-offer = c .before in
+    let at-start = at-is-lower-offer .before .before .before .before in
+    offer-refused (at-start .args .labels .now) (at-start .args .rows .now) (at-start .args .via) (at-start .args .v) (at-start .args .cost .0) (at-start .args .hops .0) (at-is-lower-offer .is-lower-offer .result) (at-is-lower-offer .is-lower-offer .ensures) (c .if1 .taken)
 
 mul-labels : tie.Need-mul-labels
 mul-labels c = search needs
@@ -28,7 +31,9 @@ mul-labels-2 : tie.Need-mul-labels-2
 mul-labels-2 c = search needs
 
 slice-write-labels-2 : tie.Need-slice-write-labels-2
-slice-write-labels-2 c = simp length-set (omega (arith, c .before .before .before .before .before .pre .has-labels, c .before .before .before .before .before .pre .v-in))
+slice-write-labels-2 c =
+    let at-start = c .before .before .before .before .before in
+    simp length-set (omega (arith, at-start .pre .has-labels, at-start .pre .v-in))
 
 add-labels-2 : tie.Need-add-labels-2
 add-labels-2 c = search needs
@@ -37,7 +42,9 @@ mul-labels-3 : tie.Need-mul-labels-3
 mul-labels-3 c = search needs
 
 slice-write-labels-3 : tie.Need-slice-write-labels-3
-slice-write-labels-3 c = simp length-set (omega (arith, c .before .before .before .before .before .pre .has-labels, c .before .before .before .before .before .pre .v-in))
+slice-write-labels-3 c =
+    let at-start = c .before .before .before .before .before in
+    simp length-set (omega (arith, at-start .pre .has-labels, at-start .pre .v-in))
 
 cast-labels : tie.Need-cast-labels
 cast-labels c = search needs
@@ -49,13 +56,18 @@ mul-labels-4 : tie.Need-mul-labels-4
 mul-labels-4 c = search needs
 
 slice-write-labels-4 : tie.Need-slice-write-labels-4
-slice-write-labels-4 c = simp length-set (omega (arith, c .before .before .before .before .before .pre .has-labels, c .before .before .before .before .before .pre .v-in))
+slice-write-labels-4 c =
+    let at-start = c .before .before .before .before .before in
+    simp length-set (omega (arith, at-start .pre .has-labels, at-start .pre .v-in))
 
 same-length-2 : tie.Need-same-length-2
 same-length-2 c = search needs
 
 returns-2 : tie.Need-returns-2
-returns-2 c = offer-taken (c .before .before .before .before .before .args .labels .now) (c .before .before .before .before .before .args .rows .now) (c .before .before .before .before .before .args .via) (c .before .before .before .before .before .args .v) (c .before .before .before .before .before .args .cost .0) (c .before .before .before .before .before .args .hops .0) (c .before .is-lower-offer .result) (c .before .is-lower-offer .ensures) (c .if1 .left)
+returns-2 c =
+    let at-is-lower-offer = c .before in
+    let at-start = at-is-lower-offer .before .before .before .before in
+    offer-taken (at-start .args .labels .now) (at-start .args .rows .now) (at-start .args .via) (at-start .args .v) (at-start .args .cost .0) (at-start .args .hops .0) (at-is-lower-offer .is-lower-offer .result) (at-is-lower-offer .is-lower-offer .ensures) (c .if1 .left)
 
 pub relax-spec : {M : Type 1} → statement M
 relax-spec =

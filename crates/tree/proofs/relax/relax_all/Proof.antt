@@ -7,28 +7,21 @@ use Rattle.tree.proofs.relax.relax_all.Statement.{statement}
 use Rattle.tree.proofs.relax.relax_all.Tie as tie
 
 abbrev Inv-loop : tie.InvT-loop
-Inv-loop starts neighbours costs rows labels₀ via far steps end i₀ labels i = Offering starts neighbours costs rows labels₀ via labels i
+Inv-loop starts neighbours costs rows labels₀ via far hops end i₀ labels i = Offering starts neighbours costs rows labels₀ via labels i
 
 abbrev μ-loop : tie.MeasureT-loop
-μ-loop starts neighbours costs rows labels₀ via far steps end i₀ labels i = end - i
+μ-loop starts neighbours costs rows labels₀ via far hops end i₀ labels i = end - i
 
-add-far : tie.Need-add-far Inv-loop μ-loop
-add-far c = search needs
+cost-at-requires : tie.Need-cost-at-requires Inv-loop μ-loop
+cost-at-requires c κs = search needs
 
-mul-far : tie.Need-mul-far Inv-loop μ-loop
-mul-far c = search needs
+hops-at-requires : tie.Need-hops-at-requires Inv-loop μ-loop
+hops-at-requires c κs = search needs
 
-slice-read-far : tie.Need-slice-read-far Inv-loop μ-loop
-slice-read-far c = search needs
-
-add-steps : tie.Need-add-steps Inv-loop μ-loop
-add-steps c = search needs
-
-mul-steps : tie.Need-mul-steps Inv-loop μ-loop
-mul-steps c = search needs
-
-slice-read-steps : tie.Need-slice-read-steps Inv-loop μ-loop
-slice-read-steps c = search needs
+plus-requires : tie.Need-plus-requires Inv-loop μ-loop
+plus-requires c κs =
+    let at-start = c .before .before .before .before .before .before .before .before .before in
+    omega (arith, c .hops-at .ensures, at-start .pre .steps-in)
 
 add-end : tie.Need-add-end Inv-loop μ-loop
 add-end c = search needs
@@ -52,7 +45,7 @@ cast-i : tie.Need-cast-i Inv-loop μ-loop
 cast-i c = search needs
 
 loop-holds : tie.Need-loop-holds Inv-loop μ-loop
-loop-holds c = offering-starts _ _ _ _ _ _ (c .before .before .before .before .before .before .before .before .before .pre)
+loop-holds c = offering-starts _ _ _ _ _ _ (c .before .before .before .before .before .before .before .before .before .before .before .before .pre)
 
 mul-relax : tie.Need-mul-relax Inv-loop μ-loop
 mul-relax c = search needs
@@ -60,11 +53,14 @@ mul-relax c = search needs
 shared-slice-read-relax : tie.Need-shared-slice-read-relax Inv-loop μ-loop
 shared-slice-read-relax c = search needs
 
-plus-requires : tie.Need-plus-requires Inv-loop μ-loop
-plus-requires c κs = omega (arith, c .before .before .before .before .before .before .before .before .before .before .before .before .pre .cost-in (c .before .before .loop .i) (c .before .before .loop .inv .after) (c .before .loop-test .taken))
-
 plus-requires-2 : tie.Need-plus-requires-2 Inv-loop μ-loop
-plus-requires-2 c κs = search needs
+plus-requires-2 c κs =
+    let at-loop-test = c .before in
+    let at-loop = at-loop-test .before in
+    let at-hops = at-loop .before .before .before .before in
+    let at-cost = at-hops .before .before in
+    let at-start = at-cost .before .before .before .before .before .before .before in
+    omega (arith, at-cost .cost-at .ensures, at-start .pre .cost-in (at-loop .loop .i) (at-loop .loop .inv .after) (at-loop-test .loop-test .taken))
 
 mul-relax-2 : tie.Need-mul-relax-2 Inv-loop μ-loop
 mul-relax-2 c = search needs
@@ -73,10 +69,23 @@ shared-slice-read-relax-2 : tie.Need-shared-slice-read-relax-2 Inv-loop μ-loop
 shared-slice-read-relax-2 c = search needs
 
 cast-relax : tie.Need-cast-relax Inv-loop μ-loop
-cast-relax c = omega (arith, c .before .before .before .before .before .before .before .before .before .before .before .before .before .before .before .before .pre .neighbour-in (c .before .before .before .before .before .before .loop .i) (c .before .before .before .before .before .before .loop .inv .after) (c .before .before .before .before .before .loop-test .taken))
+cast-relax c =
+    let at-loop-test = c .before .before .before .before in
+    let at-loop = at-loop-test .before in
+    let at-start = at-loop .before .before .before .before .before .before .before .before .before .before .before .before .before in
+    omega (arith, at-start .pre .neighbour-in (at-loop .loop .i) (at-loop .loop .inv .after) (at-loop-test .loop-test .taken))
 
 relax-requires : tie.Need-relax-requires Inv-loop μ-loop
-relax-requires c κs = offering-comparable _ _ _ _ _ _ (c .before .before .before .before .before .before .before .before .before .before .before .before .before .before .before .before .pre) (c .before .before .before .before .before .before .loop .inv) (c .before .before .before .before .before .loop-test .taken) _ _ (c .before .before .before .plus .ensures) (c .before .before .plus2 .ensures)
+relax-requires c κs =
+    let at-cost-plus = c .before .before in
+    let at-loop-test = at-cost-plus .before .before in
+    let at-loop = at-loop-test .before in
+    let at-hops-plus = at-loop .before .before .before in
+    let at-hops = at-hops-plus .before in
+    let at-cost = at-hops .before .before in
+    let at-start = at-cost .before .before .before .before .before .before .before in
+    offering-comparable _ _ _ _ _ _ (at-start .pre) (at-loop .loop .inv) (at-loop-test .loop-test .taken)
+    (at-cost .cost-at .ensures) (at-hops .hops-at .ensures) (at-cost-plus .plus2 .ensures) (at-hops-plus .plus .ensures)
 
 add-i : tie.Need-add-i Inv-loop μ-loop
 add-i c = search needs
@@ -85,13 +94,26 @@ loop-less : tie.Need-loop-less Inv-loop μ-loop
 loop-less c = search needs
 
 loop-again : tie.Need-loop-again Inv-loop μ-loop
-loop-again c = offering-goes-on _ _ _ _ _ _ (c .before .before .before .before .before .before .before .before .before .before .before .before .before .before .before .before .before .before .before .pre) (c .before .before .before .before .before .before .before .before .before .loop .inv) (c .before .before .before .before .before .before .before .before .loop-test .taken) _ _ (c .before .before .before .before .before .before .plus .ensures) (c .before .before .before .before .before .plus2 .ensures) (c .before .before .relax .ensures)
+loop-again c =
+    let at-relax = c .before .before in
+    let at-cost-plus = at-relax .before .before .before in
+    let at-loop-test = at-cost-plus .before .before in
+    let at-loop = at-loop-test .before in
+    let at-hops-plus = at-loop .before .before .before in
+    let at-hops = at-hops-plus .before in
+    let at-cost = at-hops .before .before in
+    let at-start = at-cost .before .before .before .before .before .before .before in
+    offering-goes-on _ _ _ _ _ _ (at-start .pre) (at-loop .loop .inv) (at-loop-test .loop-test .taken)
+    (at-cost .cost-at .ensures) (at-hops .hops-at .ensures) (at-cost-plus .plus2 .ensures) (at-hops-plus .plus .ensures) (at-relax .relax .ensures)
 
 same-length : tie.Need-same-length Inv-loop μ-loop
 same-length c = c .before .loop .inv .same-length
 
 returns : tie.Need-returns Inv-loop μ-loop
-returns c = offering-ends _ _ _ _ _ _ (c .before .before .before .before .before .before .before .before .before .before .before .pre) (c .before .loop .inv) (c .loop-test .left)
+returns c =
+    let at-loop = c .before in
+    let at-start = at-loop .before .before .before .before .before .before .before .before .before .before .before .before .before in
+    offering-ends _ _ _ _ _ _ (at-start .pre) (at-loop .loop .inv) (c .loop-test .left)
 
 pub relax-all-spec : {M : Type 1} → statement M
 relax-all-spec =
@@ -99,12 +121,9 @@ relax-all-spec =
     (tie.spec
     Inv-loop
     μ-loop
-    add-far
-    mul-far
-    slice-read-far
-    add-steps
-    mul-steps
-    slice-read-steps
+    cost-at-requires
+    hops-at-requires
+    plus-requires
     add-end
     mul-end
     shared-slice-read-end
@@ -115,7 +134,6 @@ relax-all-spec =
     loop-holds
     mul-relax
     shared-slice-read-relax
-    plus-requires
     plus-requires-2
     mul-relax-2
     shared-slice-read-relax-2

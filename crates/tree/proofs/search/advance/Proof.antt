@@ -8,10 +8,18 @@ first-waiting-requires : tie.Need-first-waiting-requires
 first-waiting-requires c κs = search needs
 
 settle-requires : tie.Need-settle-requires
-settle-requires c κs = search-settleable _ _ _ _ _ _ (c .before .before .before .before .before .before .before .before .before .before .pre .0) (c .before .before .before .before .before .before .before .before .before .before .pre .1) (c .before .before .before .before .before .before .before .before .before .before .pre .2) (c .before .before .first-waiting .ensures)
+settle-requires c κs =
+    let at-first-waiting = c .before .before in
+    let at-start = at-first-waiting .before .before .before .before .before .before .before .before in
+    search-settleable _ _ _ _ _ _ (at-start .pre .0) (at-start .pre .1) (at-start .pre .2) (at-first-waiting .first-waiting .ensures)
 
 relax-all-requires : tie.Need-relax-all-requires
-relax-all-requires c κs = search-relaxable-on _ _ _ _ _ _ (c .before .before .before .before .before .before .before .before .before .before .before .before .before .before .before .before .before .pre .0) (c .before .before .before .before .before .before .before .before .before .before .before .before .before .before .before .before .before .pre .1) (c .before .before .before .before .before .before .before .before .before .before .before .before .before .before .before .before .before .pre .2) (c .before .before .before .before .before .before .before .before .before .first-waiting .ensures) (c .before .before .before .before .before .before .settle .ensures .0) (c .before .before .before .before .before .before .settle .ensures .1)
+relax-all-requires c κs =
+    let at-settle = c .before .before .before .before .before .before in
+    let at-first-waiting = at-settle .before .before .before in
+    let at-start = at-first-waiting .before .before .before .before .before .before .before .before in
+    search-relaxable-on _ _ _ _ _ _ (at-start .pre .0) (at-start .pre .1) (at-start .pre .2) (at-first-waiting .first-waiting .ensures)
+    (at-settle .settle .ensures .0) (at-settle .settle .ensures .1)
 
 same-length : tie.Need-same-length
 same-length c = search needs
@@ -20,7 +28,13 @@ same-length-2 : tie.Need-same-length-2
 same-length-2 c = search needs
 
 returns : tie.Need-returns
-returns c = search-goes-on _ _ _ _ _ _ (c .before .before .before .before .before .before .before .before .before .before .before .before .before .before .before .before .before .before .before .before .pre .0) (c .before .before .before .before .before .before .before .before .before .before .before .before .before .before .before .before .before .before .before .before .pre .1) (c .before .before .before .before .before .before .before .before .before .before .before .before .before .before .before .before .before .before .before .before .pre .2) (c .before .before .before .before .before .before .before .before .before .before .before .before .first-waiting .ensures) (c .before .before .before .before .before .before .before .before .before .settle .ensures .0) (c .before .before .before .before .before .before .before .before .before .settle .ensures .1) (c .before .before .relax-all .ensures)
+returns c =
+    let at-relax-all = c .before .before in
+    let at-settle = at-relax-all .before .before .before .before .before .before .before in
+    let at-first-waiting = at-settle .before .before .before in
+    let at-start = at-first-waiting .before .before .before .before .before .before .before .before in
+    search-goes-on _ _ _ _ _ _ (at-start .pre .0) (at-start .pre .1) (at-start .pre .2) (at-first-waiting .first-waiting .ensures)
+    (at-settle .settle .ensures .0) (at-settle .settle .ensures .1) (at-relax-all .relax-all .ensures)
 
 pub advance-spec : {M : Type 1} → statement M
 advance-spec =

@@ -1,6 +1,9 @@
 -- `tree::search::tree` starts with the root and goes on until no bridge waits. Assumes nothing.
+use native.Mathlib.Omega.{arith}
+use native.Mathlib.Nat.{le-trans, lt-of-lt-of-le}
 use mathlib.Core.Path.{_≡_, refl, _∙_}
 use lib.ListN.{length}
+use Rattle.rule.specs.laws.MeasureLaws.{below, not-below}
 use Rattle.tree.specs.Labels.{LeastOf}
 use Rattle.tree.specs.Tracked.{Underway, openBridges}
 use Rattle.tree.specs.laws.SearchLaws.{search-relaxable, search-starts, search-ends}
@@ -9,7 +12,8 @@ use Rattle.tree.proofs.search.tree.Statement.{statement}
 use Rattle.tree.proofs.search.tree.Tie as tie
 
 abbrev Inv-loop : tie.InvT-loop
-Inv-loop starts neighbours costs keys labels₀ rows₀ n root least₀ labels rows least = Underway n starts neighbours costs keys root labels rows × LeastOf labels n least × (length labels ≡ length labels₀) × (length rows ≡ length rows₀)
+Inv-loop starts neighbours costs keys labels₀ rows₀ n root least₀ labels rows least =
+    Underway n starts neighbours costs keys root labels rows × LeastOf labels n (least .0) × (length labels ≡ length labels₀) × (length rows ≡ length rows₀)
 
 abbrev μ-loop : tie.MeasureT-loop
 μ-loop starts neighbours costs keys labels₀ rows₀ n root least₀ labels rows least = openBridges n labels
@@ -18,34 +22,67 @@ begin-requires : tie.Need-begin-requires Inv-loop μ-loop
 begin-requires c κs = search needs
 
 relax-all-requires : tie.Need-relax-all-requires Inv-loop μ-loop
-relax-all-requires c κs = search-relaxable _ _ _ _ _ _ (c .before .before .before .before .before .before .before .before .before .before .before .before .before .before .before .pre .0) _ _ _ _ (c .before .before .before .before .before .before .before .before .before .before .before .before .before .before .before .pre .1) (c .before .before .before .before .before .before .before .before .before .before .before .before .before .before .before .pre .2) (c .before .before .before .before .before .before .before .before .before .before .before .before .before .before .before .pre .3) (c .before .before .before .before .before .before .begin .ensures)
+relax-all-requires c κs =
+    let at-begin = c .before .before .before .before .before .before in
+    let at-start = at-begin .before .before .before .before .before .before .before .before .before in
+    search-relaxable _ _ _ _ _ _ (at-start .pre .0) _ _ _ _ (at-start .pre .1) (at-start .pre .2) (at-start .pre .3) (at-begin .begin .ensures)
 
 least-waiting-requires : tie.Need-least-waiting-requires Inv-loop μ-loop
 least-waiting-requires c κs = search needs
 
 loop-holds : tie.Need-loop-holds Inv-loop μ-loop
-loop-holds c = (search-starts _ _ _ _ _ _ (c .before .before .before .before .before .before .before .before .before .before .before .before .before .before .before .before .before .before .before .before .pre .0) _ _ _ _ (c .before .before .before .before .before .before .before .before .before .before .before .before .before .before .before .before .before .before .before .before .pre .1) (c .before .before .before .before .before .before .before .before .before .before .before .before .before .before .before .before .before .before .before .before .pre .2) (c .before .before .before .before .before .before .before .before .before .before .before .before .before .before .before .before .before .before .before .before .pre .3) (c .before .before .before .before .before .before .before .before .before .before .before .begin .ensures) _ (c .before .before .before .before .relax-all .ensures), c .least-waiting .ensures, refl, refl)
+loop-holds c =
+    let at-relax-all = c .before .before .before .before in
+    let at-begin = at-relax-all .before .before .before .before .before .before .before in
+    let at-start = at-begin .before .before .before .before .before .before .before .before .before in (
+      search-starts _ _ _ _ _ _ (at-start .pre .0) _ _ _ _ (at-start .pre .1) (at-start .pre .2) (at-start .pre .3) (at-begin .begin .ensures) _
+          (at-relax-all .relax-all .ensures),
+      c .least-waiting .ensures,
+      refl,
+      refl,
+    )
+
+is-below-requires : tie.Need-is-below-requires Inv-loop μ-loop
+is-below-requires c κs = search needs
 
 advance-requires : tie.Need-advance-requires Inv-loop μ-loop
-advance-requires c κs = search needs
+advance-requires c κs =
+    let at-if1 = c .before .before in
+    let at-is-below = at-if1 .before in
+    let at-loop = at-is-below .before in
+    (at-loop .loop .inv .0, at-loop .loop .inv .1, lt-of-lt-of-le (below (at-is-below .is-below .ensures) (at-if1 .if1 .taken)) (omega arith))
 
 least-waiting-requires-2 : tie.Need-least-waiting-requires-2 Inv-loop μ-loop
 least-waiting-requires-2 c κs = search needs
 
 loop-less : tie.Need-loop-less Inv-loop μ-loop
-loop-less c = c .before .before .before .before .before .before .advance .ensures .1
+loop-less c =
+    let at-advance = c .before .before .before .before .before .before in
+    at-advance .advance .ensures .1
 
 loop-again : tie.Need-loop-again Inv-loop μ-loop
-loop-again c = (c .before .before .before .before .before .before .advance .ensures .0, c .least-waiting2 .ensures, search needs, search needs)
+loop-again c =
+    let at-advance = c .before .before .before .before .before .before in
+    (at-advance .advance .ensures .0, c .least-waiting2 .ensures, search needs, search needs)
 
 same-length : tie.Need-same-length Inv-loop μ-loop
-same-length c = c .before .loop .inv .2 ∙ c .before .before .before .before .before .before .relax-all .ensures .same-length ∙ c .before .before .before .before .before .before .before .before .before .before .before .before .before .begin .ensures .same-labels
+same-length c =
+    let at-loop = c .before .before in
+    let at-relax-all = at-loop .before .before .before .before .before in
+    let at-begin = at-relax-all .before .before .before .before .before .before .before in
+    at-loop .loop .inv .2 ∙ at-relax-all .relax-all .ensures .same-length ∙ at-begin .begin .ensures .same-labels
 
 same-length-2 : tie.Need-same-length-2 Inv-loop μ-loop
-same-length-2 c = c .before .loop .inv .3 ∙ c .before .before .before .before .before .before .before .before .before .before .before .before .before .begin .ensures .same-rows
+same-length-2 c =
+    let at-loop = c .before .before in
+    let at-begin = at-loop .before .before .before .before .before .before .before .before .before .before .before .before in
+    at-loop .loop .inv .3 ∙ at-begin .begin .ensures .same-rows
 
 returns : tie.Need-returns Inv-loop μ-loop
-returns c = search-ends _ _ _ _ _ _ (c .before .loop .inv .0) (c .before .loop .inv .1) (c .loop-test .left)
+returns c =
+    let at-is-below = c .before in
+    let at-loop = at-is-below .before in
+    search-ends _ _ _ _ _ _ (at-loop .loop .inv .0) (at-loop .loop .inv .1) (le-trans (omega arith) (not-below (at-is-below .is-below .ensures) (c .if1 .left)))
 
 pub tree-spec : {M : Type 1} → statement M
 tree-spec =
@@ -57,6 +94,7 @@ tree-spec =
     relax-all-requires
     least-waiting-requires
     loop-holds
+    is-below-requires
     advance-requires
     least-waiting-requires-2
     loop-less

@@ -16,7 +16,10 @@ mul-labels : tie.Need-mul-labels
 mul-labels c = search needs
 
 slice-write-labels : tie.Need-slice-write-labels
-slice-write-labels c = omega (arith, c .before .before .before .before .before .before .before .pre, c .before .before .clear .ensures .same-length)
+slice-write-labels c =
+    let at-clear = c .before .before in
+    let at-start = at-clear .before .before .before .before .before in
+    omega (arith, at-start .pre, at-clear .clear .ensures .same-length)
 
 add-labels-2 : tie.Need-add-labels-2
 add-labels-2 c = search needs
@@ -25,7 +28,10 @@ mul-labels-2 : tie.Need-mul-labels-2
 mul-labels-2 c = search needs
 
 slice-write-labels-2 : tie.Need-slice-write-labels-2
-slice-write-labels-2 c = simp length-set (omega (arith, c .before .before .before .before .before .before .before .pre, c .before .before .clear .ensures .same-length))
+slice-write-labels-2 c =
+    let at-clear = c .before .before in
+    let at-start = at-clear .before .before .before .before .before in
+    simp length-set (omega (arith, at-start .pre, at-clear .clear .ensures .same-length))
 
 cast-labels : tie.Need-cast-labels
 cast-labels c = search needs
@@ -37,7 +43,10 @@ mul-labels-3 : tie.Need-mul-labels-3
 mul-labels-3 c = search needs
 
 slice-write-labels-3 : tie.Need-slice-write-labels-3
-slice-write-labels-3 c = simp length-set (omega (arith, c .before .before .before .before .before .before .before .pre, c .before .before .clear .ensures .same-length))
+slice-write-labels-3 c =
+    let at-clear = c .before .before in
+    let at-start = at-clear .before .before .before .before .before in
+    simp length-set (omega (arith, at-start .pre, at-clear .clear .ensures .same-length))
 
 cast-labels-2 : tie.Need-cast-labels-2
 cast-labels-2 c = search needs
@@ -49,7 +58,10 @@ mul-labels-4 : tie.Need-mul-labels-4
 mul-labels-4 c = search needs
 
 slice-write-labels-4 : tie.Need-slice-write-labels-4
-slice-write-labels-4 c = simp length-set (omega (arith, c .before .before .before .before .before .before .before .pre, c .before .before .clear .ensures .same-length))
+slice-write-labels-4 c =
+    let at-clear = c .before .before in
+    let at-start = at-clear .before .before .before .before .before in
+    simp length-set (omega (arith, at-start .pre, at-clear .clear .ensures .same-length))
 
 mul-rows : tie.Need-mul-rows
 mul-rows c = search needs
@@ -73,7 +85,10 @@ same-length-2 : tie.Need-same-length-2
 same-length-2 c = search needs
 
 returns : tie.Need-returns
-returns c = begun _ _ _ _ _ _ (c .before .before .before .before .before .before .before .before .pre .0) (c .before .before .before .before .before .before .before .before .pre .1) (c .before .before .before .before .before .before .before .before .pre .2) (c .before .before .before .before .before .before .before .before .pre .3) (c .before .before .before .clear .ensures)
+returns c =
+    let at-clear = c .before .before .before in
+    let at-start = at-clear .before .before .before .before .before in
+    begun _ _ _ _ _ _ (at-start .pre .0) (at-start .pre .1) (at-start .pre .2) (at-start .pre .3) (at-clear .clear .ensures)
 
 pub begin-spec : {M : Type 1} → statement M
 begin-spec =

@@ -38,7 +38,10 @@ loop-less : tie.Need-loop-less Inv-loop μ-loop
 loop-less c = search needs
 
 loop-again : tie.Need-loop-again Inv-loop μ-loop
-loop-again c = clearing-goes-on (c .before .loop .inv) (c .before .before .pre .0) (c .before .before .pre .1) (c .loop-test .taken)
+loop-again c =
+    let at-loop = c .before in
+    let at-start = at-loop .before in
+    clearing-goes-on (at-loop .loop .inv) (at-start .pre .0) (at-start .pre .1) (c .loop-test .taken)
 
 same-length : tie.Need-same-length Inv-loop μ-loop
 same-length c = c .before .loop .inv .so-far .same-length

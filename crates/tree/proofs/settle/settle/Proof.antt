@@ -1,45 +1,33 @@
 -- `tree::settle::settle` writes the row, the first hop, and that the bridge waits no more. Assumes nothing.
-use Prim.Native.Nat.{ℕ, _+_}
 use native.Mathlib.Omega.{arith}
-use mathlib.Core.Path.{ap}
-use lib.ListN.{set, length-set}
-use Rattle.tree.specs.Labels.{noCost}
+use lib.ListN.{length-set}
+use Rattle.tree.specs.laws.SettlingLaws.{read-insertable, row-settled, first-settled}
 use borrow.Author.Needs.{needs}
 use Rattle.tree.proofs.settle.settle.Statement.{statement}
 use Rattle.tree.proofs.settle.settle.Tie as tie
 
-add-next : tie.Need-add-next
-add-next c = search needs
+next-at-requires : tie.Need-next-at-requires
+next-at-requires c κs = search needs
 
-mul-next : tie.Need-mul-next
-mul-next c = search needs
+hops-at-requires : tie.Need-hops-at-requires
+hops-at-requires c κs = search needs
 
-slice-read-next : tie.Need-slice-read-next
-slice-read-next c = search needs
-
-cast-next : tie.Need-cast-next
-cast-next c = search needs
-
-add-insert-row : tie.Need-add-insert-row
-add-insert-row c = search needs
+count-requires : tie.Need-count-requires
+count-requires c κs = search needs
 
 mul-insert-row : tie.Need-mul-insert-row
 mul-insert-row c = search needs
-
-slice-read-insert-row : tie.Need-slice-read-insert-row
-slice-read-insert-row c = search needs
-
-cast-insert-row : tie.Need-cast-insert-row
-cast-insert-row c = search needs
-
-mul-insert-row-2 : tie.Need-mul-insert-row-2
-mul-insert-row-2 c = search needs
 
 shared-slice-read-insert-row : tie.Need-shared-slice-read-insert-row
 shared-slice-read-insert-row c = search needs
 
 insert-row-requires : tie.Need-insert-row-requires
-insert-row-requires c κs = search needs
+insert-row-requires c κs =
+    let at-count = c .before in
+    let at-hops = at-count .before in
+    let at-next = at-hops .before .before .before in
+    let at-start = at-next .before .before .before .before .before in
+    read-insertable (at-start .args .labels .now) _ _ (at-next .next-at .ensures) (at-hops .hops-at .ensures) (at-count .count .ensures) (at-start .pre .insertable)
 
 cast-first-hop : tie.Need-cast-first-hop
 cast-first-hop c = search needs
@@ -69,7 +57,9 @@ mul-labels-2 : tie.Need-mul-labels-2
 mul-labels-2 c = search needs
 
 slice-write-labels-2 : tie.Need-slice-write-labels-2
-slice-write-labels-2 c = simp length-set (omega (arith, c .before .before .before .before .before .before .before .before .before .before .before .before .pre .has-labels, c .before .before .before .before .before .before .before .before .before .before .before .before .pre .u-in))
+slice-write-labels-2 c =
+    let at-start = c .before .before .before .before .before .before .before .before .before .before .before .before .before .before .before in
+    simp length-set (omega (arith, at-start .pre .has-labels, at-start .pre .u-in))
 
 same-length : tie.Need-same-length
 same-length c = search needs
@@ -78,21 +68,25 @@ same-length-2 : tie.Need-same-length-2
 same-length-2 c = search needs
 
 returns : tie.Need-returns
-returns c = (ap (λ (k : ℕ). set (set (c .before .before .before .before .before .before .before .before .before .before .before .before .args .labels .now) (256 + c .before .before .before .before .before .before .before .before .before .before .before .before .args .u) k) (c .before .before .before .before .before .before .before .before .before .before .before .before .args .u) noCost) (c .first-hop .ensures), c .before .before .before .before .insert-row .ensures)
+returns c =
+    let at-insert-row = c .before .before .before .before in
+    let at-count = at-insert-row .before .before in
+    let at-hops = at-count .before in
+    let at-next = at-hops .before .before .before in
+    let at-start = at-next .before .before .before .before .before in (
+      first-settled (at-start .args .labels .now) (at-start .args .root) (at-start .args .u) (at-next .next-at .ensures) (c .first-hop .ensures),
+      row-settled (at-start .args .labels .now) _ _ (at-next .next-at .ensures) (at-hops .hops-at .ensures) (at-count .count .ensures) _
+          (at-insert-row .insert-row .ensures),
+    )
 
 pub settle-spec : {M : Type 1} → statement M
 settle-spec =
     tie.close
     (tie.spec
-    add-next
-    mul-next
-    slice-read-next
-    cast-next
-    add-insert-row
+    next-at-requires
+    hops-at-requires
+    count-requires
     mul-insert-row
-    slice-read-insert-row
-    cast-insert-row
-    mul-insert-row-2
     shared-slice-read-insert-row
     insert-row-requires
     cast-first-hop
