@@ -1,23 +1,41 @@
 -- `measured::measured::make_trees` makes trees over lists that stay as they are. Assumes nothing.
 use borrow.Author.Needs.{needs}
-use Prim.Native.Nat.{_-_}
+use Prim.Native.Nat.{_-_, _≤_}
 use native.Mathlib.Omega.{arith}
 use mathlib.Core.Path.{_≡_, refl}
 use lib.ListN.{length}
+use Rattle.measured.specs.Measured.{LastTree}
+use Rattle.measured.specs.laws.MeasuredLaws.{next-tree, all-trees}
 use Rattle.measured.proofs.measured.make_trees.Statement.{statement}
 use Rattle.measured.proofs.measured.make_trees.Tie as tie
 
 abbrev Inv-loop : tie.InvT-loop
-Inv-loop starts neighbours costs identifiers n count labels₀ rows₀ root₀ labels rows root = (length labels ≡ length labels₀) × (length rows ≡ length rows₀)
+Inv-loop starts neighbours costs identifiers n count labels₀ rows₀ root₀ labels rows root =
+    (length labels ≡ length labels₀)
+    × (length rows ≡ length rows₀)
+    × (root ≤ count)
+    × LastTree n starts neighbours costs identifiers root labels₀ labels
 
 abbrev μ-loop : tie.MeasureT-loop
 μ-loop starts neighbours costs identifiers n count labels₀ rows₀ root₀ labels rows root = count - root
 
 loop-holds : tie.Need-loop-holds Inv-loop μ-loop
-loop-holds c = (refl, refl)
+loop-holds c = (refl, refl, omega arith, refl)
 
 tree-over-lists-requires : tie.Need-tree-over-lists-requires Inv-loop μ-loop
-tree-over-lists-requires c κs = (((c .before .before .before .before .before .before .before .before .before .before .pre .0), (c .before .before .before .before .before .before .before .before .before .before .pre .1)), (omega arith, omega arith, omega (arith, (c .before .before .before .before .before .before .before .before .before .before .pre .2), (c .before .before .loop-test .taken)), omega (arith, (c .before .before .before .before .before .before .before .before .before .before .pre .3), (c .before .before .before .loop .inv .0)), omega (arith, (c .before .before .before .before .before .before .before .before .before .before .pre .4), (c .before .before .before .loop .inv .1))))
+tree-over-lists-requires c κs =
+    let at-loop = c .before .before .before in
+    let at-start = at-loop .before .before .before .before .before .before .before in
+    (
+      (at-start .pre .0, at-start .pre .1),
+      (
+        omega arith,
+        omega arith,
+        omega (arith, at-start .pre .2, c .before .before .loop-test .taken),
+        omega (arith, at-start .pre .3, at-loop .loop .inv .0),
+        omega (arith, at-start .pre .4, at-loop .loop .inv .1),
+      ),
+    )
 
 add-root : tie.Need-add-root Inv-loop μ-loop
 add-root c = search needs
@@ -26,7 +44,7 @@ loop-less : tie.Need-loop-less Inv-loop μ-loop
 loop-less c = search needs
 
 loop-again : tie.Need-loop-again Inv-loop μ-loop
-loop-again c = search needs
+loop-again c = ?
 
 same-length : tie.Need-same-length Inv-loop μ-loop
 same-length c = search needs
@@ -35,7 +53,7 @@ same-length-2 : tie.Need-same-length-2 Inv-loop μ-loop
 same-length-2 c = search needs
 
 returns : tie.Need-returns Inv-loop μ-loop
-returns c = search needs
+returns c = ?
 
 pub make-trees-spec : {M : Type 1} → statement M
 make-trees-spec =
