@@ -8,6 +8,9 @@ use lib.ListN.{length, getD, getD-replicate}
 use borrow.Author.Tests.{lt-ltb, le-ltb}
 use Rattle.graph.specs.Chosen.{chosen}
 use Rattle.rule.specs.declared.answer.RecordKind.{RecordKind}
+use Rattle.rule.specs.declared.answer.PathAnswer.{PathAnswer}
+use Rattle.rule.specs.declared.answer.TreeAnswer.{TreeAnswer}
+use Rattle.rule.specs.declared.answer.EntriesAnswer.{EntriesAnswer}
 use Rattle.rule.specs.Words.{wordsOf}
 use Rattle.rule.specs.Outcome.{Outcome, answered}
 use Rattle.rule.specs.Plan.{Plan}
@@ -15,6 +18,8 @@ use Rattle.rule.specs.Check.{verdict}
 use Rattle.rule.specs.Links.{graphOf}
 use Rattle.rule.specs.Identifiers.{keyOf}
 use Rattle.rule.specs.Paths.{chosenPath}
+use Rattle.rule.specs.Answers.{CostAndHops, pathValues, treeValues, entriesValues}
+use Rattle.rule.specs.Calls.{pathOutcome, treeOutcome, entriesOutcome}
 use Rattle.table.specs.declared.shape.Shape.{Shape}
 use Rattle.table.specs.Positions.{planAt}
 use Rattle.verdict.specs.declared.examine.Examined.{Examined}
@@ -22,7 +27,7 @@ use Rattle.verdict.specs.Examination.{examinedValues}
 use Rattle.tree.specs.Labels.{labelAt}
 use Rattle.tree.specs.Trees.{SaysPath}
 use Rattle.network.specs.PlanLists.{ListsOf, TreeOfLists}
-use Rattle.measured.specs.Measured.{zeros, costOrNone, lastCost, lastCostOrRefusal, measuredTrees, LastTree}
+use Rattle.measured.specs.Measured.{zeros, costOrRefusal, numberOrRefusal, measuredPath, measuredTree, measuredEntries, costOrNone, lastCost, lastCostOrRefusal, measuredTrees, LastTree}
 
 -- One tree more.
 pub next-tree : (n : ℕ) (starts neighbours costs identifiers : List ℕ) (root : ℕ) (lent labels : List ℕ) → TreeOfLists n starts neighbours costs identifiers 1 root labels
@@ -67,3 +72,21 @@ pub all-trees : (n : ℕ) (starts neighbours costs identifiers : List ℕ) (root
 all-trees n starts neighbours costs identifiers root count lent labels l m T =
     let e : root ≡ count = omega arith
     in subst (λ (k : ℕ). LastTree n starts neighbours costs identifiers k lent labels) e T
+
+-- The number of what a call answered, with lists of zeros lent.
+module _ (t : List ℕ) where
+  module _ (vid a b : ℕ) (r : PathAnswer) (list : List ℕ) (e : _≡_ {A = Outcome CostAndHops × List ℕ} (pathValues r, list) (pathOutcome t vid a b (zeros 64))) where
+    pub path-number : {number : ℕ} → number ≡ costOrRefusal (pathValues r) → number ≡ measuredPath t vid a b
+    unfolding measuredPath
+    path-number f = f ∙ ap (λ (z : Outcome CostAndHops × List ℕ). costOrRefusal (z .0)) e
+
+  module _ (vid a : ℕ) (r : TreeAnswer) (costs hopCounts lasts : List ℕ)
+      (e : _≡_ {A = Outcome ℕ × List ℕ × List ℕ × List ℕ} (treeValues r, costs, hopCounts, lasts) (treeOutcome t vid a (zeros 64) (zeros 64) (zeros 64))) where
+    pub tree-number : {number : ℕ} → number ≡ numberOrRefusal (treeValues r) → number ≡ measuredTree t vid a
+    unfolding measuredTree
+    tree-number f = f ∙ ap (λ (z : Outcome ℕ × List ℕ × List ℕ × List ℕ). numberOrRefusal (z .0)) e
+
+  module _ (b : ℕ) (r : EntriesAnswer) (list : List ℕ) (e : _≡_ {A = Outcome ℕ × List ℕ} (entriesValues r, list) (entriesOutcome t b (zeros 14931))) where
+    pub entries-number : {number : ℕ} → number ≡ numberOrRefusal (entriesValues r) → number ≡ measuredEntries t b
+    unfolding measuredEntries
+    entries-number f = f ∙ ap (λ (z : Outcome ℕ × List ℕ). numberOrRefusal (z .0)) e

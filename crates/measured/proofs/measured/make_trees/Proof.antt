@@ -25,8 +25,7 @@ loop-holds c = (refl, refl, omega arith, refl)
 tree-over-lists-requires : tie.Need-tree-over-lists-requires Inv-loop μ-loop
 tree-over-lists-requires c κs =
     let at-loop = c .before .before .before in
-    let at-start = at-loop .before .before .before .before .before .before .before in
-    (
+    let at-start = at-loop .before .before .before .before .before .before .before in (
       (at-start .pre .0, at-start .pre .1),
       (
         omega arith,
@@ -44,7 +43,12 @@ loop-less : tie.Need-loop-less Inv-loop μ-loop
 loop-less c = search needs
 
 loop-again : tie.Need-loop-again Inv-loop μ-loop
-loop-again c = ?
+loop-again c = (
+  search needs,
+  search needs,
+  omega (arith, c .before .before .before .before .before .before .before .loop-test .taken),
+  next-tree _ _ _ _ _ _ _ _ (c .before .before .before .before .tree-over-lists .ensures),
+)
 
 same-length : tie.Need-same-length Inv-loop μ-loop
 same-length c = search needs
@@ -53,7 +57,7 @@ same-length-2 : tie.Need-same-length-2 Inv-loop μ-loop
 same-length-2 c = search needs
 
 returns : tie.Need-returns Inv-loop μ-loop
-returns c = ?
+returns c = all-trees _ _ _ _ _ _ _ _ _ (c .before .loop .inv .2) (c .loop-test .left) (c .before .loop .inv .3)
 
 pub make-trees-spec : {M : Type 1} → statement M
 make-trees-spec =

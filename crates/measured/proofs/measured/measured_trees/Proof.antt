@@ -2,7 +2,11 @@
 use borrow.Author.Needs.{needs}
 use native.Mathlib.Omega.{arith}
 use Rattle.index.specs.laws.IndexLaws.{no-keys-yet}
+use Rattle.rule.specs.Words.{wordsOf}
+use Rattle.rule.specs.Records.{bridgeOf}
+use Rattle.table.specs.laws.PositionLaws.{how-many}
 use Rattle.spb.specs.laws.Examined.{accepted-checked}
+use Rattle.measured.specs.laws.MeasuredLaws.{too-many, trees-made, trees-refused}
 use Rattle.measured.proofs.measured.measured_trees.Statement.{statement}
 use Rattle.measured.proofs.measured.measured_trees.Tie as tie
 
@@ -16,7 +20,14 @@ enum-known-examined : tie.Need-enum-known-examined
 enum-known-examined c = search needs
 
 returns : tie.Need-returns
-returns c = search needs
+returns c =
+    let at-accepted = c .before .before .before in
+    let at-examine = at-accepted .before .before .before in
+    let at-start = at-examine .before .before .before in
+    let t = at-start .args .table .now in
+    let examined = at-examine .examine in
+    let many = how-many bridgeOf 3 0 (wordsOf t) (at-accepted .examined .given .0 .0 .bridges) in
+    too-many t (examined .result) (examined .ensures .0) (at-start .args .count) _ (at-accepted .examined .given .1) (omega (arith, c .if1 .taken, many))
 
 slice-aggregate-trees-of-table : tie.Need-slice-aggregate-trees-of-table
 slice-aggregate-trees-of-table c = search needs
@@ -33,10 +44,22 @@ enum-known-examined-2 : tie.Need-enum-known-examined-2
 enum-known-examined-2 c = search needs
 
 returns-2 : tie.Need-returns-2
-returns-2 c = search needs
+returns-2 c =
+    let at-accepted = c .before .before .before .before .before in
+    let at-examine = at-accepted .before .before .before in
+    let at-start = at-examine .before .before .before in
+    let t = at-start .args .table .now in
+    let examined = at-examine .examine in
+    let many = how-many bridgeOf 3 0 (wordsOf t) (at-accepted .examined .given .0 .0 .bridges) in
+    trees-made t (examined .result) (examined .ensures .0) (at-start .args .count) _ (at-accepted .examined .given .1)
+    (omega (arith, c .before .before .if1 .left, many)) (c .trees-of-table .ensures)
 
 returns-3 : tie.Need-returns-3
-returns-3 c = search needs
+returns-3 c =
+    let at-examine = c .before .before .before .before in
+    let at-start = at-examine .before .before .before in
+    let examined = at-examine .examine in
+    trees-refused (at-start .args .table .now) (examined .result) (examined .ensures .0) (at-start .args .count) _ _ _ (c .before .examined2 .given .1)
 
 pub measured-trees-spec : {M : Type 1} → statement M
 measured-trees-spec =

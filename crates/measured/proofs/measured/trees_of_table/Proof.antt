@@ -1,8 +1,13 @@
 -- `measured::measured::trees_of_table` makes the lists of the table's plan and trees over them. Assumes nothing.
 use borrow.Author.Needs.{needs}
 use native.Mathlib.Omega.{arith}
+use mathlib.Core.Path.{_∙_}
 use Rattle.links.specs.laws.PairLaws.{few-bridges}
+use Rattle.rule.specs.Words.{wordsOf}
+use Rattle.rule.specs.Records.{bridgeOf}
+use Rattle.table.specs.laws.PositionLaws.{how-many}
 use Rattle.network.specs.laws.PlanListLaws.{lists-of-table}
+use Rattle.measured.specs.laws.MeasuredLaws.{last-label}
 use Rattle.measured.proofs.measured.trees_of_table.Statement.{statement}
 use Rattle.measured.proofs.measured.trees_of_table.Tie as tie
 
@@ -73,7 +78,25 @@ cost-at-requires : tie.Need-cost-at-requires
 cost-at-requires c κs = search needs
 
 returns : tie.Need-returns
-returns c = search needs
+returns c =
+    c .cost-at .ensures
+    ∙ last-label
+    _
+    (lists-of-table
+    (c .before .before .before .before .before .before .before .before .before .before .before .before .before .before .before .before .before .before .before .before .before .before .before .before .before .before .before .pre .0)
+    (c .before .before .before .before .before .before .before .before .before .before .before .before .before .before .before .before .before .before .before .neighbours-of .ensures)
+    (c .before .before .before .before .before .before .before .before .before .before .before .before .write-identifiers .ensures)
+    (omega (arith, few-bridges (c .before .before .before .before .before .before .before .before .before .before .before .before .before .before .before .before .before .before .before .before .before .before .before .before .before .before .before .pre .0)))
+    (omega arith)
+    (omega arith)
+    (omega (arith, few-bridges (c .before .before .before .before .before .before .before .before .before .before .before .before .before .before .before .before .before .before .before .before .before .before .before .before .before .before .before .pre .0))))
+    (how-many bridgeOf 3 0
+    (wordsOf (c .before .before .before .before .before .before .before .before .before .before .before .before .before .before .before .before .before .before .before .before .before .before .before .before .before .before .before .args .table .now))
+    (c .before .before .before .before .before .before .before .before .before .before .before .before .before .before .before .before .before .before .before .before .before .before .before .before .before .before .before .args .s .bridges))
+    _
+    (c .before .before .before .before .before .before .before .before .before .before .before .before .before .before .before .before .before .before .before .before .before .before .before .before .before .before .before .args .count)
+    (c .before .before .before .before .before .before .before .before .before .before .before .before .before .before .before .before .before .before .before .before .before .before .before .before .before .before .before .pre .1)
+    (c .before .before .before .before .make-trees .ensures)
 
 pub trees-of-table-spec : {M : Type 1} → statement M
 trees-of-table-spec =
