@@ -6,62 +6,98 @@ use mathlib.Core.Path.{_≡_, refl}
 use mathlib.Core.List.{List, [], _∷_, _++_, map, flatMap}
 use mathlib.Core.Option.{Option, none, some}
 use mathlib.Core.Bool.{Bool, cond}
-use lib.ListN.{length, replicate}
+use lib.ListN.{length, getD, replicate}
 use Rattle.graph.specs.Lists.{rising, selected, anyPasses, lowestBy}
+use Rattle.graph.specs.Order.{insertUpward, sorted, isLower}
+use Rattle.graph.specs.Graph.{costOnward}
+use Rattle.graph.specs.Chosen.{neighbours, onward, paths, chosen}
 use Rattle.graph.specs.Members.{sumOver}
 use Rattle.rule.specs.Words.{wordsOf, word}
 use Rattle.rule.specs.figures.Tables.{table}
-use Rattle.rule.specs.Records.{Bridge, HalfLink, Vid, Member, Layout, layouts, layoutOf}
-use Rattle.rule.specs.Outcome.{Outcome, answered, refused, andThen}
-use Rattle.rule.specs.Plan.{Plan}
+use Rattle.rule.specs.Records.{Record, bridge, halfLink, vid, member, end, bridgeOf, halfLinkOf, vidOf, memberOf, allWithin, leastMetric, greatestUsableMetric, unusableMetric, layouts, layoutOf}
+use Rattle.rule.specs.Outcome.{Outcome, answered, refused, andThen, Written}
+use Rattle.rule.specs.Plan.{Plan, withRecord, alike, bridgeAt, vidAt}
 use Rattle.rule.specs.Check.{lowestFault, readOn, verdict}
-use Rattle.rule.specs.Links.{linksOf, usableLinks, countUsable}
-use Rattle.rule.specs.Identifiers.{maskOf}
-use Rattle.rule.specs.Answers.{kindNumber}
-use Rattle.rule.specs.Calls.{checkOutcome}
+use Rattle.rule.specs.Links.{Link, number, linksOf, usableLinks, countUsable, linksBetween, joined, hopLink, costOf, graphOf}
+use Rattle.rule.specs.Identifiers.{maskOf, maskedBytes, maskedIdentifier}
+use Rattle.rule.specs.Paths.{chosenPath}
+use Rattle.rule.specs.Entries.{listOf, firstPort, leavingPort, entryListOf, entriesOf, individualEntries, groupEntries, listedPorts, receiverPorts}
+use Rattle.rule.specs.Answers.{CostAndHops, kindNumber, checkValues, pathValues, treeValues, entriesValues, lookupValues}
+use Rattle.rule.specs.Calls.{countsOf, checkOutcome, pathAnswer, pathOutcome, lastButOne, treeOf, treeOutcome, entriesAnswer, entriesOutcome}
+use Rattle.rule.specs.Lookup.{entriesIn, faultyList, matchingPorts, lookupOutcome}
+use Rattle.rule.specs.Exported.{exportedCheck, exportedPathCost}
+use Rattle.rule.specs.Frames.{crossed, arrivalPort, entryPorts, leaves, crossings, stood, copiesLeave, copies, copiesCross, reached}
 use Rattle.rule.specs.declared.answer.Counts.{Counts}
 use Rattle.rule.specs.declared.answer.RecordKind.the-variants.{None as NoKind, Bridge as BridgeKind, HalfLink as HalfLinkKind, Vid as VidKind, Member as MemberKind, End as EndKind}
+use Rattle.rule.specs.declared.answer.CheckAnswer.{CheckAnswer}
+use Rattle.rule.specs.declared.answer.PathAnswer.{PathAnswer}
+use Rattle.rule.specs.declared.answer.TreeAnswer.{TreeAnswer}
+use Rattle.rule.specs.declared.answer.EntriesAnswer.{EntriesAnswer}
+use Rattle.rule.specs.declared.answer.LookupAnswer.{LookupAnswer}
 
--- What a definition gives is shown as rows of numbers, or as a refusal. A test shows 1 or 0, an option its number or no row.
+-- What a definition gives is shown as numbers or as a refusal, and rows of numbers behind it: the records of a plan, or the later
+-- contents of lent lists. A test shows 1 or 0.
 abbrev Shown : Type 0
-Shown = Outcome (List (List ℕ))
+Shown = Outcome (List ℕ) × List (List ℕ)
 
 abbrev numbers : List ℕ → Shown
-numbers ns = answered (ns ∷ [])
+numbers ns = (answered ns, [])
+
+abbrev rows : List (List ℕ) → Shown
+rows rs = (answered [], rs)
 
 abbrev flag : Bool → ℕ
 flag b = cond b 1 0
 
+-- The refusal of a record of a kind, and one without a kind.
+abbrev fault : ℕ → ℕ → ℕ → Shown
+fault number kind at = (refused number (some kind) at, [])
+
+abbrev bare : ℕ → ℕ → Shown
+bare number at = (refused number none at, [])
+
+-- An outcome, with what `f` shows of its answer.
+module _ {A : Type 0} where
+  abbrev shownBy : (A → Shown) → Outcome A → Shown
+  shownBy f (answered a) = f a
+  shownBy f (refused number kind at) = (refused number kind at, [])
+
+  -- The same, with the later contents of lent lists.
+  abbrev lentBy : (A → List ℕ) → Outcome A → List (List ℕ) → Shown
+  lentBy f (answered a) lent = (answered (f a), lent)
+  lentBy f (refused number kind at) lent = (refused number kind at, lent)
+
 -- A decoded plan: a row for each record, which begins with its kind.
-abbrev shownPlan : Outcome Plan → Shown
-shownPlan (refused number kind at) = refused number kind at
-shownPlan (answered p) =
-    answered
+abbrev recordRows : Plan → Shown
+recordRows p =
+    rows
     (map (λ b. 1 ∷ b .spSourceId ∷ b .identifier ∷ []) (p .bridges)
     ++ (map (λ h. 2 ∷ h .metric ∷ h .near ∷ h .far ∷ h .port ∷ h .link ∷ []) (p .halfLinks)
     ++ (map (λ v. 3 ∷ v .vid ∷ v .index ∷ []) (p .vids)
     ++ map (λ m. 4 ∷ flag (m .transmits) ∷ flag (m .receives) ∷ m .isid ∷ m .bridge ∷ m .vid ∷ []) (p .members))))
 
-abbrev shownCounts : Outcome Counts → Shown
-shownCounts (refused number kind at) = refused number kind at
-shownCounts (answered c) = numbers (c .bridges ∷ c .«half_links» ∷ c .«usable_links» ∷ c .vids ∷ c .members ∷ [])
+abbrev fiveCounts : Counts → List ℕ
+fiveCounts c = c .bridges ∷ c .«half_links» ∷ c .«usable_links» ∷ c .vids ∷ c .members ∷ []
+
+abbrev costAndHops : CostAndHops → List ℕ
+costAndHops v = v .cost ∷ v .hops ∷ []
+
+abbrev optional : Option ℕ → List ℕ
+optional none = []
+optional (some n) = n ∷ []
+
+abbrev linkNumbers : List Link → Shown
+linkNumbers ls = numbers (map number ls)
 
 -- The verdict on a table given by its rows, on a table of as many zero bytes, and the counts of a table.
 abbrev check : List (List ℕ) → Shown
-check rows = shownPlan (verdict (table rows))
+check t = shownBy recordRows (verdict (table t))
 
 abbrev zeroBytes : ℕ → Shown
-zeroBytes n = shownPlan (verdict (replicate n 0))
+zeroBytes n = shownBy recordRows (verdict (replicate n 0))
 
 abbrev counts : List (List ℕ) → Shown
-counts rows = shownCounts (checkOutcome (table rows))
-
--- The refusal of a record of a kind, and one without a kind.
-abbrev fault : ℕ → ℕ → ℕ → Shown
-fault number kind at = refused number (some kind) at
-
-abbrev bare : ℕ → ℕ → Shown
-bare number at = refused number none at
+counts t = shownBy (λ c. numbers (fiveCounts c)) (checkOutcome (table t))
 
 -- Records of which the tables are made: bridges 0 to 2, the two halves of link 7 between 0 and 1, a VID, a member.
 abbrev bridge0 : List ℕ
@@ -94,6 +130,113 @@ manyVids n = map (λ k. (0x30000001 + k * 0x10000) ∷ []) (rising 1 n)
 
 abbrev manyMembers : ℕ → List (List ℕ)
 manyMembers n = map (λ k. (0x40000100 + k) ∷ 0x00000001 ∷ []) (rising 1 n)
+
+-- Bridges 0, 1 and 2 in a chain of the links 7 and 9, bridge 3 alone. Link 8 between 0 and 1 is unusable, link 11 is a half-link
+-- alone. Bridge 0 sends in VID 10 and 11, bridge 2 in VID 10, and bridge 1 in a service without receivers.
+abbrev chain : List (List ℕ)
+chain =
+    (0x100abcde ∷ 0x80000200 ∷ 0x00000001 ∷ [])
+    ∷ (0x10000001 ∷ 0x80000200 ∷ 0x00000002 ∷ [])
+    ∷ (0x10054321 ∷ 0x8000fedc ∷ 0xba987654 ∷ [])
+    ∷ (0x10000004 ∷ 0x80000200 ∷ 0x00000004 ∷ [])
+    ∷ (0x2000000a ∷ 0x00000001 ∷ 0x00050007 ∷ [])
+    ∷ (0x2000000c ∷ 0x00010000 ∷ 0x00060007 ∷ [])
+    ∷ (0x20000014 ∷ 0x00020001 ∷ 0x00030009 ∷ [])
+    ∷ (0x20000013 ∷ 0x00010002 ∷ 0x0fff0009 ∷ [])
+    ∷ (0x20000001 ∷ 0x00000001 ∷ 0x00070008 ∷ [])
+    ∷ (0x20ffffff ∷ 0x00010000 ∷ 0x00070008 ∷ [])
+    ∷ (0x20000001 ∷ 0x00000002 ∷ 0x0009000b ∷ [])
+    ∷ (0x300a0001 ∷ [])
+    ∷ (0x300b0002 ∷ [])
+    ∷ (0x43000100 ∷ 0x0000000a ∷ [])
+    ∷ (0x41000100 ∷ 0x0001000a ∷ [])
+    ∷ (0x43000100 ∷ 0x0002000a ∷ [])
+    ∷ (0x41000101 ∷ 0x0001000a ∷ [])
+    ∷ (0x42000101 ∷ 0x0000000b ∷ [])
+    ∷ (0x41000101 ∷ 0x0002000b ∷ [])
+    ∷ (0x41000100 ∷ 0x0003000a ∷ [])
+    ∷ (0x42000102 ∷ 0x0001000a ∷ [])
+    ∷ (0xf0000033 ∷ [])
+    ∷ []
+
+-- Its entries, bridge by bridge.
+abbrev entries0 : List ℕ
+entries0 =
+    0x800a0005 ∷ 0x00000200 ∷ 0x00000002
+    ∷ 0x800a0005 ∷ 0x0000fedc ∷ 0xba987654
+    ∷ 0x900a0005 ∷ 0x0000a3bc ∷ 0xde000100
+    ∷ 0x800b0005 ∷ 0x00000200 ∷ 0x00000002
+    ∷ 0x800b0005 ∷ 0x0000fedc ∷ 0xba987654
+    ∷ 0x900b0005 ∷ 0x0000a3bc ∷ 0xde000101
+    ∷ []
+
+abbrev entries1 : List ℕ
+entries1 =
+    0x800a0006 ∷ 0x00000200 ∷ 0x00000001
+    ∷ 0x800a0fff ∷ 0x0000fedc ∷ 0xba987654
+    ∷ 0x900a0fff ∷ 0x0000a3bc ∷ 0xde000100
+    ∷ 0x900a0006 ∷ 0x00005343 ∷ 0x21000100
+    ∷ 0x800b0006 ∷ 0x00000200 ∷ 0x00000001
+    ∷ 0x800b0fff ∷ 0x0000fedc ∷ 0xba987654
+    ∷ 0x900b0fff ∷ 0x0000a3bc ∷ 0xde000101
+    ∷ []
+
+abbrev entries2 : List ℕ
+entries2 =
+    0x800a0003 ∷ 0x00000200 ∷ 0x00000001
+    ∷ 0x800a0003 ∷ 0x00000200 ∷ 0x00000002
+    ∷ 0x900a0003 ∷ 0x00005343 ∷ 0x21000100
+    ∷ 0x800b0003 ∷ 0x00000200 ∷ 0x00000001
+    ∷ 0x800b0003 ∷ 0x00000200 ∷ 0x00000002
+    ∷ []
+
+abbrev lists : ℕ → List ℕ
+lists u = getD (entries0 ∷ entries1 ∷ entries2 ∷ []) u []
+
+-- What is asked of the plan of the chain.
+abbrev ofChain : (Plan → Shown) → Shown
+ofChain ask = shownBy ask (verdict (table chain))
+
+-- The calls on the chain: path in VID 10, the tree in VID 10 with three lent lists, entries with a list of 22 words.
+abbrev pathOf : ℕ → ℕ → List ℕ → Shown
+pathOf a b lent = given (pathOutcome (table chain) 10 a b lent)
+  where
+    given : Outcome CostAndHops × List ℕ → Shown
+    given r = lentBy costAndHops (r .0) (r .1 ∷ [])
+
+abbrev treeFrom : ℕ → ℕ → List ℕ → List ℕ → List ℕ → Shown
+treeFrom v a costs hopCounts lasts = given (treeOutcome (table chain) v a costs hopCounts lasts)
+  where
+    given : Outcome ℕ × List ℕ × List ℕ × List ℕ → Shown
+    given (o, xs, ys, zs) = lentBy (λ n. n ∷ []) o (xs ∷ ys ∷ zs ∷ [])
+
+abbrev entriesAt : ℕ → Shown
+entriesAt b = given (entriesOutcome (table chain) b (replicate 22 7))
+  where
+    given : Outcome ℕ × List ℕ → Shown
+    given r = lentBy (λ n. n ∷ []) (r .0) (r .1 ∷ [])
+
+-- Lookup in VID 10 of the address 1.
+abbrev lookedUp : List ℕ → ℕ → Shown
+lookedUp ws n = shownBy (λ o. numbers (optional o)) (lookupOutcome ws 10 1 n)
+
+-- The individual frame in VID 10 for bridge 2, by the chain's entries, and the copies of the group frame of bridge 0.
+abbrev frameLinks : Plan → ℕ → ℕ → List Link
+frameLinks p n a = crossings (leaves (p .halfLinks) lists 10 0xfedcba987654) 2 n a
+
+abbrev copiesAt : Plan → ℕ → List Link
+copiesAt p u = copiesLeave (p .halfLinks) lists 10 0xa3bcde000100 u
+
+-- Two entries with the address 1 in VID 10, between them one with another VID and one with another address, and a third: its matching
+-- entries, counted from 0.
+abbrev fiveEntries : List ℕ
+fiveEntries =
+    0x800a0001 ∷ 0x00000000 ∷ 0x00000001
+    ∷ 0x8ffe0005 ∷ 0x00000000 ∷ 0x00000001
+    ∷ 0x800a0fff ∷ 0x00000000 ∷ 0x00000001
+    ∷ 0x800a0006 ∷ 0x00000002 ∷ 0x00000001
+    ∷ 0x800a0002 ∷ 0x00000000 ∷ 0x00000001
+    ∷ []
 
 record Pin : Type 0 where
   asked : Shown
@@ -207,7 +350,7 @@ pins =
     ∷ (0x43fffffe ∷ 0x00000001 ∷ [])
     ∷ (0xf0000019 ∷ [])
     ∷ []))
-    (answered
+    (rows
     ((1 ∷ 1 ∷ 1 ∷ [])
     ∷ (1 ∷ 1048575 ∷ 0xfffffeffffffffff ∷ [])
     ∷ (2 ∷ 1 ∷ 0 ∷ 1 ∷ 1 ∷ 1 ∷ [])
@@ -221,8 +364,8 @@ pins =
     ∷ (4 ∷ 1 ∷ 1 ∷ 16777214 ∷ 0 ∷ 1 ∷ [])
     ∷ []))
     -- The kinds, words and limits of "The table", and 7,492 bytes: the words of a longest table four times.
-    ∷ pin (answered (map (λ l. l .kind ∷ l .words ∷ l .limit ∷ []) layouts))
-    (answered
+    ∷ pin (rows (map (λ l. l .kind ∷ l .words ∷ l .limit ∷ []) layouts))
+    (rows
     ((1 ∷ 3 ∷ 64 ∷ [])
     ∷ (2 ∷ 3 ∷ 512 ∷ [])
     ∷ (3 ∷ 1 ∷ 16 ∷ [])
@@ -233,9 +376,151 @@ pins =
     -- "ECT masks, index 1 to 16, hexadecimal: 00 FF 88 77 44 33 CC BB 22 11 66 55 AA 99 DD EE."
     ∷ pin (numbers (map maskOf (rising 1 16)))
     (numbers (0x00 ∷ 0xff ∷ 0x88 ∷ 0x77 ∷ 0x44 ∷ 0x33 ∷ 0xcc ∷ 0xbb ∷ 0x22 ∷ 0x11 ∷ 0x66 ∷ 0x55 ∷ 0xaa ∷ 0x99 ∷ 0xdd ∷ 0xee ∷ []))
+    -- "The metric type carries three named values: 1, the least; 16,777,214, the greatest usable; 16,777,215, unusable."
+    ∷ pin (numbers (leastMetric ∷ greatestUsableMetric ∷ unusableMetric ∷ [])) (numbers (1 ∷ 16777214 ∷ 16777215 ∷ []))
+    ∷ pin (numbers (allWithin (record { least = 3; greatest = 5 }))) (numbers (3 ∷ 4 ∷ 5 ∷ []))
+    -- "Bytes make words of 32 bits, high byte first." Bytes that make no whole word are left out, and there is no word behind the last.
+    ∷ pin (numbers (wordsOf (1 ∷ 2 ∷ 3 ∷ []))) (numbers [])
+    ∷ pin (numbers (wordsOf (1 ∷ 2 ∷ []))) (numbers [])
+    ∷ pin (numbers (wordsOf (1 ∷ 2 ∷ 3 ∷ 4 ∷ 5 ∷ []))) (numbers (0x01020304 ∷ []))
+    ∷ pin (numbers (word (5 ∷ []) 0 ∷ word (5 ∷ []) 1 ∷ [])) (numbers (5 ∷ 0 ∷ []))
+    -- What an index that no VID has gives, a bridge and a VID that are not there, and the number of records of each kind.
+    ∷ pin (numbers (map maskOf (0 ∷ 17 ∷ []))) (numbers (0 ∷ 0 ∷ []))
+    ∷ pin (ofChain λ p. numbers (bridgeAt p 4 .spSourceId ∷ bridgeAt p 4 .identifier ∷ vidAt p 2 .vid ∷ vidAt p 2 .index ∷ []))
+    (numbers (0 ∷ 0 ∷ 0 ∷ 0 ∷ []))
+    ∷ pin (ofChain λ p. numbers (bridgeAt p 3 .spSourceId ∷ vidAt p 1 .vid ∷ vidAt p 1 .index ∷ [])) (numbers (4 ∷ 11 ∷ 2 ∷ []))
+    ∷ pin
+    (ofChain λ p.
+    numbers
+    (map (alike p)
+    (bridge (bridgeOf []) ∷ halfLink (halfLinkOf []) ∷ vid (vidOf []) ∷ member (memberOf []) ∷ end 0 ∷ [])))
+    (numbers (4 ∷ 7 ∷ 2 ∷ 8 ∷ 0 ∷ []))
+    ∷ pin (ofChain λ p. numbers (fiveCounts (countsOf (withRecord p (end 0))))) (numbers (4 ∷ 7 ∷ 2 ∷ 2 ∷ 8 ∷ []))
+    -- "Each of the eight bytes of a Bridge Identifier is XORed with the mask of the VID's index."
+    ∷ pin (numbers (maskedIdentifier 6 0x8000020000000001 ∷ [])) (numbers (0xb333313333333332 ∷ []))
+    -- "A half-link alone isn't used." "A link costs the greater of its two metrics": the cost of each hop, 0 where two bridges are not
+    -- joined, and which bridges are joined to 0 and to 1.
+    ∷ pin
+    (ofChain λ p. rows (map (λ u. map (λ v. graphOf p .hop u v) (rising 0 4)) (rising 0 4)))
+    (rows
+    ((0 ∷ 12 ∷ 0 ∷ 0 ∷ [])
+    ∷ (12 ∷ 0 ∷ 20 ∷ 0 ∷ [])
+    ∷ (0 ∷ 20 ∷ 0 ∷ 0 ∷ [])
+    ∷ (0 ∷ 0 ∷ 0 ∷ 0 ∷ [])
+    ∷ []))
+    ∷ pin (ofChain λ p. rows (map (λ u. map (λ v. flag (joined (p .halfLinks) u v)) (rising 0 4)) (0 ∷ 1 ∷ [])))
+    (rows ((0 ∷ 1 ∷ 0 ∷ 0 ∷ []) ∷ (1 ∷ 0 ∷ 1 ∷ 0 ∷ []) ∷ []))
+    -- Path: the path of a bridge to itself, "12. No path exists", "11. The call names a bridge or VID that the table lacks". "Lent lists
+    -- keep every word."
+    ∷ pin (pathOf 0 2 (7 ∷ 7 ∷ 7 ∷ 7 ∷ [])) (answered (32 ∷ 2 ∷ []), (0 ∷ 1 ∷ 2 ∷ 7 ∷ []) ∷ [])
+    ∷ pin (pathOf 1 1 (7 ∷ [])) (answered (0 ∷ 0 ∷ []), (1 ∷ []) ∷ [])
+    ∷ pin (pathOf 0 3 (7 ∷ [])) (refused 12 none 0, (7 ∷ []) ∷ [])
+    ∷ pin (pathOf 4 0 (7 ∷ [])) (refused 11 none 0, (7 ∷ []) ∷ [])
+    ∷ pin (pathOf 0 4 (7 ∷ [])) (refused 11 none 0, (7 ∷ []) ∷ [])
+    -- Tree: the cost, hops and last bridge but one of the path to each bridge, or 0, 0 and 65,535 where none leads there.
+    ∷ pin (treeFrom 10 0 (7 ∷ 7 ∷ 7 ∷ 7 ∷ []) (8 ∷ 8 ∷ 8 ∷ 8 ∷ 8 ∷ []) (9 ∷ 9 ∷ 9 ∷ 9 ∷ 9 ∷ 9 ∷ []))
+    (answered (4 ∷ []), (0 ∷ 12 ∷ 32 ∷ 0 ∷ []) ∷ (0 ∷ 1 ∷ 2 ∷ 0 ∷ 8 ∷ []) ∷ (0 ∷ 0 ∷ 1 ∷ 65535 ∷ 9 ∷ 9 ∷ []) ∷ [])
+    ∷ pin (treeFrom 10 0 (7 ∷ 7 ∷ 7 ∷ []) (8 ∷ 8 ∷ 8 ∷ 8 ∷ []) (9 ∷ 9 ∷ 9 ∷ 9 ∷ []))
+    (refused 13 none 0, (7 ∷ 7 ∷ 7 ∷ []) ∷ (8 ∷ 8 ∷ 8 ∷ 8 ∷ []) ∷ (9 ∷ 9 ∷ 9 ∷ 9 ∷ []) ∷ [])
+    ∷ pin (treeFrom 10 0 (7 ∷ 7 ∷ 7 ∷ 7 ∷ []) (8 ∷ 8 ∷ 8 ∷ []) (9 ∷ 9 ∷ 9 ∷ 9 ∷ []))
+    (refused 13 none 0, (7 ∷ 7 ∷ 7 ∷ 7 ∷ []) ∷ (8 ∷ 8 ∷ 8 ∷ []) ∷ (9 ∷ 9 ∷ 9 ∷ 9 ∷ []) ∷ [])
+    ∷ pin (treeFrom 10 0 (7 ∷ 7 ∷ 7 ∷ 7 ∷ []) (8 ∷ 8 ∷ 8 ∷ 8 ∷ []) (9 ∷ 9 ∷ 9 ∷ []))
+    (refused 13 none 0, (7 ∷ 7 ∷ 7 ∷ 7 ∷ []) ∷ (8 ∷ 8 ∷ 8 ∷ 8 ∷ []) ∷ (9 ∷ 9 ∷ 9 ∷ []) ∷ [])
+    ∷ pin (treeFrom 10 4 (7 ∷ []) (8 ∷ []) (9 ∷ [])) (refused 11 none 0, (7 ∷ []) ∷ (8 ∷ []) ∷ (9 ∷ []) ∷ [])
+    ∷ pin (treeFrom 12 0 (7 ∷ []) (8 ∷ []) (9 ∷ [])) (refused 11 none 0, (7 ∷ []) ∷ (8 ∷ []) ∷ (9 ∷ []) ∷ [])
+    ∷ pin (numbers (map lastButOne ([] ∷ (4 ∷ []) ∷ (4 ∷ 5 ∷ []) ∷ (4 ∷ 5 ∷ 6 ∷ 7 ∷ []) ∷ []))) (numbers (0 ∷ 4 ∷ 4 ∷ 6 ∷ []))
+    -- Entries: "First, for each other bridge by number that a path reaches, one entry"; "Then, for each member record of that VID with T,
+    -- in table order, a group entry for each port"; "top 4 bits of SPsourceID then hexadecimal 3".
+    ∷ pin (entriesAt 0) (answered (18 ∷ []), (entries0 ++ (7 ∷ 7 ∷ 7 ∷ 7 ∷ [])) ∷ [])
+    ∷ pin (entriesAt 1) (answered (21 ∷ []), (entries1 ++ (7 ∷ [])) ∷ [])
+    ∷ pin (entriesAt 2) (answered (15 ∷ []), (entries2 ++ replicate 7 7) ∷ [])
+    ∷ pin (entriesAt 3) (answered (0 ∷ []), replicate 22 7 ∷ [])
+    ∷ pin (entriesAt 4) (refused 11 none 0, replicate 22 7 ∷ [])
+    -- "passes this bridge and leaves it there": the port of a path without a hop, of one that ends at the bridge, of one that does not
+    -- pass it.
+    ∷ pin
+    (ofChain λ p.
+    rows
+    (map (λ q. optional (firstPort (p .halfLinks) q)) ([] ∷ (0 ∷ []) ∷ (0 ∷ 3 ∷ []) ∷ (1 ∷ 2 ∷ []) ∷ [])
+    ++ map (λ b. optional (leavingPort (p .halfLinks) b (0 ∷ 1 ∷ 2 ∷ []))) (rising 0 4)))
+    (rows ([] ∷ [] ∷ [] ∷ (4095 ∷ []) ∷ (5 ∷ []) ∷ (4095 ∷ []) ∷ [] ∷ [] ∷ []))
+    -- Lookup: "port of the matching entry n, counted from 0 in list order, or none", and it "accepts an empty list".
+    ∷ pin (lookedUp [] 0) (numbers [])
+    ∷ pin (lookedUp fiveEntries 0) (numbers (1 ∷ []))
+    ∷ pin (lookedUp fiveEntries 1) (numbers (4095 ∷ []))
+    ∷ pin (lookedUp fiveEntries 2) (numbers (2 ∷ []))
+    ∷ pin (lookedUp fiveEntries 3) (numbers [])
+    -- "14. Lookup's list has a length that is no multiple of 3".
+    ∷ pin (lookedUp (0x800a0001 ∷ []) 0) (bare 14 0)
+    ∷ pin (lookedUp (0x800a0001 ∷ 0x00000000 ∷ []) 0) (bare 14 0)
+    ∷ pin (lookedUp (0x800a0001 ∷ 0x00000000 ∷ 0x00000001 ∷ 0x800a0001 ∷ []) 0) (bare 14 0)
+    -- "an unknown kind".
+    ∷ pin (lookedUp (0x700a0001 ∷ 0x00000000 ∷ 0x00000001 ∷ []) 0) (bare 14 0)
+    ∷ pin (lookedUp (0xa00a0001 ∷ 0x00000200 ∷ 0x00000001 ∷ []) 0) (bare 14 0)
+    -- "a VID or port outside its range".
+    ∷ pin (lookedUp (0x80000001 ∷ 0x00000000 ∷ 0x00000001 ∷ []) 0) (bare 14 0)
+    ∷ pin (lookedUp (0x8fff0001 ∷ 0x00000000 ∷ 0x00000001 ∷ []) 0) (bare 14 0)
+    ∷ pin (lookedUp (0x800a0000 ∷ 0x00000000 ∷ 0x00000001 ∷ []) 0) (bare 14 0)
+    ∷ pin (lookedUp (0x800a1000 ∷ 0x00000000 ∷ 0x00000001 ∷ []) 0) (bare 14 0)
+    -- "a zero bit set": bits 31..16 of the second word.
+    ∷ pin (lookedUp (0x800a0001 ∷ 0x80000000 ∷ 0x00000001 ∷ []) 0) (bare 14 0)
+    ∷ pin (lookedUp (0x800a0001 ∷ 0x00010000 ∷ 0x00000001 ∷ []) 0) (bare 14 0)
+    -- "an address whose group bit disagrees with the kind", here in the second entry.
+    ∷ pin (lookedUp (0x800a0001 ∷ 0x00000000 ∷ 0x00000001 ∷ 0x900a0001 ∷ 0x00000200 ∷ 0x00000001 ∷ []) 0) (bare 14 0)
+    -- "Exported check gives 0 or the refusal number." "Exported path cost gives the cost as a 64-bit number, or 4,294,967,296 plus the
+    -- refusal number".
+    ∷ pin
+    (numbers
+    (exportedCheck (table chain)
+    ∷ exportedCheck []
+    ∷ exportedCheck (table (bridge0 ∷ half01 ∷ []))
+    ∷ exportedPathCost (table chain) 10 0 2
+    ∷ exportedPathCost [] 10 0 2
+    ∷ exportedPathCost (table (bridge0 ∷ half01 ∷ [])) 10 0 2
+    ∷ exportedPathCost (table chain) 10 0 4
+    ∷ exportedPathCost (table chain) 10 0 3
+    ∷ []))
+    (numbers (0 ∷ 1 ∷ 7 ∷ 32 ∷ 4294967297 ∷ 4294967303 ∷ 4294967307 ∷ 4294967308 ∷ []))
+    -- Frames: "the port of the one entry of kind 8 there", "Without such a link the frame is lost": bridge 0 has a usable link at port 5
+    -- alone, of the ports 5, 6, 7 and 9.
+    ∷ pin (ofChain λ p. rows (map (λ port. map number (listOf (crossed (p .halfLinks) 0 port))) (5 ∷ 6 ∷ 7 ∷ 9 ∷ [])))
+    (rows ((7 ∷ []) ∷ [] ∷ [] ∷ [] ∷ []))
+    ∷ pin (ofChain λ p. rows (map (λ n. stood 0 (frameLinks p n 0)) (rising 0 4)))
+    (rows ((0 ∷ []) ∷ (0 ∷ 1 ∷ []) ∷ (0 ∷ 1 ∷ 2 ∷ []) ∷ (0 ∷ 1 ∷ 2 ∷ []) ∷ []))
+    ∷ pin (ofChain λ p. numbers (map arrivalPort (frameLinks p 4 0))) (numbers (6 ∷ 3 ∷ []))
+    ∷ pin (ofChain λ p. linkNumbers (crossings (leaves (p .halfLinks) (λ u. entries0 ++ entries0) 10 0xfedcba987654) 2 3 0)) (numbers [])
+    -- "A group frame begins in round 0 as one copy at its sender", "With no such entry it ends there", "all rounds count".
+    ∷ pin (ofChain λ p. rows (map (copies (copiesAt p) 0) (rising 0 4))) (rows ((0 ∷ []) ∷ (1 ∷ []) ∷ (2 ∷ []) ∷ [] ∷ []))
+    ∷ pin (ofChain λ p. rows (map (reached (copiesAt p) 0) (rising 0 4))) (rows ([] ∷ (1 ∷ []) ∷ (1 ∷ 2 ∷ []) ∷ (1 ∷ 2 ∷ []) ∷ []))
+    ∷ pin (ofChain λ p. linkNumbers (copiesCross (copiesAt p) 0 3)) (numbers (7 ∷ 9 ∷ []))
+    -- The numbers of the kinds, and the values of each case of an answer.
+    ∷ pin
+    (rows (map (λ k. optional (kindNumber k)) (NoKind ∷ BridgeKind ∷ HalfLinkKind ∷ VidKind ∷ MemberKind ∷ EndKind ∷ [])))
+    (rows ([] ∷ (1 ∷ []) ∷ (2 ∷ []) ∷ (3 ∷ []) ∷ (4 ∷ []) ∷ (15 ∷ []) ∷ []))
+    ∷ pin (shownBy (λ c. numbers (fiveCounts c)) (checkValues (CheckAnswer.Refused 6 VidKind 9))) (fault 6 3 9)
+    ∷ pin (shownBy (λ v. numbers (costAndHops v)) (pathValues (PathAnswer.Refused 6 VidKind 9))) (fault 6 3 9)
+    ∷ pin (shownBy (λ n. numbers (n ∷ [])) (treeValues (TreeAnswer.Refused 6 VidKind 9))) (fault 6 3 9)
+    ∷ pin (shownBy (λ n. numbers (n ∷ [])) (entriesValues (EntriesAnswer.Refused 6 VidKind 9))) (fault 6 3 9)
+    ∷ pin (shownBy (λ o. numbers (optional o)) (lookupValues (LookupAnswer.Refused 14 NoKind 0))) (bare 14 0)
+    ∷ pin (shownBy (λ o. numbers (optional o)) (lookupValues (LookupAnswer.Port 5))) (numbers (5 ∷ []))
+    ∷ pin (shownBy (λ o. numbers (optional o)) (lookupValues LookupAnswer.None)) (numbers [])
+    ∷ pin (shownBy (λ n. numbers (n ∷ [])) (treeValues (TreeAnswer.Given 5))) (numbers (5 ∷ []))
+    ∷ pin (shownBy (λ n. numbers (n ∷ [])) (entriesValues (EntriesAnswer.Written 5))) (numbers (5 ∷ []))
+    ∷ pin
+    (shownBy (λ c. numbers (fiveCounts c))
+    (checkValues (CheckAnswer.Accepted (record { bridges = 1; «half_links» = 2; «usable_links» = 3; vids = 4; members = 5 }))))
+    (numbers (1 ∷ 2 ∷ 3 ∷ 4 ∷ 5 ∷ []))
+    ∷ pin
+    (shownBy (λ v. numbers (costAndHops v)) (pathValues (PathAnswer.Given (record { 0 = 32 }) (record { 0 = 2 }))))
+    (numbers (32 ∷ 2 ∷ []))
     ∷ []
 
 -- Every definition gives what document 01 says.
 pinned-hold : map (λ p. p .asked) pins ≡ map (λ p. p .expected) pins
-unfolding wordsOf layoutOf lowestFault readOn verdict linksOf usableLinks countUsable checkOutcome rising selected anyPasses flatMap
+unfolding wordsOf layoutOf lowestFault readOn verdict linksOf usableLinks countUsable linksBetween joined hopLink
+    maskedBytes maskedIdentifier chosenPath entryListOf entriesOf individualEntries groupEntries listedPorts
+    receiverPorts leavingPort checkOutcome pathAnswer pathOutcome entriesAnswer entriesOutcome treeOutcome treeOf lastButOne
+    lookupOutcome matchingPorts faultyList entriesIn exportedCheck exportedPathCost
+    crossed entryPorts leaves crossings copiesLeave copies copiesCross
+    rising selected anyPasses lowestBy insertUpward sorted isLower costOnward neighbours onward paths chosen flatMap
 pinned-hold = refl
