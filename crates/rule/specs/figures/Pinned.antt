@@ -6,7 +6,7 @@ use mathlib.Core.Path.{_≡_, refl}
 use mathlib.Core.List.{List, [], _∷_, _++_, map, flatMap}
 use mathlib.Core.Option.{Option, none, some}
 use mathlib.Core.Bool.{Bool, cond}
-use lib.ListN.{length, getD, replicate}
+use lib.ListN.{getD, take, replicate}
 use Rattle.graph.specs.Lists.{rising, selected, anyPasses, lowestBy}
 use Rattle.graph.specs.Order.{insertUpward, sorted, isLower}
 use Rattle.graph.specs.Graph.{costOnward}
@@ -21,7 +21,7 @@ use Rattle.rule.specs.Check.{lowestFault, readOn, verdict}
 use Rattle.rule.specs.Links.{Link, number, linksOf, usableLinks, countUsable, linksBetween, joined, hopLink, costOf, graphOf}
 use Rattle.rule.specs.Identifiers.{maskOf, maskedBytes, maskedIdentifier}
 use Rattle.rule.specs.Paths.{chosenPath}
-use Rattle.rule.specs.Entries.{listOf, firstPort, leavingPort, entryListOf, entriesOf, individualEntries, groupEntries, listedPorts, receiverPorts}
+use Rattle.rule.specs.Entries.{entryWords, listOf, firstPort, leavingPort, entryListOf, entriesOf, individualEntries, groupEntries, listedPorts, receiverPorts}
 use Rattle.rule.specs.Answers.{CostAndHops, kindNumber, checkValues, pathValues, treeValues, entriesValues, lookupValues}
 use Rattle.rule.specs.Calls.{countsOf, checkOutcome, pathAnswer, pathOutcome, lastButOne, treeOf, treeOutcome, entriesAnswer, entriesOutcome}
 use Rattle.rule.specs.Lookup.{entriesIn, faultyList, matchingPorts, lookupOutcome}
@@ -67,14 +67,25 @@ module _ {A : Type 0} where
   lentBy f (answered a) lent = (answered (f a), lent)
   lentBy f (refused number kind at) lent = (refused number kind at, lent)
 
+-- The fields of a record.
+abbrev fieldsOf : Record → List ℕ
+fieldsOf (bridge b) = b .spSourceId ∷ b .identifier ∷ []
+fieldsOf (halfLink h) = h .metric ∷ h .near ∷ h .far ∷ h .port ∷ h .link ∷ []
+fieldsOf (vid v) = v .vid ∷ v .index ∷ []
+fieldsOf (member m) = flag (m .transmits) ∷ flag (m .receives) ∷ m .isid ∷ m .bridge ∷ m .vid ∷ []
+fieldsOf (end n) = n ∷ []
+
+-- What the words of a record hold as each kind: the zero bits, and the fields.
+abbrev fieldRows : List ℕ → Shown
+fieldRows ws = rows (map (λ l. l .zeroBits ws ∷ fieldsOf (l .decoded ws)) layouts)
+
 -- A decoded plan: a row for each record, which begins with its kind.
 abbrev recordRows : Plan → Shown
 recordRows p =
     rows
-    (map (λ b. 1 ∷ b .spSourceId ∷ b .identifier ∷ []) (p .bridges)
-    ++ (map (λ h. 2 ∷ h .metric ∷ h .near ∷ h .far ∷ h .port ∷ h .link ∷ []) (p .halfLinks)
-    ++ (map (λ v. 3 ∷ v .vid ∷ v .index ∷ []) (p .vids)
-    ++ map (λ m. 4 ∷ flag (m .transmits) ∷ flag (m .receives) ∷ m .isid ∷ m .bridge ∷ m .vid ∷ []) (p .members))))
+    (map (λ b. 1 ∷ fieldsOf (bridge b)) (p .bridges)
+    ++ (map (λ h. 2 ∷ fieldsOf (halfLink h)) (p .halfLinks)
+    ++ (map (λ v. 3 ∷ fieldsOf (vid v)) (p .vids) ++ map (λ m. 4 ∷ fieldsOf (member m)) (p .members))))
 
 abbrev fiveCounts : Counts → List ℕ
 fiveCounts c = c .bridges ∷ c .«half_links» ∷ c .«usable_links» ∷ c .vids ∷ c .members ∷ []
@@ -89,15 +100,12 @@ optional (some n) = n ∷ []
 abbrev linkNumbers : List Link → Shown
 linkNumbers ls = numbers (map number ls)
 
--- The verdict on a table given by its rows, on a table of as many zero bytes, and the counts of a table.
+-- The verdict on a table given by its rows, and on a table of as many zero bytes.
 abbrev check : List (List ℕ) → Shown
 check t = shownBy recordRows (verdict (table t))
 
 abbrev zeroBytes : ℕ → Shown
 zeroBytes n = shownBy recordRows (verdict (replicate n 0))
-
-abbrev counts : List (List ℕ) → Shown
-counts t = shownBy (λ c. numbers (fiveCounts c)) (checkOutcome (table t))
 
 -- Records of which the tables are made: bridges 0 to 2, the two halves of link 7 between 0 and 1, a VID, a member.
 abbrev bridge0 : List ℕ
@@ -274,8 +282,7 @@ pins =
     ∷ pin (check ((0x2100000a ∷ 0x00000001 ∷ 0x00010007 ∷ []) ∷ [])) (fault 4 2 0)
     ∷ pin (check ((0x48000100 ∷ 0x0000000a ∷ []) ∷ [])) (fault 4 4 0)
     ∷ pin (check ((0x44000100 ∷ 0x0000000a ∷ []) ∷ [])) (fault 4 4 0)
-    -- "5. There is one record more of this kind than the limit."
-    ∷ pin (counts (manyBridges 64 ++ (manyVids 16 ++ (manyMembers 64 ++ ((0xf0000150 ∷ []) ∷ []))))) (numbers (64 ∷ 0 ∷ 0 ∷ 16 ∷ 64 ∷ []))
+    -- "5. There is one record more of this kind than the limit": the last of 65, 17 and 65. The limit of half-links is below.
     ∷ pin (check (manyBridges 65)) (fault 5 1 192)
     ∷ pin (check (manyVids 17)) (fault 5 3 16)
     ∷ pin (check (bridge0 ∷ manyVids 1 ++ manyMembers 65)) (fault 5 4 132)
@@ -376,6 +383,23 @@ pins =
     -- "ECT masks, index 1 to 16, hexadecimal: 00 FF 88 77 44 33 CC BB 22 11 66 55 AA 99 DD EE."
     ∷ pin (numbers (map maskOf (rising 1 16)))
     (numbers (0x00 ∷ 0xff ∷ 0x88 ∷ 0x77 ∷ 0x44 ∷ 0x33 ∷ 0xcc ∷ 0xbb ∷ 0x22 ∷ 0x11 ∷ 0x66 ∷ 0x55 ∷ 0xaa ∷ 0x99 ∷ 0xdd ∷ 0xee ∷ []))
+    -- "bits 27..20 zero, 19..0 SPsourceID", "near bridge (16), far bridge (16)" and so on: the fields of words of ones, and their places.
+    ∷ pin (fieldRows (0xffffffff ∷ 0xffffffff ∷ 0xffffffff ∷ []))
+    (rows
+    ((0xff ∷ 0xfffff ∷ 0xffffffffffffffff ∷ [])
+    ∷ (0xf ∷ 0xffffff ∷ 0xffff ∷ 0xffff ∷ 0xffff ∷ 0xffff ∷ [])
+    ∷ (0 ∷ 0xfff ∷ 0xffff ∷ [])
+    ∷ (3 ∷ 1 ∷ 1 ∷ 0xffffff ∷ 0xffff ∷ 0xffff ∷ [])
+    ∷ (0 ∷ 0xfffffff ∷ [])
+    ∷ []))
+    ∷ pin (fieldRows (0x1e345678 ∷ 0x9abcdef0 ∷ 0x13579bdf ∷ []))
+    (rows
+    ((0xe3 ∷ 0x45678 ∷ 0x9abcdef013579bdf ∷ [])
+    ∷ (0xe ∷ 0x345678 ∷ 0x9abc ∷ 0xdef0 ∷ 0x1357 ∷ 0x9bdf ∷ [])
+    ∷ (0 ∷ 0xe34 ∷ 0x5678 ∷ [])
+    ∷ (3 ∷ 1 ∷ 0 ∷ 0x345678 ∷ 0x9abc ∷ 0xdef0 ∷ [])
+    ∷ (0 ∷ 0xe345678 ∷ [])
+    ∷ []))
     -- "The metric type carries three named values: 1, the least; 16,777,214, the greatest usable; 16,777,215, unusable."
     ∷ pin (numbers (leastMetric ∷ greatestUsableMetric ∷ unusableMetric ∷ [])) (numbers (1 ∷ 16777214 ∷ 16777215 ∷ []))
     ∷ pin (numbers (allWithin (record { least = 3; greatest = 5 }))) (numbers (3 ∷ 4 ∷ 5 ∷ []))
@@ -431,10 +455,11 @@ pins =
     ∷ pin (numbers (map lastButOne ([] ∷ (4 ∷ []) ∷ (4 ∷ 5 ∷ []) ∷ (4 ∷ 5 ∷ 6 ∷ 7 ∷ []) ∷ []))) (numbers (0 ∷ 4 ∷ 4 ∷ 6 ∷ []))
     -- Entries: "First, for each other bridge by number that a path reaches, one entry"; "Then, for each member record of that VID with T,
     -- in table order, a group entry for each port"; "top 4 bits of SPsourceID then hexadecimal 3".
-    ∷ pin (entriesAt 0) (answered (18 ∷ []), (entries0 ++ (7 ∷ 7 ∷ 7 ∷ 7 ∷ [])) ∷ [])
     ∷ pin (entriesAt 1) (answered (21 ∷ []), (entries1 ++ (7 ∷ [])) ∷ [])
-    ∷ pin (entriesAt 2) (answered (15 ∷ []), (entries2 ++ replicate 7 7) ∷ [])
-    ∷ pin (entriesAt 3) (answered (0 ∷ []), replicate 22 7 ∷ [])
+    ∷ pin (ofChain λ p. rows (map (λ u. flatMap entryWords (individualEntries p (vidAt p 0) u)) (0 ∷ 2 ∷ 3 ∷ [])))
+    (rows (take 6 entries0 ∷ take 6 entries2 ∷ [] ∷ []))
+    ∷ pin (ofChain λ p. rows (map (λ u. flatMap (receiverPorts p (vidAt p 0) u (p .members)) (selected (λ m. m .transmits) (take 3 (p .members)))) (0 ∷ 2 ∷ [])))
+    (rows ((5 ∷ 5 ∷ []) ∷ (3 ∷ 3 ∷ []) ∷ []))
     ∷ pin (entriesAt 4) (refused 11 none 0, replicate 22 7 ∷ [])
     -- "passes this bridge and leaves it there": the port of a path without a hop, of one that ends at the bridge, of one that does not
     -- pass it.
