@@ -205,7 +205,7 @@ lists u = getD (entries0 ∷ entries1 ∷ entries2 ∷ []) u []
 abbrev ofChain : (Plan → Shown) → Shown
 ofChain ask = shownBy ask (verdict (table chain))
 
--- The calls on the chain: path in VID 10, the tree in VID 10 with three lent lists, entries with a list of 22 words.
+-- The calls on the chain: path in VID 10, and tree with three lent lists.
 abbrev pathOf : ℕ → ℕ → List ℕ → Shown
 pathOf a b lent = given (pathOutcome (table chain) 10 a b lent)
   where
@@ -218,11 +218,8 @@ treeFrom v a costs hopCounts lasts = given (treeOutcome (table chain) v a costs 
     given : Outcome ℕ × List ℕ × List ℕ × List ℕ → Shown
     given (o, xs, ys, zs) = lentBy (λ n. n ∷ []) o (xs ∷ ys ∷ zs ∷ [])
 
-abbrev entriesAt : ℕ → Shown
-entriesAt b = given (entriesOutcome (table chain) b (replicate 22 7))
-  where
-    given : Outcome ℕ × List ℕ → Shown
-    given r = lentBy (λ n. n ∷ []) (r .0) (r .1 ∷ [])
+abbrev entriesKept : Outcome ℕ × List ℕ → Shown
+entriesKept r = lentBy (λ n. n ∷ []) (r .0) (r .1 ∷ [])
 
 -- Lookup in VID 10 of the address 1.
 abbrev lookedUp : List ℕ → ℕ → Shown
@@ -455,12 +452,12 @@ pins =
     ∷ pin (numbers (map lastButOne ([] ∷ (4 ∷ []) ∷ (4 ∷ 5 ∷ []) ∷ (4 ∷ 5 ∷ 6 ∷ 7 ∷ []) ∷ []))) (numbers (0 ∷ 4 ∷ 4 ∷ 6 ∷ []))
     -- Entries: "First, for each other bridge by number that a path reaches, one entry"; "Then, for each member record of that VID with T,
     -- in table order, a group entry for each port"; "top 4 bits of SPsourceID then hexadecimal 3".
-    ∷ pin (entriesAt 1) (answered (21 ∷ []), (entries1 ++ (7 ∷ [])) ∷ [])
+    ∷ pin (ofChain λ p. numbers (entryListOf p 1)) (numbers entries1)
     ∷ pin (ofChain λ p. rows (map (λ u. flatMap entryWords (individualEntries p (vidAt p 0) u)) (0 ∷ 2 ∷ 3 ∷ [])))
     (rows (take 6 entries0 ∷ take 6 entries2 ∷ [] ∷ []))
     ∷ pin (ofChain λ p. rows (map (λ u. flatMap (receiverPorts p (vidAt p 0) u (p .members)) (selected (λ m. m .transmits) (take 3 (p .members)))) (0 ∷ 2 ∷ [])))
     (rows ((5 ∷ 5 ∷ []) ∷ (3 ∷ 3 ∷ []) ∷ []))
-    ∷ pin (entriesAt 4) (refused 11 none 0, replicate 22 7 ∷ [])
+    ∷ pin (entriesKept (entriesOutcome (table chain) 4 (7 ∷ 7 ∷ []))) (refused 11 none 0, (7 ∷ 7 ∷ []) ∷ [])
     -- "passes this bridge and leaves it there": the port of a path without a hop, of one that ends at the bridge, of one that does not
     -- pass it.
     ∷ pin
