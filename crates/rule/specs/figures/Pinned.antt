@@ -15,10 +15,10 @@ use Rattle.graph.specs.Members.{sumOver}
 use Rattle.rule.specs.Words.{wordsOf, word}
 use Rattle.rule.specs.figures.Tables.{table}
 use Rattle.rule.specs.Records.{Record, bridge, halfLink, vid, member, end, bridgeOf, halfLinkOf, vidOf, memberOf, allWithin, leastMetric, greatestUsableMetric, unusableMetric, layouts, layoutOf}
-use Rattle.rule.specs.Outcome.{Outcome, answered, refused, andThen, Written}
+use Rattle.rule.specs.Outcome.{Outcome, answered, refused}
 use Rattle.rule.specs.Plan.{Plan, withRecord, alike, bridgeAt, vidAt}
 use Rattle.rule.specs.Check.{lowestFault, readOn, verdict}
-use Rattle.rule.specs.Links.{Link, number, linksOf, usableLinks, countUsable, linksBetween, joined, hopLink, costOf, graphOf}
+use Rattle.rule.specs.Links.{Link, number, linksOf, usableLinks, countUsable, linksBetween, joined, hopLink, graphOf}
 use Rattle.rule.specs.Identifiers.{maskOf, maskedBytes, maskedIdentifier}
 use Rattle.rule.specs.Paths.{chosenPath}
 use Rattle.rule.specs.Entries.{entryWords, listOf, firstPort, leavingPort, entryListOf, entriesOf, individualEntries, groupEntries, listedPorts, receiverPorts}
@@ -232,8 +232,7 @@ frameLinks p n a = crossings (leaves (p .halfLinks) lists 10 0xfedcba987654) 2 n
 abbrev copiesAt : Plan → ℕ → List Link
 copiesAt p u = copiesLeave (p .halfLinks) lists 10 0xa3bcde000100 u
 
--- Two entries with the address 1 in VID 10, between them one with another VID and one with another address, and a third: its matching
--- entries, counted from 0.
+-- Three entries with the address 1 in VID 10, between them one with another VID and one with another address.
 abbrev fiveEntries : List ℕ
 fiveEntries =
     0x800a0001 ∷ 0x00000000 ∷ 0x00000001
@@ -326,12 +325,12 @@ pins =
     -- "10. Words follow the end record; this is a fault of the end record, and those words are not read as records."
     ∷ pin (check ((0xf0000000 ∷ []) ∷ (0x00000000 ∷ []) ∷ [])) (fault 10 15 0)
     ∷ pin (check (vid10 ∷ (0xf0000001 ∷ []) ∷ (0xf0000002 ∷ []) ∷ [])) (fault 10 15 1)
-    -- "and of its faults the lowest": 2 before 3, 3 before 4, 4 before 5, and so on.
+    -- "and of its faults the lowest": 2 before 3, 3 before 4, and so on. The half-links and members with 6 above name bridges that are
+    -- not there: 6 before 7.
     ∷ pin (check (vid10 ∷ (0x10000001 ∷ []) ∷ [])) (bare 2 1)
     ∷ pin (check ((0x10100001 ∷ []) ∷ [])) (fault 3 1 0)
     ∷ pin (check (manyBridges 64 ++ ((0x10100001 ∷ 0x80000200 ∷ 0x00000001 ∷ []) ∷ []))) (fault 4 1 192)
     ∷ pin (check (manyVids 16 ++ ((0x30010000 ∷ []) ∷ []))) (fault 5 3 16)
-    ∷ pin (check ((0x20000000 ∷ 0x00000001 ∷ 0x00010007 ∷ []) ∷ [])) (fault 6 2 0)
     ∷ pin (check (bridge0 ∷ bridge1 ∷ half01 ∷ (0x2000000a ∷ 0x00000000 ∷ 0x00010007 ∷ []) ∷ [])) (fault 7 2 9)
     ∷ pin (check (bridge0 ∷ bridge1 ∷ half01 ∷ half01 ∷ [])) (fault 8 2 9)
     ∷ pin (check ((0xf0000001 ∷ []) ∷ (0x00000000 ∷ []) ∷ [])) (fault 6 15 0)
@@ -377,6 +376,16 @@ pins =
     ∷ (15 ∷ 1 ∷ 1 ∷ [])
     ∷ []))
     ∷ pin (numbers (4 * sumOver (λ l. l .words * l .limit) layouts ∷ [])) (numbers (7492 ∷ []))
+    -- "Ranges: SPsourceID 1 to 1,048,575; address neither zero nor a group address; metric 1 to 16,777,215; port 1 to 4,095; link number
+    -- 1 to 65,535; VID 1 to 4,094; ECT index 1 to 16; I-SID 256 to 16,777,214": the least and the greatest values, row by row.
+    ∷ pin (rows (map (λ l. flatMap (λ g. g .limits .least ∷ g .limits .greatest ∷ []) (l .ranges)) layouts))
+    (rows
+    ((1 ∷ 1048575 ∷ 1 ∷ 0xffffffffffff ∷ 0 ∷ 0 ∷ [])
+    ∷ (1 ∷ 16777215 ∷ 1 ∷ 4095 ∷ 1 ∷ 65535 ∷ [])
+    ∷ (1 ∷ 4094 ∷ 1 ∷ 16 ∷ [])
+    ∷ (256 ∷ 16777214 ∷ 1 ∷ 4094 ∷ [])
+    ∷ []
+    ∷ []))
     -- "ECT masks, index 1 to 16, hexadecimal: 00 FF 88 77 44 33 CC BB 22 11 66 55 AA 99 DD EE."
     ∷ pin (numbers (map maskOf (rising 1 16)))
     (numbers (0x00 ∷ 0xff ∷ 0x88 ∷ 0x77 ∷ 0x44 ∷ 0x33 ∷ 0xcc ∷ 0xbb ∷ 0x22 ∷ 0x11 ∷ 0x66 ∷ 0x55 ∷ 0xaa ∷ 0x99 ∷ 0xdd ∷ 0xee ∷ []))
@@ -455,7 +464,12 @@ pins =
     ∷ pin (ofChain λ p. numbers (entryListOf p 1)) (numbers entries1)
     ∷ pin (ofChain λ p. rows (map (λ u. flatMap entryWords (individualEntries p (vidAt p 0) u)) (0 ∷ 2 ∷ 3 ∷ [])))
     (rows (take 6 entries0 ∷ take 6 entries2 ∷ [] ∷ []))
-    ∷ pin (ofChain λ p. rows (map (λ u. flatMap (receiverPorts p (vidAt p 0) u (p .members)) (selected (λ m. m .transmits) (take 3 (p .members)))) (0 ∷ 2 ∷ [])))
+    ∷ pin
+    (ofChain λ p.
+    rows
+    (map
+    (λ u. flatMap (receiverPorts p (vidAt p 0) u (p .members)) (selected (λ m. m .transmits) (take 3 (p .members))))
+    (0 ∷ 2 ∷ [])))
     (rows ((5 ∷ 5 ∷ []) ∷ (3 ∷ 3 ∷ []) ∷ []))
     ∷ pin (entriesKept (entriesOutcome (table chain) 4 (7 ∷ 7 ∷ []))) (refused 11 none 0, (7 ∷ 7 ∷ []) ∷ [])
     -- "passes this bridge and leaves it there": the port of a path without a hop, of one that ends at the bridge, of one that does not
