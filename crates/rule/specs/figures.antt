@@ -3,3 +3,4 @@ pub mod Tables
 pub mod Figures
 pub mod Worked
 pub mod Settings
+pub mod Pinned

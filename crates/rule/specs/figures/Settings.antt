@@ -2,8 +2,9 @@
 -- whose verdicts the checker computes. Assumes nothing.
 use Prim.Native.Nat.{ℕ, _<_}
 use mathlib.Core.Path.{_≡_, refl, ap, _∙_}
-use mathlib.Core.List.{List, [], _∷_, flatMap}
+use mathlib.Core.List.{List, [], _∷_, map, reverse, flatMap}
 use mathlib.Core.Logic.{inl}
+use native.Mathlib.Omega.{arith}
 use lib.ListN.{length}
 use Rattle.graph.specs.Lists.{selected, anyPasses}
 use Rattle.graph.specs.Members.{In}
@@ -12,10 +13,13 @@ use Rattle.rule.specs.Records.{Vid, layoutOf}
 use Rattle.rule.specs.Outcome.{answered, lentTo}
 use Rattle.rule.specs.Plan.{Plan}
 use Rattle.rule.specs.Check.{lowestFault, readOn, verdict}
+use Rattle.rule.specs.Links.{turned}
 use Rattle.rule.specs.Entries.{entryListOf}
+use Rattle.rule.specs.Answers.{CostAndHops}
 use Rattle.rule.specs.Calls.{entriesOutcome}
+use Rattle.rule.specs.Frames.{stood}
 use Rattle.rule.specs.figures.Tables.{table}
-use Rattle.rule.specs.Demand3.{WrittenFor, Setting, Demand3}
+use Rattle.rule.specs.Demand3.{WrittenFor, Setting, Bridges, Given, frame, Demand3}
 use Rattle.rule.specs.laws.Accepted.{accepted-laws}
 use Rattle.rule.specs.laws.CallLaws.{lent-holds, entries-asked}
 use Rattle.rule.specs.laws.Demand3Proved.{demand-3}
@@ -90,3 +94,16 @@ worked-meets = demand-3 worked-setting
 
 pub diamond-meets : (v : Vid) (k : In v (diamondPlan .vids)) → Demand3 (diamond-setting v k)
 diamond-meets v k = demand-3 (diamond-setting v k)
+
+-- "reaches b along the path given" and "passes the same links in reverse" with as many moves as the path has hops, and none more.
+pub in-its-hops :
+    (s : Setting) →
+    Demand3 s →
+    (a b : ℕ) →
+    Bridges s a b →
+    (path : List ℕ) (values : CostAndHops) →
+    Given s a b path values →
+    (stood a (frame s a b (values .hops)) ≡ path)
+    × (frame s b a (values .hops) ≡ reverse (map turned (frame s a b (values .hops))))
+in-its-hops s d a b k path values g =
+    (d .arrival .1 a b k path values g (values .hops) (omega arith), d .sameLinks a b k path values g (values .hops) (omega arith))
