@@ -1,5 +1,5 @@
--- Document 01 as definitions. Read in this order: the table, what it says, the calls, the frames, the figures, demand 3.
--- Below Demand3 stand the laws that prove it, and its proof.
+-- Document 01 as definitions. Read in this order: the table, what it says, the calls, the frames, demand 3. The laws that prove demand 3,
+-- and its proof, stand apart, and so do the figures.
 pub mod Words
 pub mod Records
 pub mod Outcome
