@@ -3,7 +3,8 @@
  * Standard input, numbers of 32 bits with the high byte first: the length of a
  * table, its bytes, the number of questions, and for each VID, from and to.
  * Standard output: exported check in 32 bits, then exported path cost in 64 bits
- * for each question. Repeated until the input ends.
+ * for each question. Repeated until the input ends. Before that the functions are
+ * called with no table at all, a null pointer and the length 0: refused with 1.
  *
  * A table lies at the end of a readable page with a closed page behind it, so
  * that reading or writing past it ends the program. */
@@ -66,6 +67,12 @@ static struct guarded read_table(size_t length) {
 }
 
 #ifndef CHECK_ONLY
+static void refuse_no_table(void) {
+    if (spb_check(NULL, 0) != 1 || spb_path_cost(NULL, 0, 1, 0, 0) != SPB_REFUSED + 1) {
+        fail("no table is not refused with 1");
+    }
+}
+
 static void answer_question(const uint8_t *table, size_t length) {
     uint32_t vid, from, to;
     if (!read_number(&vid) || !read_number(&from) || !read_number(&to)) {
@@ -77,6 +84,9 @@ static void answer_question(const uint8_t *table, size_t length) {
 
 int main(void) {
     uint32_t length, questions;
+#ifndef CHECK_ONLY
+    refuse_no_table();
+#endif
     while (read_number(&length)) {
         struct guarded guarded = read_table(length);
         write_number(spb_check(guarded.table, length), 4);
