@@ -2,7 +2,7 @@
 -- docs/DECISIONS.md. Assumes nothing.
 use Prim.Native.Nat.{ℕ, _+_}
 use mathlib.Core.List.{List, [], _∷_, _++_, map}
-use Rattle.graph.specs.Lists.{rising}
+use Rattle.lists.specs.Lists.{rising}
 use Rattle.rule.specs.Outcome.{Outcome, answered, refused}
 use Rattle.rule.specs.Answers.{CostAndHops}
 use Rattle.text.specs.Text.{newline, fieldText, fields, pathWord}

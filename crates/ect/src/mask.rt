@@ -3,7 +3,7 @@ ghost use mathlib.Core.Path.{_≡_};
 ghost use mathlib.Core.List.{map};
 ghost use Prim.Native.Nat.{_≤_};
 ghost use lib.ListN.{length};
-ghost use Rattle.graph.specs.Lists.{spliced};
+ghost use Rattle.lists.specs.Lists.{spliced};
 ghost use Rattle.rule.specs.Identifiers.{maskOf, maskedBytes};
 ghost use Rattle.ect.specs.Masks.{spread};
 

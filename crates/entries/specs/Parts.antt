@@ -5,7 +5,7 @@ use mathlib.Core.List.{List, [], _++_}
 use mathlib.Core.Bool.{cond, _&&_}
 use lib.Dec.{eqb}
 use lib.ListN.{drop}
-use Rattle.graph.specs.Appending.{eachOf}
+use Rattle.lists.specs.Appending.{eachOf}
 use Rattle.rule.specs.Records.{Vid, Member}
 use Rattle.rule.specs.Entries.{groupAddress}
 use Rattle.table.specs.declared.shape.Shape.{Shape}

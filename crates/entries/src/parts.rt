@@ -11,7 +11,7 @@ use words::records::member;
 use words::records::vid;
 ghost use mathlib.Core.Path.{_≡_};
 ghost use Prim.Native.Nat.{_≤_, _<_};
-ghost use Rattle.graph.specs.Appending.{Appended, Room};
+ghost use Rattle.lists.specs.Appending.{Appended, Room};
 ghost use Rattle.rule.specs.Words.{wordsOf};
 ghost use Rattle.rule.specs.Entries.{groupAddress};
 ghost use Rattle.table.specs.Readers.{vidValues, memberValues};

@@ -9,7 +9,7 @@ ghost use mathlib.Core.Bool.{not, _||_};
 ghost use Prim.Native.Nat.{_+_, _*_, _≤_, _<_};
 ghost use lib.Dec.{eqb, ltb};
 ghost use lib.ListN.{length};
-ghost use Rattle.graph.specs.Lists.{selected};
+ghost use Rattle.lists.specs.Lists.{selected};
 ghost use Rattle.rule.specs.Words.{wordsOf};
 ghost use Rattle.rule.specs.Records.{halfLinkOf};
 ghost use Rattle.rule.specs.Check.{mirrors, hasLink, wrongHalf};

@@ -8,7 +8,7 @@ use table::vid::vid_at;
 ghost use mathlib.Core.Path.{_≡_};
 ghost use Prim.Native.Nat.{_+_, _*_, _≤_};
 ghost use lib.ListN.{length};
-ghost use Rattle.graph.specs.Lists.{anyPasses};
+ghost use Rattle.lists.specs.Lists.{anyPasses};
 ghost use Rattle.rule.specs.Words.{wordsOf};
 ghost use Rattle.rule.specs.Records.{bridgeOf, vidOf, memberOf};
 ghost use Rattle.rule.specs.Plan.{hasVid};

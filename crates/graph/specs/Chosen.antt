@@ -7,7 +7,7 @@ use mathlib.Core.Option.{Option}
 use mathlib.Core.Logic.{_⊎_}
 use mathlib.Core.Bool.{Bool, true}
 use lib.Dec.{ltb, eqb}
-use Rattle.graph.specs.Lists.{rising, consIf, selected, lowestBy}
+use Rattle.lists.specs.Lists.{rising, consIf, selected, lowestBy}
 use Rattle.graph.specs.Order.{Lower, isLower}
 use Rattle.graph.specs.Graph.{Graph, IsPath, rank}
 

@@ -1,10 +1,7 @@
 -- Graphs and chosen paths, apart from tables, masks and ports. Read in this order.
-pub mod Lists
 pub mod Order
 pub mod Graph
 pub mod Chosen
-pub mod Members
-pub mod Appending
 pub mod Lookups
 pub mod laws
 pub mod figures

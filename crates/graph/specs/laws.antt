@@ -1,9 +1,4 @@
 -- Theorems: nothing here is cited by a contract.
-pub mod ListNotions
-pub mod ListLaws
-pub mod Searching
-pub mod Splices
-pub mod AppendingLaws
 pub mod OrderLaws
 pub mod Notions
 pub mod Ranks

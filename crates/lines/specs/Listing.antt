@@ -4,7 +4,7 @@ use mathlib.Core.List.{List, [], _∷_, _++_, flatMap}
 use mathlib.Core.Bool.{not}
 use lib.Dec.{eqb}
 use lib.ListN.{length}
-use Rattle.graph.specs.Lists.{rising, selected}
+use Rattle.lists.specs.Lists.{rising, selected}
 use Rattle.rule.specs.Outcome.{Outcome, answered, refused, Written}
 use Rattle.rule.specs.Answers.{CostAndHops}
 use Rattle.rule.specs.Plan.{Plan}

@@ -4,7 +4,7 @@ use mathlib.Core.Path.{_≡_}
 use mathlib.Core.List.{List}
 use mathlib.Core.Bool.{Bool, true}
 use lib.ListN.{length, getD}
-use Rattle.graph.specs.Lists.{rising, selected}
+use Rattle.lists.specs.Lists.{rising, selected}
 
 -- How many numbers below `k` pass: the place of `k` in the list, where it passes.
 unfoldable pub howMany : (ℕ → Bool) → ℕ → ℕ

@@ -4,7 +4,7 @@ use mathlib.Core.List.{List, [], _∷_}
 use mathlib.Core.Bool.{cond}
 use lib.Dec.{ltb}
 use lib.ListN.{length}
-use Rattle.graph.specs.Lists.{selected}
+use Rattle.lists.specs.Lists.{selected}
 use Rattle.rule.specs.Words.{wordsOf}
 use Rattle.rule.specs.Records.{HalfLink, halfLinkOf, unusableMetric}
 use Rattle.rule.specs.Links.{mates, combinedMetric, usableMetric}

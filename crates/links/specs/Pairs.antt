@@ -7,7 +7,7 @@ use mathlib.Core.List.{List}
 use mathlib.Core.Logic.{_⊎_}
 use mathlib.Core.Bool.{cond}
 use lib.ListN.{length, getD, set}
-use Rattle.graph.specs.Members.{In}
+use Rattle.lists.specs.Members.{In}
 use Rattle.rule.specs.Records.{HalfLink, unusableMetric}
 use Rattle.rule.specs.Links.{usableMetric}
 use Rattle.links.specs.Mates.{linkMetric}

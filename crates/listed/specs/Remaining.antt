@@ -3,7 +3,7 @@ use Prim.Native.Nat.{ℕ, _-_, _≤_, _<_}
 use mathlib.Core.Path.{_≡_}
 use mathlib.Core.List.{List, [], _∷_, _++_, map, flatMap}
 use lib.ListN.{length, getD, take, drop}
-use Rattle.graph.specs.Lists.{rising}
+use Rattle.lists.specs.Lists.{rising}
 use Rattle.rule.specs.Words.{wordsOf}
 use Rattle.rule.specs.Outcome.{Outcome, answered, refused}
 use Rattle.rule.specs.Plan.{Plan}

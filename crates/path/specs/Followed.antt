@@ -1,7 +1,7 @@
 -- Next hops followed through the labels of a tree: the bridges of a path, one after the other. Assumes nothing.
 use Prim.Native.Nat.{ℕ, zero, suc, _<_}
 use mathlib.Core.List.{List, [], _∷_}
-use Rattle.graph.specs.Members.{In}
+use Rattle.lists.specs.Members.{In}
 use Rattle.tree.specs.Labels.{labelAt}
 
 -- The bridge `u` and those that next hops lead to from it, `count` in all.

@@ -4,7 +4,7 @@ use mathlib.Core.Path.{_≡_}
 use mathlib.Core.List.{List, map}
 use mathlib.Core.Bool.{cond}
 use lib.Dec.{eqb}
-use Rattle.graph.specs.Lists.{rising, spliced}
+use Rattle.lists.specs.Lists.{rising, spliced}
 use Rattle.rule.specs.Calls.{Place}
 use Rattle.tree.specs.Labels.{noCost, Label, labelAt}
 

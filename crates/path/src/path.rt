@@ -10,7 +10,7 @@ ghost use mathlib.Core.Path.{_≡_};
 ghost use mathlib.Core.List.{List};
 ghost use Prim.Native.Nat.{ℕ, _≤_};
 ghost use lib.ListN.{length};
-ghost use Rattle.graph.specs.Lists.{spliced};
+ghost use Rattle.lists.specs.Lists.{spliced};
 ghost use Rattle.rule.specs.Words.{wordsOf};
 ghost use Rattle.rule.specs.Outcome.{Outcome, refusedAs, lentTo};
 ghost use Rattle.rule.specs.Answers.{CostAndHops, pathValues};

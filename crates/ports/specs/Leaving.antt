@@ -8,7 +8,7 @@ use mathlib.Core.Option.{Option, none, some, Option·map}
 use mathlib.Core.Bool.{cond}
 use lib.Dec.{eqb}
 use lib.ListN.{length, getD}
-use Rattle.graph.specs.Appending.{eachOf}
+use Rattle.lists.specs.Appending.{eachOf}
 use Rattle.rule.specs.Records.{HalfLink}
 use Rattle.rule.specs.Plan.{Plan}
 use Rattle.rule.specs.Links.{hopLink}

@@ -5,7 +5,7 @@ use tree::label::hops_at;
 ghost use mathlib.Core.Path.{_≡_};
 ghost use Prim.Native.Nat.{_+_, _≤_};
 ghost use lib.ListN.{length};
-ghost use Rattle.graph.specs.Appending.{Appended};
+ghost use Rattle.lists.specs.Appending.{Appended};
 ghost use Rattle.ports.specs.Leaving.{leavingBy, rowBy, Walkable, WalkableFrom};
 
 // The port by which the path from the root to the bridge `d` leaves the bridge `b`, 0 where it does not pass `b` or ends there.

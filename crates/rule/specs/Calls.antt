@@ -6,7 +6,7 @@ use mathlib.Core.Option.{Option, none, some}
 use mathlib.Core.Bool.{Bool, true, false, cond, _&&_}
 use lib.Dec.{leb}
 use lib.ListN.{length}
-use Rattle.graph.specs.Lists.{rising}
+use Rattle.lists.specs.Lists.{rising}
 use Rattle.graph.specs.Graph.{cost, hops}
 use Rattle.rule.specs.Records.{Vid}
 use Rattle.rule.specs.Outcome.{Outcome, answered, refused, andThen, refusedAs, Written, lentTo, overwritten}

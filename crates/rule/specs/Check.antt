@@ -6,7 +6,7 @@ use mathlib.Core.Option.{Option, none, some}
 use mathlib.Core.Bool.{Bool, true, false, not, cond, _&&_, _||_}
 use lib.Dec.{eqb, leb, ltb}
 use lib.ListN.{length, drop}
-use Rattle.graph.specs.Lists.{selected, anyPasses}
+use Rattle.lists.specs.Lists.{selected, anyPasses}
 use Rattle.rule.specs.Words.{wordsOf, bits}
 use Rattle.rule.specs.Records.{Bridge, HalfLink, Member, Record, bridge, halfLink, vid, member, end, address, endCount, Layout, layoutOf, Range, inLimits}
 use Rattle.rule.specs.Outcome.{Outcome, answered, refused, refusedIf}

@@ -7,7 +7,7 @@ use mathlib.Core.List.{List, [], _∷_, _++_, map, reverse}
 use mathlib.Core.Bool.{true}
 use lib.Dec.{T}
 use lib.ListN.{length}
-use Rattle.graph.specs.Members.{In, occurrences}
+use Rattle.lists.specs.Members.{In, occurrences}
 use Rattle.graph.specs.Order.{Lower}
 use Rattle.graph.specs.Graph.{cost, hops, pathId}
 use Rattle.rule.specs.Records.{HalfLink, Vid, Member, address}

@@ -6,7 +6,7 @@ use mathlib.Core.Option.{Option, none, some, Option·map}
 use mathlib.Core.Bool.{Bool, not, cond, _&&_}
 use lib.Dec.{eqb}
 use lib.ListN.{length}
-use Rattle.graph.specs.Lists.{rising, selected, anyPasses}
+use Rattle.lists.specs.Lists.{rising, selected, anyPasses}
 use Rattle.rule.specs.Records.{HalfLink, Vid, Member, address, allWithin, portLimits}
 use Rattle.rule.specs.Plan.{Plan, bridgeAt}
 use Rattle.rule.specs.Links.{hopLink}

@@ -5,7 +5,7 @@ use mathlib.Core.List.{List, [], _∷_, _++_, map, flatMap}
 use mathlib.Core.Option.{Option, none, some}
 use mathlib.Core.Bool.{cond, _&&_}
 use lib.Dec.{eqb}
-use Rattle.graph.specs.Lists.{selected}
+use Rattle.lists.specs.Lists.{selected}
 use Rattle.rule.specs.Records.{HalfLink}
 use Rattle.rule.specs.Links.{Link, from, to, usableLinks}
 use Rattle.rule.specs.Entries.{listOf}

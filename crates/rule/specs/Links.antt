@@ -7,7 +7,7 @@ use mathlib.Core.Option.{Option, none, some}
 use mathlib.Core.Bool.{Bool, true, _&&_, _||_}
 use lib.Dec.{eqb, ltb}
 use lib.ListN.{length}
-use Rattle.graph.specs.Lists.{selected, anyPasses, lowestBy}
+use Rattle.lists.specs.Lists.{selected, anyPasses, lowestBy}
 use Rattle.graph.specs.Graph.{Graph}
 use Rattle.rule.specs.Records.{HalfLink, unusableMetric}
 use Rattle.rule.specs.Plan.{Plan}

@@ -6,7 +6,7 @@ use mathlib.Core.Option.{Option}
 use mathlib.Core.Bool.{Bool, false, true, not, _&&_, _||_}
 use lib.Dec.{eqb}
 use lib.ListN.{getElem?}
-use Rattle.graph.specs.Lists.{selected}
+use Rattle.lists.specs.Lists.{selected}
 use Rattle.rule.specs.Words.{bits}
 use Rattle.rule.specs.Records.{inLimits, vidLimits, portLimits, groupBit}
 use Rattle.rule.specs.Outcome.{Outcome, answered, refusedIf}

@@ -6,7 +6,7 @@ use mathlib.Core.Option.{Option}
 use mathlib.Core.Bool.{Bool}
 use lib.Dec.{eqb, ltb}
 use lib.ListN.{length, getD, getElem?}
-use Rattle.graph.specs.Lists.{selected, anyPasses}
+use Rattle.lists.specs.Lists.{selected, anyPasses}
 use Rattle.rule.specs.Records.{Bridge, HalfLink, Vid, Member, Record, bridge, halfLink, vid, member, end}
 
 pub record Plan : Type 0 where

@@ -4,7 +4,7 @@ use Prim.Native.Nat.{ℕ, _≤_, _<_}
 use mathlib.Core.Path.{_≡_}
 use mathlib.Core.List.{List}
 use lib.ListN.{length}
-use Rattle.graph.specs.Members.{In, EveryTwo}
+use Rattle.lists.specs.Members.{In, EveryTwo}
 use Rattle.rule.specs.Records.{Bridge, HalfLink, Vid, Member, address, groupBit}
 use Rattle.rule.specs.Plan.{Plan}
 

@@ -6,7 +6,7 @@ use mathlib.Core.Bool.{Bool, _&&_}
 use mathlib.Core.Option.{Option, none, some}
 use lib.Dec.{eqb, leb}
 use lib.ListN.{getElem?}
-use Rattle.graph.specs.Lists.{selected, rising}
+use Rattle.lists.specs.Lists.{selected, rising}
 use Rattle.rule.specs.Words.{word, bits}
 
 -- A bridge: its SPsourceID, and its Bridge Identifier of 64 bits.

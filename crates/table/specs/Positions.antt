@@ -5,7 +5,7 @@ use mathlib.Core.List.{List, map}
 use mathlib.Core.Bool.{cond}
 use lib.Dec.{ltb}
 use lib.ListN.{drop}
-use Rattle.graph.specs.Lists.{rising}
+use Rattle.lists.specs.Lists.{rising}
 use Rattle.rule.specs.Records.{bridgeOf, halfLinkOf, vidOf, memberOf}
 use Rattle.rule.specs.Plan.{Plan}
 use Rattle.rule.specs.Check.{Reading}

@@ -4,7 +4,7 @@ use Prim.Native.Nat.{ℕ, zero, suc, _+_, _/_, _%_}
 use mathlib.Core.List.{List, [], _∷_, _++_, flatMap}
 use mathlib.Core.Bool.{cond}
 use lib.Dec.{ltb}
-use Rattle.graph.specs.Appending.{Appended}
+use Rattle.lists.specs.Appending.{Appended}
 
 abbrev pub space : ℕ
 space = 32

@@ -3,7 +3,7 @@
 ghost use mathlib.Core.Path.{_≡_};
 ghost use Prim.Native.Nat.{_+_, _≤_, _<_};
 ghost use lib.ListN.{length};
-ghost use Rattle.graph.specs.Lists.{spliced};
+ghost use Rattle.lists.specs.Lists.{spliced};
 ghost use Rattle.text.specs.Text.{digit, digitsOf, places, decimal, address, WrittenAt};
 
 fn decimal_digit(d: u32) -> u8

@@ -8,7 +8,7 @@ use mathlib.Core.Logic.{_⊎_}
 use mathlib.Core.Bool.{cond, _&&_}
 use lib.Dec.{eqb, ltb, leb}
 use lib.ListN.{getD, set}
-use Rattle.graph.specs.Lists.{spliced}
+use Rattle.lists.specs.Lists.{spliced}
 use Rattle.graph.specs.Order.{isLower, insertUpward}
 use Rattle.graph.specs.Lookups.{State}
 use Rattle.rule.specs.Measures.{noPathCost}

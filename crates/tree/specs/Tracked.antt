@@ -7,8 +7,8 @@ use mathlib.Core.Logic.{_⊎_}
 use mathlib.Core.Bool.{cond}
 use lib.Dec.{T}
 use lib.ListN.{length}
-use Rattle.graph.specs.Lists.{rising}
-use Rattle.graph.specs.Members.{sumOver}
+use Rattle.lists.specs.Lists.{rising}
+use Rattle.lists.specs.Members.{sumOver}
 use Rattle.graph.specs.Graph.{Graph}
 use Rattle.graph.specs.Chosen.{Chosen}
 use Rattle.graph.specs.Lookups.{Kept}

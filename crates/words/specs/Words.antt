@@ -5,8 +5,8 @@ use mathlib.Core.List.{List, [], _∷_}
 use mathlib.Core.Bool.{Bool, cond}
 use lib.Dec.{eqb}
 use lib.ListN.{length, getD}
-use Rattle.graph.specs.Lists.{anyPasses}
-use Rattle.graph.specs.Appending.{eachOf}
+use Rattle.lists.specs.Lists.{anyPasses}
+use Rattle.lists.specs.Appending.{eachOf}
 use Rattle.rule.specs.Words.{wordsOf}
 use Rattle.rule.specs.Records.{Bridge, Vid, Member, bridgeOf, vidOf, memberOf, address}
 use Rattle.rule.specs.Entries.{Entry, entryWords, receives}

@@ -3,7 +3,7 @@ ghost use mathlib.Core.Path.{_≡_};
 ghost use Prim.Native.Nat.{_+_, _<_, _≤_};
 ghost use lib.ListN.{length};
 ghost use Rattle.rule.specs.Entries.{entryWords};
-ghost use Rattle.graph.specs.Appending.{Appended};
+ghost use Rattle.lists.specs.Appending.{Appended};
 ghost use Rattle.words.specs.Words.{entryWith};
 
 pub fn wide(port: u16) -> u32

@@ -10,7 +10,7 @@ ghost use lib.ListN.{length};
 ghost use Rattle.rule.specs.Words.{wordsOf};
 ghost use Rattle.rule.specs.Entries.{receives};
 ghost use Rattle.table.specs.Readers.{memberValues};
-ghost use Rattle.graph.specs.Appending.{Appended, Room};
+ghost use Rattle.lists.specs.Appending.{Appended, Room};
 ghost use Rattle.words.specs.Words.{Readable, behindAt, portsBehind, groupWords};
 
 // "another bridge with R in the same I-SID and VID".

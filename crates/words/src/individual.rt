@@ -7,7 +7,7 @@ use table::shape::Shape;
 ghost use Prim.Native.Nat.{_<_, _≤_};
 ghost use lib.ListN.{length};
 ghost use Rattle.rule.specs.Words.{wordsOf};
-ghost use Rattle.graph.specs.Appending.{Appended, Room};
+ghost use Rattle.lists.specs.Appending.{Appended, Room};
 ghost use Rattle.words.specs.Words.{Readable, individualTo, individualWords};
 
 // Writes the entry for the bridge `d`, where there is one.

@@ -4,8 +4,9 @@ use native.Mathlib.Omega.{arith}
 use mathlib.Core.Path.{_≡_, refl, ap, _∙_}
 use mathlib.Core.List.{List, _∷_, _++_, map, append-nil}
 use lib.ListN.{length, take, drop, drop-of-length-le, length-map}
-use Rattle.graph.specs.Lists.{rising}
-use Rattle.graph.specs.laws.ListLaws.{length-rising, front-of-rising}
+use Rattle.lists.specs.Lists.{rising}
+use Rattle.lists.specs.laws.SelectedLaws.{length-rising}
+use Rattle.lists.specs.laws.GivenLaws.{front-of-rising}
 use Rattle.rule.specs.Calls.{treeOutcome}
 use Rattle.path.specs.laws.PlaceLaws.{Filling, filling-ends}
 use Rattle.asking.specs.AnswerText.{untouchedPlace, untouched, treeText}

@@ -9,7 +9,7 @@ use lib.Dec.{ltb, eqb}
 use lib.ListN.{length, getD, drop, drop-of-length-le}
 use borrow.Author.Tests.{le-ltb, eq-eqb, ne-eqb}
 use Rattle.graph.specs.Order.{isLower}
-use Rattle.graph.specs.laws.ListLaws.{drop-next}
+use Rattle.lists.specs.laws.MemberLaws.{drop-next}
 
 pub record Comparing (xs ys : List ℕ) (i : ℕ) : Type 0 where
   pub within : i ≤ length xs

@@ -6,9 +6,9 @@ use mathlib.Core.Path.{_≡_, refl, sym, ap, _∙_}
 use mathlib.Core.List.{List, [], _∷_, _++_, map, map-append}
 use lib.ListN.{length, getD, take, set, drop, length-set, length-map, List·getD-append}
 use lib.Seq.{length-take-le, take-suc, take-all}
-use Rattle.graph.specs.Lists.{spliced}
-use Rattle.graph.specs.laws.ListLaws.{map-at}
-use Rattle.graph.specs.laws.Splices.{spliced-nothing, spliced-next}
+use Rattle.lists.specs.Lists.{spliced}
+use Rattle.lists.specs.laws.MemberLaws.{map-at}
+use Rattle.lists.specs.laws.Splices.{spliced-nothing, spliced-next}
 use Rattle.rule.specs.Identifiers.{maskedBytes}
 
 module _ (identifiers keys₀ : List ℕ) (mask : ℕ) where

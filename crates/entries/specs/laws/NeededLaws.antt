@@ -7,8 +7,8 @@ use mathlib.Core.Option.{some}
 use mathlib.Core.Logic.{_⊎_, inl, inr}
 use mathlib.Core.Bool.{false}
 use lib.ListN.{length}
-use Rattle.graph.specs.Members.{In}
-use Rattle.graph.specs.laws.ListLaws.{same-or-not}
+use Rattle.lists.specs.Members.{In}
+use Rattle.lists.specs.laws.NumberLaws.{same-or-not}
 use Rattle.rule.specs.Words.{wordsOf}
 use Rattle.rule.specs.Records.{Vid, vidOf, memberOf}
 use Rattle.rule.specs.Plan.{Plan, vidRecord}

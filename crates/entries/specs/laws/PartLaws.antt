@@ -9,10 +9,12 @@ use lib.Dec.{T, eqb, eqb→eq}
 use lib.ListN.{length, take, drop, length-take, length-drop, length-append}
 use lib.Seq.{take-append-seam}
 use borrow.Author.Tests.{eq-eqb, ne-eqb}
-use Rattle.graph.specs.Lists.{rising, selected, spliced}
-use Rattle.graph.specs.laws.ListLaws.{first-of, last-of, is-true, rising-in, flatMap-map, flatMap-flatMap, flatMap-append, flatMap-selected, flatMap-same}
-use Rattle.graph.specs.Appending.{Appended, Room}
-use Rattle.graph.specs.laws.AppendingLaws.{appended-nothing, appended-both, appended-length}
+use Rattle.lists.specs.Lists.{rising, selected, spliced}
+use Rattle.lists.specs.laws.NumberLaws.{first-of, last-of, is-true}
+use Rattle.lists.specs.laws.SelectedLaws.{rising-in}
+use Rattle.lists.specs.laws.GivenLaws.{flatMap-map, flatMap-flatMap, flatMap-append, flatMap-selected, flatMap-same}
+use Rattle.lists.specs.Appending.{Appended, Room}
+use Rattle.lists.specs.laws.AppendingLaws.{appended-nothing, appended-both, appended-length}
 use Rattle.rule.specs.Words.{wordsOf}
 use Rattle.rule.specs.Records.{Bridge, Vid, Member}
 use Rattle.rule.specs.Plan.{Plan, bridgeAt}

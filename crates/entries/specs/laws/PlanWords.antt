@@ -9,11 +9,14 @@ use mathlib.Core.Bool.{Bool, true, false, cond, not, _&&_}
 use lib.Dec.{T, eqb, eqb→eq, eqb-refl}
 use lib.ListN.{length, getD}
 use borrow.Author.Tests.{eq-eqb, ne-eqb}
-use Rattle.graph.specs.Lists.{rising, selected, anyPasses}
-use Rattle.graph.specs.Members.{In, EveryTwo}
-use Rattle.graph.specs.laws.ListLaws.{same-or-not, none-not-some, selected-in, in-selected, any-in, in-any, in-rising, rising-in, flatMap-in, in-flatMap, flatMap-map, flatMap-flatMap, flatMap-append, flatMap-selected, flatMap-same, by-places, every-two-selected, every-two-rising, rising-same}
+use Rattle.lists.specs.Lists.{rising, selected, anyPasses}
+use Rattle.lists.specs.Members.{In, EveryTwo}
+use Rattle.lists.specs.laws.NumberLaws.{same-or-not}
+use Rattle.lists.specs.laws.MemberLaws.{none-not-some, flatMap-in, in-flatMap}
+use Rattle.lists.specs.laws.SelectedLaws.{selected-in, in-selected, any-in, in-any, in-rising, rising-in}
+use Rattle.lists.specs.laws.GivenLaws.{flatMap-map, flatMap-flatMap, flatMap-append, flatMap-selected, flatMap-same, by-places, every-two-selected, every-two-rising, rising-same}
 use Rattle.graph.specs.laws.ChosenPaths.{chosen-stay, chosen-first}
-use Rattle.graph.specs.Appending.{eachOf}
+use Rattle.lists.specs.Appending.{eachOf}
 use Rattle.rule.specs.Words.{wordsOf}
 use Rattle.rule.specs.Records.{HalfLink, Bridge, Vid, Member, bridgeOf, vidOf, memberOf, address, allWithin, portLimits}
 use Rattle.rule.specs.Plan.{Plan, bridgeAt}

@@ -6,10 +6,10 @@ use mathlib.Core.Path.{_≡_, refl, sym, ap, _∙_, subst}
 use mathlib.Core.List.{List, [], _∷_, _++_}
 use lib.ListN.{length, getD, set, take, drop}
 use borrow.Author.Tests.{lt-leb, le-leb, lt-ltb, le-ltb}
-use Rattle.graph.specs.Lists.{rising, spliced}
-use Rattle.graph.specs.laws.ListLaws.{flatMap-one, by-places}
-use Rattle.graph.specs.Appending.{Appended, Room, eachOf}
-use Rattle.graph.specs.laws.AppendingLaws.{one-word, Appending, appending-starts, appending-length, appending-room, appending-goes-on, appending-ends}
+use Rattle.lists.specs.Lists.{rising, spliced}
+use Rattle.lists.specs.laws.GivenLaws.{flatMap-one, by-places}
+use Rattle.lists.specs.Appending.{Appended, Room, eachOf}
+use Rattle.lists.specs.laws.AppendingLaws.{one-word, Appending, appending-starts, appending-length, appending-room, appending-goes-on, appending-ends}
 use Rattle.rule.specs.Words.{wordsOf}
 use Rattle.rule.specs.Plan.{Plan}
 use Rattle.rule.specs.PlanLaws.{PlanLaws}

@@ -9,7 +9,7 @@ use mathlib.Core.Bool.{Bool, true, false, not, cond, _||_}
 use lib.Dec.{eqb, leb, ltb}
 use lib.ListN.{length, take, drop, length-drop}
 use borrow.Author.Tests.{lt-ltb, le-ltb}
-use Rattle.graph.specs.laws.ListLaws.{le-or-gt}
+use Rattle.lists.specs.laws.NumberLaws.{le-or-gt}
 use Rattle.rule.specs.Records.{Record, HalfLink, Member, halfLink, member, bridgeOf, halfLinkOf, Layout, halfLinkLayout, endCount}
 use Rattle.rule.specs.Plan.{alike, knownVid}
 use Rattle.rule.specs.Check.{Reading, Fault, fault, faults, lowestFault, outsideRange, wrongEndCount, unknownName, repeated, wrongLink, wordsFollow}

@@ -8,8 +8,8 @@ use mathlib.Core.Logic.{_⊎_, inl, inr}
 use lib.Dec.{eqb}
 use lib.ListN.{drop}
 use borrow.Author.Tests.{eq-eqb, ne-eqb, eqb-true}
-use Rattle.graph.specs.Lists.{rising, anyPasses, selected}
-use Rattle.graph.specs.laws.ListLaws.{same-or-not, le-or-gt}
+use Rattle.lists.specs.Lists.{rising, anyPasses, selected}
+use Rattle.lists.specs.laws.NumberLaws.{same-or-not, le-or-gt}
 use Rattle.rule.specs.Records.{HalfLink, halfLinkOf}
 use Rattle.rule.specs.Check.{repeatsPort, hasLink, mirrors, wrongHalf}
 use Rattle.index.specs.Places.{lastPlace}

@@ -8,7 +8,7 @@ use mathlib.Core.Option.{Option, none, some}
 use mathlib.Core.Bool.{true, cond, _||_, _&&_}
 use lib.Dec.{eqb}
 use lib.ListN.{getD}
-use Rattle.graph.specs.Lists.{rising, selected, lowestBy}
+use Rattle.lists.specs.Lists.{rising, selected, lowestBy}
 use Rattle.graph.specs.Order.{insertUpward, sorted, isLower}
 use Rattle.graph.specs.Graph.{Graph, costOnward}
 use Rattle.graph.specs.Chosen.{neighbours, onward, paths, chosen}

@@ -7,9 +7,9 @@ use mathlib.Core.Option.{Option, none, some}
 use mathlib.Core.Bool.{Bool, true, false, not, cond}
 use lib.Dec.{eqb, ltb}
 use lib.ListN.{getD}
-use Rattle.graph.specs.Lists.{rising, selected, anyPasses, lowestBy, spliced}
-use Rattle.graph.specs.Members.{sumOver, occurrences}
-use Rattle.graph.specs.Appending.{eachOf}
+use Rattle.lists.specs.Lists.{rising, selected, anyPasses, lowestBy, spliced}
+use Rattle.lists.specs.Members.{sumOver, occurrences}
+use Rattle.lists.specs.Appending.{eachOf}
 use Rattle.graph.specs.Order.{insertUpward, sorted, isLower}
 use Rattle.graph.specs.Graph.{Graph, costOnward, cost, hops, pathId, rank}
 use Rattle.graph.specs.Chosen.{neighbours, goesOn, onward, paths, chosen}

@@ -10,7 +10,7 @@ use lib.Dec.{T}
 use Rattle.graph.specs.Order.{Lower, sorted}
 use Rattle.graph.specs.Graph.{Graph, GraphLaws, KeyLaws, GoesOn, Onward, IsPath, costOnward, cost, hops, pathId, rank}
 use Rattle.graph.specs.Chosen.{Chosen, chosen}
-use Rattle.graph.specs.Members.{In}
+use Rattle.lists.specs.Members.{In}
 use Rattle.graph.specs.laws.Notions.{Agree}
 use Rattle.graph.specs.laws.Ranks.{cost-step, cost-stay}
 use Rattle.graph.specs.laws.Paths.{path-first, stays-inside}

@@ -11,10 +11,11 @@ use lib.ListN.{length, length-map}
 use Rattle.graph.specs.Order.{Lower}
 use Rattle.graph.specs.Graph.{Graph, GraphLaws, KeyLaws, Onward, IsPath, cost, hops, pathId, rank}
 use Rattle.graph.specs.Chosen.{Chosen}
-use Rattle.graph.specs.Members.{In}
-use Rattle.graph.specs.laws.ListNotions.{Distinct, lastOf, HasPart}
+use Rattle.lists.specs.Members.{In}
+use Rattle.lists.specs.laws.ListNotions.{Distinct, lastOf, HasPart}
 use Rattle.graph.specs.laws.Notions.{Joint, Linked, Least, RanksAbove}
-use Rattle.graph.specs.laws.ListLaws.{le-or-gt, nil-not-cons, lastOf-append, two-in}
+use Rattle.lists.specs.laws.NumberLaws.{le-or-gt}
+use Rattle.lists.specs.laws.MemberLaws.{nil-not-cons, lastOf-append, two-in}
 use Rattle.graph.specs.laws.OrderLaws.{lower-never, lower-one-way, lower-compared, length-sorted}
 use Rattle.graph.specs.laws.Ranks.{rank-places, rank-around, rank-around-same, rank-reverse, cost-stay}
 use Rattle.graph.specs.laws.Paths.{ends, split, replaced, cost-positive, path-first, path-reverse, linked-path}

@@ -9,11 +9,13 @@ use mathlib.Core.Logic.{_⊎_, inl, inr}
 use lib.ListN.{length, length-append}
 use Rattle.graph.specs.Graph.{Graph, GraphLaws, hops}
 use Rattle.graph.specs.Chosen.{Chosen}
-use Rattle.graph.specs.Members.{In, occurrences}
-use Rattle.graph.specs.laws.ListNotions.{Distinct, lastOf}
+use Rattle.lists.specs.Members.{In, occurrences}
+use Rattle.lists.specs.laws.ListNotions.{Distinct, lastOf}
 use Rattle.graph.specs.laws.Notions.{Least, Leaves}
 use Rattle.graph.specs.laws.Moves.{copies, entered, Feeds, HandsDown}
-use Rattle.graph.specs.laws.ListLaws.{le-or-gt, in-left, in-right, in-here, in-append, in-flatMap, flatMap-in, distinct-append, distinct-flatMap, nothing-in, same-last, occurrences-none, occurrences-one, occurrences-at-most-one}
+use Rattle.lists.specs.laws.NumberLaws.{le-or-gt}
+use Rattle.lists.specs.laws.MemberLaws.{in-left, in-right, in-here, in-append, in-flatMap, flatMap-in}
+use Rattle.lists.specs.laws.DistinctLaws.{distinct-append, distinct-flatMap, nothing-in, same-last, occurrences-none, occurrences-one, occurrences-at-most-one}
 use Rattle.graph.specs.laws.Paths.{ends, stays-inside}
 use Rattle.graph.specs.laws.ChosenPaths.{chosen-unique, chosen-first, chosen-stay, chosen-start, chosen-bounded}
 use Rattle.graph.specs.laws.Forwarding.{leaves-split, split-leaves, arrival}

@@ -8,13 +8,16 @@ use mathlib.Core.Option.{Option, none, some}
 use mathlib.Core.Logic.{_⊎_, inl, inr}
 use lib.Dec.{T, ltb, eqb, ltb→lt, lt→ltb, eqb→eq}
 use lib.ListN.{length}
-use Rattle.graph.specs.Lists.{rising, selected}
+use Rattle.lists.specs.Lists.{rising, selected}
 use Rattle.graph.specs.Order.{Lower, isLower}
 use Rattle.graph.specs.Graph.{Graph, GraphLaws, KeyLaws, Joined, GoesOn, Onward, IsPath, costOnward, cost, rank}
 use Rattle.graph.specs.Chosen.{Chosen, neighbours, goesOn, onward, paths, chosen}
-use Rattle.graph.specs.Members.{In}
-use Rattle.graph.specs.laws.ListNotions.{Distinct}
-use Rattle.graph.specs.laws.ListLaws.{in-map, map-in, in-flatMap, flatMap-in, selected-in, in-selected, in-consIf, consIf-here, consIf-there, in-rising, lowest-none, eq-eqb}
+use Rattle.lists.specs.Members.{In}
+use Rattle.lists.specs.laws.ListNotions.{Distinct}
+use Rattle.lists.specs.laws.NumberLaws.{eq-eqb}
+use Rattle.lists.specs.laws.MemberLaws.{in-map, map-in, in-flatMap, flatMap-in}
+use Rattle.lists.specs.laws.SelectedLaws.{selected-in, in-selected, in-consIf, consIf-here, consIf-there, in-rising}
+use Rattle.lists.specs.laws.LowestLaws.{lowest-none}
 use Rattle.graph.specs.laws.OrderLaws.{lowest-ranked}
 use Rattle.graph.specs.laws.Paths.{entered-inside, path-first}
 use Rattle.graph.specs.laws.LeastPaths.{without-repeats, distinct-bounded}

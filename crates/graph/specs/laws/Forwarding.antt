@@ -13,7 +13,7 @@ use Rattle.graph.specs.Graph.{Graph, GraphLaws, KeyLaws, hops}
 use Rattle.graph.specs.Chosen.{Chosen}
 use Rattle.graph.specs.laws.Notions.{Least, Leaves}
 use Rattle.graph.specs.laws.Moves.{second, nextHop, enters, stood}
-use Rattle.graph.specs.laws.ListLaws.{eqb-same, eqb-other}
+use Rattle.lists.specs.laws.NumberLaws.{eqb-same, eqb-other}
 use Rattle.graph.specs.laws.ChosenPaths.{chosen-first, chosen-self, chosen-rest, chosen-start, chosen-reverse}
 use Rattle.graph.specs.laws.Enumeration.{is-chosen}
 

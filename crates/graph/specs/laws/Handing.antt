@@ -8,13 +8,15 @@ use mathlib.Core.Option.{Option, none, some}
 use mathlib.Core.Logic.{inl, inr}
 use mathlib.Core.Bool.{Bool, true, false, _&&_, _||_}
 use lib.Dec.{T, eqb, eqb→eq}
-use Rattle.graph.specs.Lists.{rising, selected, anyPasses}
+use Rattle.lists.specs.Lists.{rising, selected, anyPasses}
 use Rattle.graph.specs.Graph.{Graph, GraphLaws, KeyLaws}
 use Rattle.graph.specs.Chosen.{Chosen, chosen}
-use Rattle.graph.specs.Members.{In}
+use Rattle.lists.specs.Members.{In}
 use Rattle.graph.specs.laws.Notions.{Leaves}
 use Rattle.graph.specs.laws.Moves.{leaves, leavesOn, handed, Feeds, HandsDown}
-use Rattle.graph.specs.laws.ListLaws.{selected-in, in-selected, any-in, in-any, in-rising, distinct-selected, distinct-rising, eq-eqb, both, first-of, last-of}
+use Rattle.lists.specs.laws.NumberLaws.{eq-eqb, both, first-of, last-of}
+use Rattle.lists.specs.laws.SelectedLaws.{selected-in, in-selected, any-in, in-any, in-rising}
+use Rattle.lists.specs.laws.DistinctLaws.{distinct-selected, distinct-rising}
 use Rattle.graph.specs.laws.Paths.{entered-inside, end-inside}
 use Rattle.graph.specs.laws.Enumeration.{chosen-is, is-chosen}
 use Rattle.graph.specs.laws.Forwarding.{departure}

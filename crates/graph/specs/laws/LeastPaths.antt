@@ -8,10 +8,11 @@ use mathlib.Core.Logic.{_⊎_, inl, inr}
 use lib.ListN.{length, length-map}
 use Rattle.graph.specs.Order.{sorted}
 use Rattle.graph.specs.Graph.{Graph, GraphLaws, KeyLaws, Onward, costOnward, pathId}
-use Rattle.graph.specs.Members.{In}
-use Rattle.graph.specs.laws.ListNotions.{Distinct, lastOf}
+use Rattle.lists.specs.Members.{In}
+use Rattle.lists.specs.laws.ListNotions.{Distinct, lastOf}
 use Rattle.graph.specs.laws.Notions.{Joint, Least}
-use Rattle.graph.specs.laws.ListLaws.{nil-not-cons, in-map, map-in, in-split, in-or-not, distinct-right, at-most}
+use Rattle.lists.specs.laws.MemberLaws.{nil-not-cons, in-map, map-in, in-split}
+use Rattle.lists.specs.laws.DistinctLaws.{in-or-not, distinct-right, at-most}
 use Rattle.graph.specs.laws.OrderLaws.{insert-same, sorted-cons, length-sorted, in-sorted, sorted-in}
 use Rattle.graph.specs.laws.Ranks.{cost-step, cost-stay}
 use Rattle.graph.specs.laws.Paths.{ends, split, replaced, goes-on, cost-of-parts, cost-positive, cost-falls, rest-of, path-inside}

@@ -8,10 +8,10 @@ use mathlib.Core.Logic.{_⊎_, inl, inr}
 use lib.Dec.{T}
 use lib.ListN.{length, length-append}
 use Rattle.graph.specs.Graph.{Graph, GraphLaws, Joined, GoesOn, Onward, IsPath, costOnward}
-use Rattle.graph.specs.Members.{In}
-use Rattle.graph.specs.laws.ListNotions.{lastOf}
+use Rattle.lists.specs.Members.{In}
+use Rattle.lists.specs.laws.ListNotions.{lastOf}
 use Rattle.graph.specs.laws.Notions.{Joint, Chain, Linked}
-use Rattle.graph.specs.laws.ListLaws.{nil-not-cons, append-empty}
+use Rattle.lists.specs.laws.MemberLaws.{nil-not-cons, append-empty}
 use Rattle.graph.specs.laws.Ranks.{cost-step, cost-behind}
 
 module _ (g : Graph) where

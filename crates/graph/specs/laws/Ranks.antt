@@ -8,8 +8,8 @@ use mathlib.Core.Logic.{inl, inr}
 use lib.ListN.{length, length-append, length-map, length-reverse}
 use Rattle.graph.specs.Order.{Lower, sorted}
 use Rattle.graph.specs.Graph.{Graph, costOnward, cost, hops, pathId, rank}
-use Rattle.graph.specs.laws.ListNotions.{lastOf}
-use Rattle.graph.specs.laws.ListLaws.{map-reverse, lastOf-append}
+use Rattle.lists.specs.laws.ListNotions.{lastOf}
+use Rattle.lists.specs.laws.MemberLaws.{map-reverse, lastOf-append}
 use Rattle.graph.specs.laws.OrderLaws.{sorted-reverse, sorted-in-front, sorted-behind, sorted-in-front-same, sorted-behind-same}
 
 -- Cost

@@ -9,7 +9,7 @@ use mathlib.Core.Logic.{_⊎_, inl, inr}
 use Rattle.graph.specs.Order.{Lower}
 use Rattle.graph.specs.Graph.{Graph, GraphLaws, KeyLaws, Joined, GoesOn, IsPath, rank}
 use Rattle.graph.specs.Chosen.{Chosen, chosen}
-use Rattle.graph.specs.laws.ListLaws.{nil-not-cons}
+use Rattle.lists.specs.laws.MemberLaws.{nil-not-cons}
 use Rattle.graph.specs.laws.ChosenPaths.{chosen-first, chosen-self, chosen-rest}
 use Rattle.graph.specs.laws.Enumeration.{chosen-or-no-path, is-chosen, no-path-none}
 

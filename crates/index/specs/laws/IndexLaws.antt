@@ -10,7 +10,7 @@ use lib.Dec.{eqb}
 use lib.ListN.{length, getD, set, replicate, length-set, length-replicate, getD-replicate}
 use lib.Seq.{getD-set-same, getD-set-other}
 use borrow.Author.Tests.{eq-eqb, ne-eqb, eqb-true}
-use Rattle.graph.specs.laws.ListLaws.{le-or-gt, same-or-not}
+use Rattle.lists.specs.laws.NumberLaws.{le-or-gt, same-or-not}
 use Rattle.index.specs.Places.{lastPlace}
 use Rattle.index.specs.laws.PlaceLaws.{last-none, last-here, last-earlier, last-within, last-passes, last-through, last-same, last-but-last, last-but-other}
 use Rattle.index.specs.Index.{remainder, keyAt, holds, hasRemainder, Indexed, InChain, Entered, earlierPlace, otherPlace}

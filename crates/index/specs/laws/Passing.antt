@@ -6,9 +6,9 @@ use mathlib.Core.List.{List, [], _∷_, _++_, append-nil, map, map-append}
 use mathlib.Core.Bool.{Bool, true, false, not, cond, _||_}
 use lib.Dec.{eqb}
 use borrow.Author.Tests.{ne-eqb}
-use Rattle.graph.specs.Lists.{rising, anyPasses, selected, consIf}
-use Rattle.graph.specs.laws.ListLaws.{selected-append}
-use Rattle.graph.specs.laws.Searching.{rising-more}
+use Rattle.lists.specs.Lists.{rising, anyPasses, selected, consIf}
+use Rattle.lists.specs.laws.DistinctLaws.{selected-append}
+use Rattle.lists.specs.laws.Searching.{rising-more}
 use Rattle.index.specs.Places.{lastPlace}
 
 -- What passes a test among the first `n` values, by the last place that passes.

@@ -6,7 +6,7 @@ use mathlib.Core.Logic.{_⊎_, inl, inr}
 use mathlib.Core.Bool.{Bool, true, false, cond, not, _&&_, and-true, and-false}
 use lib.Dec.{eqb}
 use borrow.Author.Tests.{eq-eqb, ne-eqb}
-use Rattle.graph.specs.laws.ListLaws.{le-or-gt}
+use Rattle.lists.specs.laws.NumberLaws.{le-or-gt}
 use Rattle.index.specs.Places.{lastPlace}
 
 module _ (test : ℕ → Bool) where

@@ -2,7 +2,7 @@
 -- Assumes nothing.
 use mathlib.Core.Path.{_≡_, refl}
 use mathlib.Core.List.{[], _∷_, flatMap}
-use Rattle.graph.specs.Lists.{rising, selected, anyPasses, lowestBy}
+use Rattle.lists.specs.Lists.{rising, selected, anyPasses, lowestBy}
 use Rattle.graph.specs.Order.{insertUpward, sorted, isLower}
 use Rattle.graph.specs.Graph.{costOnward}
 use Rattle.graph.specs.Chosen.{neighbours, onward, paths, chosen}

@@ -4,7 +4,7 @@ use native.Mathlib.Omega.{arith}
 use mathlib.Core.Path.{_≡_, refl, sym, ap, _∙_}
 use mathlib.Core.List.{List, [], _∷_, _++_, flatMap, append-nil, append-assoc}
 use lib.ListN.{length, drop, length-drop}
-use Rattle.graph.specs.laws.AppendingLaws.{appended-nothing}
+use Rattle.lists.specs.laws.AppendingLaws.{appended-nothing}
 use Rattle.rule.specs.Entries.{Entry}
 use Rattle.rule.specs.Lookup.{entriesIn}
 use Rattle.lookup.specs.laws.EntryListLaws.{entryAt, three-words}

@@ -7,7 +7,7 @@ use mathlib.Core.Option.{Option, none, some}
 use mathlib.Core.Bool.{Bool, cond, _&&_}
 use lib.Dec.{lt→ltb}
 use lib.ListN.{length}
-use Rattle.graph.specs.laws.ListLaws.{is-true}
+use Rattle.lists.specs.laws.NumberLaws.{is-true}
 use Rattle.rule.specs.Records.{Vid}
 use Rattle.rule.specs.Outcome.{answered, refused, refusedAs}
 use Rattle.rule.specs.Plan.{Plan, knownBridge, vidRecord}

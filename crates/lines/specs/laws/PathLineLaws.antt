@@ -9,7 +9,8 @@ use mathlib.Core.Logic.{_⊎_, inl, inr}
 use lib.ListN.{length, take, drop}
 use lib.Seq.{take-append-seam}
 use borrow.Author.Tests.{eq-eqb, ne-eqb, le-leb}
-use Rattle.graph.specs.laws.ListLaws.{same-or-not, flatMap-append}
+use Rattle.lists.specs.laws.NumberLaws.{same-or-not}
+use Rattle.lists.specs.laws.GivenLaws.{flatMap-append}
 use Rattle.rule.specs.Outcome.{Outcome, answered, refused, refusedAs, Written, overwritten, lentTo}
 use Rattle.rule.specs.Answers.{CostAndHops}
 use Rattle.rule.specs.laws.CallLaws.{refused-not-answered, lent-says}

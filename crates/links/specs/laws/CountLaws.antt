@@ -8,9 +8,10 @@ use mathlib.Core.Bool.{Bool, true, false, cond}
 use lib.Dec.{ltb}
 use lib.ListN.{length}
 use borrow.Author.Tests.{lt-ltb, le-ltb}
-use Rattle.graph.specs.Lists.{selected, consIf}
-use Rattle.graph.specs.Members.{sumOver}
-use Rattle.graph.specs.laws.ListLaws.{selected-flatMap, length-flatMap, sum-most, sum-append}
+use Rattle.lists.specs.Lists.{selected, consIf}
+use Rattle.lists.specs.Members.{sumOver}
+use Rattle.lists.specs.laws.GivenLaws.{selected-flatMap}
+use Rattle.lists.specs.laws.SumLaws.{length-flatMap, sum-most, sum-append}
 use Rattle.rule.specs.declared.answer.Counts.{Counts}
 use Rattle.rule.specs.Records.{HalfLink, halfLinkOf, unusableMetric}
 use Rattle.rule.specs.Plan.{Plan}

@@ -9,10 +9,12 @@ use mathlib.Core.Logic.{_⊎_, inl, inr}
 use mathlib.Core.Bool.{Bool, true, false, cond}
 use lib.ListN.{length, getD, set, length-append}
 use lib.Seq.{getD-set-same, getD-set-other}
-use Rattle.graph.specs.Lists.{rising, selected, consIf}
-use Rattle.graph.specs.Members.{In}
-use Rattle.graph.specs.laws.ListLaws.{le-or-gt, is-true, selected-in, selected-append, distinct-within, distinct-selected, distinct-rising, rising-in}
-use Rattle.graph.specs.laws.Searching.{rising-more}
+use Rattle.lists.specs.Lists.{rising, selected, consIf}
+use Rattle.lists.specs.Members.{In}
+use Rattle.lists.specs.laws.NumberLaws.{le-or-gt, is-true}
+use Rattle.lists.specs.laws.SelectedLaws.{selected-in, rising-in}
+use Rattle.lists.specs.laws.DistinctLaws.{selected-append, distinct-within, distinct-selected, distinct-rising}
+use Rattle.lists.specs.laws.Searching.{rising-more}
 use Rattle.links.specs.Listing.{howMany, Holds}
 
 module _ (test : ℕ → Bool) where

@@ -8,9 +8,11 @@ use mathlib.Core.Logic.{_⊎_, inl, inr}
 use mathlib.Core.Bool.{Bool, true, not, _&&_}
 use lib.Dec.{T, eqb}
 use borrow.Author.Tests.{eq-eqb, ne-eqb, eqb-true}
-use Rattle.graph.specs.Lists.{selected}
-use Rattle.graph.specs.Members.{In}
-use Rattle.graph.specs.laws.ListLaws.{compared, first-of, last-of, true-test, is-true, equal-three, three-equal, selected-in, in-selected, selected-none, only-one, distinct-selected}
+use Rattle.lists.specs.Lists.{selected}
+use Rattle.lists.specs.Members.{In}
+use Rattle.lists.specs.laws.NumberLaws.{compared, first-of, last-of, true-test, is-true, equal-three, three-equal}
+use Rattle.lists.specs.laws.SelectedLaws.{selected-in, in-selected}
+use Rattle.lists.specs.laws.DistinctLaws.{selected-none, only-one, distinct-selected}
 use Rattle.rule.specs.Words.{wordsOf}
 use Rattle.rule.specs.Records.{HalfLink, halfLinkOf}
 use Rattle.rule.specs.Plan.{Plan}

@@ -9,8 +9,8 @@ use mathlib.Core.Logic.{_⊎_, inl, inr}
 use mathlib.Core.Bool.{true, false, not}
 use lib.ListN.{length, getD, length-map}
 use borrow.Author.Tests.{eq-eqb, ne-eqb}
-use Rattle.graph.specs.Members.{In}
-use Rattle.graph.specs.laws.ListLaws.{in-map, none-not-some}
+use Rattle.lists.specs.Members.{In}
+use Rattle.lists.specs.laws.MemberLaws.{in-map, none-not-some}
 use Rattle.rule.specs.Words.{wordsOf}
 use Rattle.rule.specs.Records.{HalfLink, halfLinkOf, unusableMetric}
 use Rattle.rule.specs.Plan.{Plan}

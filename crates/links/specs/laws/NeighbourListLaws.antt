@@ -8,7 +8,7 @@ use mathlib.Core.Bool.{true, false, not}
 use lib.ListN.{length, getD, set, length-set}
 use lib.Seq.{getD-set-same, getD-set-other}
 use borrow.Author.Tests.{eq-eqb, ne-eqb}
-use Rattle.graph.specs.laws.ListLaws.{same-or-not}
+use Rattle.lists.specs.laws.NumberLaws.{same-or-not}
 use Rattle.links.specs.Pairs.{noHop}
 use Rattle.links.specs.Listing.{howMany}
 use Rattle.links.specs.laws.ListingLaws.{how-many-none, how-many-passing, how-many-failing, how-many-rises, holds-none, holds-passing, holds-failing}

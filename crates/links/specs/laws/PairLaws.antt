@@ -10,9 +10,11 @@ use mathlib.Core.Bool.{Bool, true, false, cond}
 use lib.Dec.{T, ltb, ltb→lt, lt→ltb}
 use lib.ListN.{length, getD, set, length-set}
 use lib.Seq.{getD-set-same, getD-set-other}
-use Rattle.graph.specs.Lists.{selected}
-use Rattle.graph.specs.Members.{In}
-use Rattle.graph.specs.laws.ListLaws.{le-or-gt, compared, same-or-not, in-append, in-left, in-here, true-test, equal-three, three-equal, selected-in}
+use Rattle.lists.specs.Lists.{selected}
+use Rattle.lists.specs.Members.{In}
+use Rattle.lists.specs.laws.NumberLaws.{le-or-gt, compared, same-or-not, true-test, equal-three, three-equal}
+use Rattle.lists.specs.laws.MemberLaws.{in-append, in-left, in-here}
+use Rattle.lists.specs.laws.SelectedLaws.{selected-in}
 use Rattle.rule.specs.Words.{wordsOf}
 use Rattle.rule.specs.Records.{HalfLink, halfLinkOf, bridgeOf, unusableMetric}
 use Rattle.rule.specs.Plan.{Plan}

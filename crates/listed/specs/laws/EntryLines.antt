@@ -5,7 +5,7 @@ use mathlib.Core.Path.{_≡_, refl, ap, subst, _∙_}
 use mathlib.Core.List.{List, flatMap}
 use lib.ListN.{length, take, length-take}
 use borrow.Author.Tests.{lt-ltb}
-use Rattle.graph.specs.Appending.{Appended}
+use Rattle.lists.specs.Appending.{Appended}
 use Rattle.rule.specs.Words.{wordsOf}
 use Rattle.rule.specs.Lookup.{entriesIn}
 use Rattle.rule.specs.laws.ListBound.{few-words}

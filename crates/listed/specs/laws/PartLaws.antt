@@ -6,8 +6,9 @@ use mathlib.Core.Path.{_≡_, refl, sym, ap, _∙_}
 use mathlib.Core.List.{List, [], _∷_, _++_, flatMap}
 use lib.ListN.{length}
 use borrow.Author.Tests.{lt-ltb, le-ltb}
-use Rattle.graph.specs.Lists.{rising}
-use Rattle.graph.specs.laws.ListLaws.{rising-in, rising-both, by-places, flatMap-map, flatMap-append, flatMap-same, flatMap-from, flatMap-rows}
+use Rattle.lists.specs.Lists.{rising}
+use Rattle.lists.specs.laws.SelectedLaws.{rising-in}
+use Rattle.lists.specs.laws.GivenLaws.{rising-both, by-places, flatMap-map, flatMap-append, flatMap-same, flatMap-from, flatMap-rows}
 use Rattle.rule.specs.Records.{Vid}
 use Rattle.rule.specs.Plan.{Plan, vidAt}
 use Rattle.rule.specs.Calls.{planEntries}

@@ -8,11 +8,11 @@ use mathlib.Core.Bool.{not}
 use lib.Dec.{eqb}
 use lib.ListN.{length}
 use borrow.Author.Tests.{eq-eqb, ne-eqb}
-use Rattle.graph.specs.Lists.{rising}
-use Rattle.graph.specs.Members.{In}
-use Rattle.graph.specs.laws.ListLaws.{flatMap-selected}
-use Rattle.graph.specs.Appending.{Appended, eachOf}
-use Rattle.graph.specs.laws.AppendingLaws.{appended-nothing, AppendingFew, few-ends}
+use Rattle.lists.specs.Lists.{rising}
+use Rattle.lists.specs.Members.{In}
+use Rattle.lists.specs.laws.GivenLaws.{flatMap-selected}
+use Rattle.lists.specs.Appending.{Appended, eachOf}
+use Rattle.lists.specs.laws.AppendingLaws.{appended-nothing, AppendingFew, few-ends}
 use Rattle.rule.specs.Words.{wordsOf}
 use Rattle.rule.specs.Records.{Vid}
 use Rattle.rule.specs.Plan.{Plan}

@@ -7,9 +7,11 @@ use mathlib.Core.Path.{_≡_, refl, sym, ap, subst, _∙_}
 use mathlib.Core.List.{List, [], _∷_, _++_, map, flatMap, append-nil}
 use lib.ListN.{length, getD, take, drop, length-map, drop-of-length-le}
 use lib.Seq.{drop-cons}
-use Rattle.graph.specs.Lists.{rising}
-use Rattle.graph.specs.Appending.{Appended}
-use Rattle.graph.specs.laws.ListLaws.{flatMap-map, length-rising, map-at, rising-at}
+use Rattle.lists.specs.Lists.{rising}
+use Rattle.lists.specs.Appending.{Appended}
+use Rattle.lists.specs.laws.MemberLaws.{map-at}
+use Rattle.lists.specs.laws.SelectedLaws.{length-rising, rising-at}
+use Rattle.lists.specs.laws.GivenLaws.{flatMap-map}
 use Rattle.rule.specs.declared.answer.Counts.{Counts}
 use Rattle.rule.specs.declared.answer.RecordKind.{RecordKind}
 use Rattle.rule.specs.Words.{wordsOf}

@@ -5,7 +5,7 @@ use native.Mathlib.Nat.{mod-lt, div-lt-iff-lt-mul, mul-le-mul-left, mul-le-mul-r
 use mathlib.Core.Path.{_≡_, sym, ap, subst, _∙_}
 use mathlib.Core.List.{List}
 use lib.ListN.{length}
-use Rattle.graph.specs.Appending.{Appended}
+use Rattle.lists.specs.Appending.{Appended}
 use Rattle.rule.specs.declared.answer.Counts.{Counts}
 use Rattle.rule.specs.Records.{Vid, bridgeOf, vidOf}
 use Rattle.rule.specs.Plan.{Plan, vidAt}

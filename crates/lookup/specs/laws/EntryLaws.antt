@@ -7,7 +7,7 @@ use mathlib.Core.Logic.{_⊎_, inl, inr}
 use mathlib.Core.Bool.{Bool, true, false, not, _||_, or-true, or-false}
 use lib.Dec.{eqb}
 use borrow.Author.Tests.{eq-eqb, ne-eqb}
-use Rattle.graph.specs.laws.ListLaws.{same-or-not}
+use Rattle.lists.specs.laws.NumberLaws.{same-or-not}
 use Rattle.rule.specs.Records.{inLimits, vidLimits, portLimits, groupBit}
 use Rattle.rule.specs.Entries.{Entry}
 use Rattle.rule.specs.Lookup.{faultyEntry}

@@ -10,8 +10,9 @@ use mathlib.Core.Bool.{Bool, true, false, _||_, _&&_}
 use lib.Dec.{eqb, ltb}
 use lib.ListN.{length, drop, getElem?, length-drop}
 use borrow.Author.Tests.{lt-ltb, le-ltb}
-use Rattle.graph.specs.Lists.{consIf, selected}
-use Rattle.graph.specs.laws.ListLaws.{le-or-gt, drop-next}
+use Rattle.lists.specs.Lists.{consIf, selected}
+use Rattle.lists.specs.laws.NumberLaws.{le-or-gt}
+use Rattle.lists.specs.laws.MemberLaws.{drop-next}
 use Rattle.rule.specs.Words.{word, bits}
 use Rattle.rule.specs.Entries.{Entry}
 use Rattle.rule.specs.Lookup.{entryOf, entriesIn, faultyEntry, faultyList, matchingPorts}

@@ -7,9 +7,9 @@ use mathlib.Core.List.{List, _++_}
 use mathlib.Core.Logic.{_⊎_, inl, inr}
 use lib.ListN.{length, getD, set, take, drop, length-set}
 use lib.Seq.{getD-set-same, getD-set-other}
-use Rattle.graph.specs.Lists.{spliced}
-use Rattle.graph.specs.laws.ListLaws.{compared, same-or-not}
-use Rattle.graph.specs.laws.Splices.{length-spliced, put-back, spliced-part, before-spliced, after-spliced}
+use Rattle.lists.specs.Lists.{spliced}
+use Rattle.lists.specs.laws.NumberLaws.{compared, same-or-not}
+use Rattle.lists.specs.laws.Splices.{length-spliced, put-back, spliced-part, before-spliced, after-spliced}
 use Rattle.network.specs.PlanLists.{TreeOfLists}
 use Rattle.network.specs.KeptTrees.{slotOf, lineOf, onLine, TreesHeld}
 

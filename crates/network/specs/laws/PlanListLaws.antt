@@ -6,8 +6,8 @@ use mathlib.Core.List.{List, map}
 use mathlib.Core.Option.{Option, none, some}
 use lib.Dec.{T}
 use lib.ListN.{length, getD, length-map}
-use Rattle.graph.specs.Lists.{spliced}
-use Rattle.graph.specs.laws.Splices.{length-spliced}
+use Rattle.lists.specs.Lists.{spliced}
+use Rattle.lists.specs.laws.Splices.{length-spliced}
 use Rattle.graph.specs.Graph.{Joined}
 use Rattle.rule.specs.Words.{wordsOf}
 use Rattle.rule.specs.Plan.{Plan, bridgeAt}

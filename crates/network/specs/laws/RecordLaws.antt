@@ -10,7 +10,7 @@ use lib.Dec.{eqb}
 use lib.ListN.{length, getD, set, drop, length-set}
 use lib.Seq.{getD-set-same, getD-set-other}
 use borrow.Author.Tests.{eq-eqb, ne-eqb}
-use Rattle.graph.specs.laws.ListLaws.{same-or-not}
+use Rattle.lists.specs.laws.NumberLaws.{same-or-not}
 use Rattle.rule.specs.Records.{Bridge, Vid, bridgeOf, vidOf}
 use Rattle.rule.specs.Plan.{hasVid, vidRecord, bridgeAt}
 use Rattle.table.specs.declared.shape.Shape.{Shape}

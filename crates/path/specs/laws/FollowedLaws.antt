@@ -6,9 +6,9 @@ use mathlib.Core.Path.{_≡_, refl, sym, ap, _∙_}
 use mathlib.Core.List.{List, [], _∷_, _++_}
 use mathlib.Core.Logic.{inl, inr}
 use lib.ListN.{length, getD, set, length-set}
-use Rattle.graph.specs.Lists.{spliced}
-use Rattle.graph.specs.Members.{In}
-use Rattle.graph.specs.laws.Splices.{spliced-nothing, spliced-next}
+use Rattle.lists.specs.Lists.{spliced}
+use Rattle.lists.specs.Members.{In}
+use Rattle.lists.specs.laws.Splices.{spliced-nothing, spliced-next}
 use Rattle.tree.specs.Labels.{labelAt}
 use Rattle.path.specs.Followed.{followed, Inside}
 

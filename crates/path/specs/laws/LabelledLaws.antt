@@ -7,10 +7,10 @@ use mathlib.Core.Option.{Option, none, some}
 use mathlib.Core.Logic.{inl, inr}
 use lib.ListN.{length, drop}
 use borrow.Author.Tests.{eq-eqb, ne-eqb, le-leb, lt-leb}
-use Rattle.graph.specs.Lists.{spliced}
+use Rattle.lists.specs.Lists.{spliced}
 use Rattle.graph.specs.Graph.{Graph, GraphLaws, KeyLaws, cost, hops, costOnward}
 use Rattle.graph.specs.Chosen.{Chosen, chosen}
-use Rattle.graph.specs.Members.{In}
+use Rattle.lists.specs.Members.{In}
 use Rattle.graph.specs.laws.Ranks.{cost-most}
 use Rattle.graph.specs.laws.Paths.{stays-inside}
 use Rattle.graph.specs.laws.ChosenPaths.{chosen-first, chosen-fits}

@@ -9,9 +9,9 @@ use mathlib.Core.Bool.{Bool, true, false, cond, _&&_}
 use lib.Dec.{ltb}
 use lib.ListN.{length, getElem?}
 use borrow.Author.Tests.{ltb-true, lt-ltb, le-ltb}
-use Rattle.graph.specs.Lists.{selected}
-use Rattle.graph.specs.Members.{In}
-use Rattle.graph.specs.laws.ListLaws.{selected-in}
+use Rattle.lists.specs.Lists.{selected}
+use Rattle.lists.specs.Members.{In}
+use Rattle.lists.specs.laws.SelectedLaws.{selected-in}
 use Rattle.rule.specs.Records.{Vid}
 use Rattle.rule.specs.Outcome.{Outcome, refusedAs}
 use Rattle.rule.specs.Plan.{Plan, hasVid, vidRecord}

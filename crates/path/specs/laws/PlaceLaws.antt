@@ -10,11 +10,11 @@ use mathlib.Core.Bool.{true, false, _&&_}
 use lib.Dec.{leb}
 use lib.ListN.{length, set, drop, length-set, length-map, length-reverse}
 use borrow.Author.Tests.{eq-eqb, ne-eqb, le-leb, lt-leb}
-use Rattle.graph.specs.Lists.{rising, spliced}
-use Rattle.graph.specs.Members.{In}
-use Rattle.graph.specs.laws.ListLaws.{rising-in, length-rising}
-use Rattle.graph.specs.laws.Searching.{rising-more}
-use Rattle.graph.specs.laws.Splices.{spliced-nothing, spliced-next}
+use Rattle.lists.specs.Lists.{rising, spliced}
+use Rattle.lists.specs.Members.{In}
+use Rattle.lists.specs.laws.SelectedLaws.{rising-in, length-rising}
+use Rattle.lists.specs.laws.Searching.{rising-more}
+use Rattle.lists.specs.laws.Splices.{spliced-nothing, spliced-next}
 use Rattle.graph.specs.Graph.{GraphLaws, KeyLaws, cost, hops}
 use Rattle.graph.specs.laws.Ranks.{cost-reverse}
 use Rattle.graph.specs.Chosen.{chosen}

@@ -9,9 +9,10 @@ use mathlib.Core.Bool.{Bool, true, false, cond}
 use lib.Dec.{eqb}
 use lib.ListN.{length, getD}
 use borrow.Author.Tests.{eq-eqb, ne-eqb}
-use Rattle.graph.specs.Members.{In}
-use Rattle.graph.specs.laws.ListNotions.{Distinct}
-use Rattle.graph.specs.laws.ListLaws.{same-or-not, none-not-some, in-left, in-append}
+use Rattle.lists.specs.Members.{In}
+use Rattle.lists.specs.laws.ListNotions.{Distinct}
+use Rattle.lists.specs.laws.NumberLaws.{same-or-not}
+use Rattle.lists.specs.laws.MemberLaws.{none-not-some, in-left, in-append}
 use Rattle.graph.specs.Graph.{Graph, GraphLaws, KeyLaws, cost, hops}
 use Rattle.graph.specs.laws.Ranks.{cost-most}
 use Rattle.graph.specs.laws.Notions.{Least}

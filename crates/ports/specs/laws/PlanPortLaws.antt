@@ -6,8 +6,8 @@ use mathlib.Core.Path.{_≡_, refl, sym, ap, _∙_, subst}
 use mathlib.Core.List.{List}
 use mathlib.Core.Option.{Option, none, some, Option·map}
 use lib.ListN.{length, getD}
-use Rattle.graph.specs.Members.{In, EveryTwo}
-use Rattle.graph.specs.laws.ListLaws.{none-not-some}
+use Rattle.lists.specs.Members.{In, EveryTwo}
+use Rattle.lists.specs.laws.MemberLaws.{none-not-some}
 use Rattle.rule.specs.Plan.{Plan}
 use Rattle.rule.specs.PlanLaws.{PlanLaws}
 use Rattle.rule.specs.Links.{Link, hopLink}

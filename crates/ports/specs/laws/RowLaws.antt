@@ -6,10 +6,13 @@ use mathlib.Core.List.{List}
 use mathlib.Core.Logic.{_⊎_, inl, inr}
 use lib.ListN.{length, getD, set, drop, length-set, length-map}
 use lib.Seq.{getD-set-same, getD-set-other, getD-drop}
-use Rattle.graph.specs.Lists.{rising}
-use Rattle.graph.specs.laws.ListLaws.{same-or-not, map-at, rising-at, length-rising, flatMap-one}
-use Rattle.graph.specs.laws.Splices.{length-spliced, place-before, place-within}
-use Rattle.graph.specs.Appending.{Appended}
+use Rattle.lists.specs.Lists.{rising}
+use Rattle.lists.specs.laws.NumberLaws.{same-or-not}
+use Rattle.lists.specs.laws.MemberLaws.{map-at}
+use Rattle.lists.specs.laws.SelectedLaws.{rising-at, length-rising}
+use Rattle.lists.specs.laws.GivenLaws.{flatMap-one}
+use Rattle.lists.specs.laws.Splices.{length-spliced, place-before, place-within}
+use Rattle.lists.specs.Appending.{Appended}
 use Rattle.rule.specs.Plan.{Plan}
 use Rattle.network.specs.PlanLists.{ListsOf, TreeOfLists}
 use Rattle.network.specs.KeptTrees.{slotOf}

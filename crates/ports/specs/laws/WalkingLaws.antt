@@ -7,10 +7,11 @@ use mathlib.Core.Bool.{cond}
 use lib.Dec.{eqb}
 use lib.ListN.{length, getD, set}
 use borrow.Author.Tests.{eq-eqb, ne-eqb}
-use Rattle.graph.specs.Lists.{rising}
-use Rattle.graph.specs.laws.ListLaws.{length-flatMap-each, length-rising}
-use Rattle.graph.specs.Appending.{Appended}
-use Rattle.graph.specs.laws.AppendingLaws.{Appending, one-word, appending-starts, appending-length, appending-room, appending-goes-on, appending-ends}
+use Rattle.lists.specs.Lists.{rising}
+use Rattle.lists.specs.laws.SelectedLaws.{length-rising}
+use Rattle.lists.specs.laws.GivenLaws.{length-flatMap-each}
+use Rattle.lists.specs.Appending.{Appended}
+use Rattle.lists.specs.laws.AppendingLaws.{Appending, one-word, appending-starts, appending-length, appending-room, appending-goes-on, appending-ends}
 use Rattle.tree.specs.Labels.{noCost, labelAt}
 use Rattle.ports.specs.Leaving.{walked, leavingBy, rowBy, WalkableFrom}
 

@@ -7,11 +7,11 @@ use mathlib.Core.List.{List, [], _∷_, _++_, map, flatMap}
 use mathlib.Core.Option.{Option, none, some}
 use mathlib.Core.Bool.{Bool, cond}
 use lib.ListN.{getD, take, replicate}
-use Rattle.graph.specs.Lists.{rising, selected, anyPasses, lowestBy}
+use Rattle.lists.specs.Lists.{rising, selected, anyPasses, lowestBy}
 use Rattle.graph.specs.Order.{insertUpward, sorted, isLower}
 use Rattle.graph.specs.Graph.{costOnward}
 use Rattle.graph.specs.Chosen.{neighbours, onward, paths, chosen}
-use Rattle.graph.specs.Members.{sumOver}
+use Rattle.lists.specs.Members.{sumOver}
 use Rattle.rule.specs.Words.{wordsOf, word}
 use Rattle.rule.specs.figures.Tables.{table}
 use Rattle.rule.specs.Records.{Record, bridge, halfLink, vid, member, end, bridgeOf, halfLinkOf, vidOf, memberOf, allWithin, leastMetric, greatestUsableMetric, unusableMetric, layouts, layoutOf}

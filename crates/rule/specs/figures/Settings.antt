@@ -6,8 +6,8 @@ use mathlib.Core.List.{List, [], _∷_, map, reverse, flatMap}
 use mathlib.Core.Logic.{inl}
 use native.Mathlib.Omega.{arith}
 use lib.ListN.{length}
-use Rattle.graph.specs.Lists.{selected, anyPasses}
-use Rattle.graph.specs.Members.{In}
+use Rattle.lists.specs.Lists.{selected, anyPasses}
+use Rattle.lists.specs.Members.{In}
 use Rattle.rule.specs.Words.{wordsOf}
 use Rattle.rule.specs.Records.{Vid, layoutOf}
 use Rattle.rule.specs.Outcome.{answered, lentTo}

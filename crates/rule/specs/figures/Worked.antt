@@ -6,7 +6,7 @@ use mathlib.Core.Path.{_≡_, refl}
 use mathlib.Core.List.{List, [], _∷_, flatMap}
 use mathlib.Core.Option.{none, some}
 use mathlib.Core.Bool.{true, false}
-use Rattle.graph.specs.Lists.{rising, selected, anyPasses, lowestBy}
+use Rattle.lists.specs.Lists.{rising, selected, anyPasses, lowestBy}
 use Rattle.graph.specs.Order.{insertUpward, sorted, isLower}
 use Rattle.graph.specs.Graph.{costOnward}
 use Rattle.graph.specs.Chosen.{neighbours, onward, paths, chosen}

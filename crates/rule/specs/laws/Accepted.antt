@@ -9,9 +9,12 @@ use mathlib.Core.Logic.{_⊎_, inl, inr}
 use mathlib.Core.Bool.{Bool, true, false, cond, not, _&&_, _||_}
 use lib.Dec.{T, leb, eqb, ltb, le→leb, leb→le, eqb→eq, ltb→lt}
 use lib.ListN.{length, drop, length-append}
-use Rattle.graph.specs.Lists.{selected}
-use Rattle.graph.specs.Members.{In}
-use Rattle.graph.specs.laws.ListLaws.{le-or-gt, first-of, last-of, equal-two, two-equal, equal-three, either-left, either-right, passes, eq-eqb, in-append, in-left, selected-in, in-selected, any-in, in-any, every-two-end, first-in, none-not-some}
+use Rattle.lists.specs.Lists.{selected}
+use Rattle.lists.specs.Members.{In}
+use Rattle.lists.specs.laws.NumberLaws.{le-or-gt, first-of, last-of, equal-two, two-equal, equal-three, either-left, either-right, passes, eq-eqb}
+use Rattle.lists.specs.laws.MemberLaws.{in-append, in-left, none-not-some}
+use Rattle.lists.specs.laws.SelectedLaws.{selected-in, in-selected, any-in, in-any}
+use Rattle.lists.specs.laws.DistinctLaws.{every-two-end, first-in}
 use Rattle.rule.specs.Words.{wordsOf, bits}
 use Rattle.rule.specs.Records.{Bridge, HalfLink, Vid, Member, Record, bridge, halfLink, vid, member, end, address, endCount, Layout, Range, inLimits, bridgeOf, halfLinkOf, vidOf, memberOf, layouts, layoutOf, bridgeLayout, halfLinkLayout, vidLayout, memberLayout}
 use Rattle.rule.specs.Outcome.{Outcome, answered, refused, refusedAs}

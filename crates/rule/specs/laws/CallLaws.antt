@@ -9,9 +9,11 @@ use mathlib.Core.Logic.{_⊎_, inl, inr}
 use mathlib.Core.Bool.{true, false, cond, _&&_}
 use lib.Dec.{eqb, leb, le→leb, leb→le, lt→ltb, eqb→eq}
 use lib.ListN.{length, getElem?, drop-of-length-le}
-use Rattle.graph.specs.Lists.{selected}
-use Rattle.graph.specs.Members.{In}
-use Rattle.graph.specs.laws.ListLaws.{le-or-gt, both, is-true, is-false, eq-eqb, selected-in, in-selected, distinct-selected, only-one}
+use Rattle.lists.specs.Lists.{selected}
+use Rattle.lists.specs.Members.{In}
+use Rattle.lists.specs.laws.NumberLaws.{le-or-gt, both, is-true, is-false, eq-eqb}
+use Rattle.lists.specs.laws.SelectedLaws.{selected-in, in-selected}
+use Rattle.lists.specs.laws.DistinctLaws.{distinct-selected, only-one}
 use Rattle.rule.specs.Records.{Vid}
 use Rattle.rule.specs.Outcome.{Outcome, answered, refused, andThen, refusedAs, Written, overwritten, lentTo}
 use Rattle.rule.specs.Plan.{Plan, knownBridge, vidRecord}

@@ -7,11 +7,11 @@ use mathlib.Core.List.{List, [], _∷_, _++_, reverse, append-assoc, reverse-con
 use mathlib.Core.Option.{Option, none, some}
 use mathlib.Core.Logic.{_⊎_, inl, inr}
 use lib.ListN.{length}
-use Rattle.graph.specs.Members.{In}
+use Rattle.lists.specs.Members.{In}
 use Rattle.graph.specs.Graph.{hops}
 use Rattle.graph.specs.Order.{Lower}
 use Rattle.graph.specs.laws.Notions.{Least as LeastCost, RanksAbove}
-use Rattle.graph.specs.laws.ListLaws.{nil-not-cons, none-not-some, lastOf-append, in-here, in-right}
+use Rattle.lists.specs.laws.MemberLaws.{nil-not-cons, none-not-some, lastOf-append, in-here, in-right}
 use Rattle.graph.specs.laws.Paths.{stays-inside}
 use Rattle.graph.specs.laws.ChosenPaths.{chosen-first, chosen-below, chosen-part, chosen-reverse}
 use Rattle.rule.specs.Outcome.{Outcome, refusedAs, lentTo}

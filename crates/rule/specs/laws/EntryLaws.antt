@@ -9,10 +9,14 @@ use mathlib.Core.Logic.{_⊎_, inl, inr}
 use mathlib.Core.Bool.{Bool, true, not, _&&_}
 use lib.Dec.{T, eqb, eqb→eq, T-not, not-T}
 use lib.ListN.{length}
-use Rattle.graph.specs.Lists.{rising, selected, anyPasses}
-use Rattle.graph.specs.Members.{In}
-use Rattle.graph.specs.laws.ListNotions.{Distinct}
-use Rattle.graph.specs.laws.ListLaws.{both, first-of, last-of, equal-three, three-equal, is-true, true-test, eq-eqb, in-append, map-in, flatMap-in, selected-in, in-selected, any-in, in-any, in-rising, rising-in, distinct-selected, distinct-rising, selected-none, selected-append, selected-flatMap, selected-flatMap-only, flatMap-only, map-back}
+use Rattle.lists.specs.Lists.{rising, selected, anyPasses}
+use Rattle.lists.specs.Members.{In}
+use Rattle.lists.specs.laws.ListNotions.{Distinct}
+use Rattle.lists.specs.laws.NumberLaws.{both, first-of, last-of, equal-three, three-equal, is-true, true-test, eq-eqb}
+use Rattle.lists.specs.laws.MemberLaws.{in-append, map-in, flatMap-in}
+use Rattle.lists.specs.laws.SelectedLaws.{selected-in, in-selected, any-in, in-any, in-rising, rising-in}
+use Rattle.lists.specs.laws.DistinctLaws.{distinct-selected, distinct-rising, selected-none, selected-append}
+use Rattle.lists.specs.laws.GivenLaws.{selected-flatMap, selected-flatMap-only, flatMap-only, map-back}
 use Rattle.rule.specs.Records.{HalfLink, Vid, Member, address, groupBit}
 use Rattle.rule.specs.Plan.{Plan, bridgeAt}
 use Rattle.rule.specs.Links.{Link, hopLink}

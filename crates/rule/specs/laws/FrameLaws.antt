@@ -10,10 +10,12 @@ use mathlib.Core.Bool.{cond}
 use lib.Dec.{eqb}
 use lib.ListN.{length, length-reverse}
 use Rattle.graph.specs.Graph.{IsPath, hops}
-use Rattle.graph.specs.Members.{In}
-use Rattle.graph.specs.laws.ListNotions.{along}
+use Rattle.lists.specs.Members.{In}
+use Rattle.lists.specs.laws.ListNotions.{along}
 use Rattle.graph.specs.laws.Notions.{Least, Leaves}
-use Rattle.graph.specs.laws.ListLaws.{eqb-same, eqb-other, nil-not-cons, along-reverse, map-reverse, map-injective}
+use Rattle.lists.specs.laws.NumberLaws.{eqb-same, eqb-other}
+use Rattle.lists.specs.laws.MemberLaws.{nil-not-cons, along-reverse, map-reverse}
+use Rattle.lists.specs.laws.GivenLaws.{map-injective}
 use Rattle.graph.specs.laws.Paths.{end-inside}
 use Rattle.graph.specs.laws.ChosenPaths.{chosen-first, chosen-reverse}
 use Rattle.graph.specs.laws.Enumeration.{chosen-or-no-path}

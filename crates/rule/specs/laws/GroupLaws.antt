@@ -6,11 +6,12 @@ use mathlib.Core.List.{List, [], _∷_, _++_, map, flatMap, map-append}
 use mathlib.Core.Logic.{_⊎_, inl, inr}
 use mathlib.Core.Bool.{true}
 use lib.Dec.{T}
-use Rattle.graph.specs.Members.{In, occurrences}
-use Rattle.graph.specs.laws.ListNotions.{Distinct}
+use Rattle.lists.specs.Members.{In, occurrences}
+use Rattle.lists.specs.laws.ListNotions.{Distinct}
 use Rattle.graph.specs.laws.Notions.{Leaves}
 use Rattle.graph.specs.laws.Moves.{copies as roundOf, entered, Feeds, HandsDown}
-use Rattle.graph.specs.laws.ListLaws.{in-map, map-in, flatMap-in, in-append, map-flatMap}
+use Rattle.lists.specs.laws.MemberLaws.{in-map, map-in, flatMap-in, in-append}
+use Rattle.lists.specs.laws.GivenLaws.{map-flatMap}
 use Rattle.graph.specs.laws.Forwarding.{departure}
 use Rattle.graph.specs.laws.Copies.{copy-inside, copy-arrival, at-most-once, sender-never, no-copy-left, receiver-once}
 use Rattle.rule.specs.Records.{Member}

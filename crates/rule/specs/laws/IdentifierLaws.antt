@@ -12,9 +12,11 @@ use lib.Arith.{mod-mul, digits-div}
 use lib.Pow.{mod-mod-pow}
 use lib.Dec.{ltb, ltb→lt}
 use lib.ListN.{getD, List·getD-eq-default}
-use Rattle.graph.specs.Lists.{rising, anyPasses}
+use Rattle.lists.specs.Lists.{rising, anyPasses}
 use Rattle.graph.specs.Graph.{KeyLaws}
-use Rattle.graph.specs.laws.ListLaws.{le-or-gt, passes, in-any, place-in}
+use Rattle.lists.specs.laws.NumberLaws.{le-or-gt, passes}
+use Rattle.lists.specs.laws.SelectedLaws.{in-any}
+use Rattle.lists.specs.laws.DistinctLaws.{place-in}
 use Rattle.rule.specs.Plan.{Plan, bridgeAt}
 use Rattle.rule.specs.Links.{graphOf}
 use Rattle.rule.specs.Identifiers.{masks, maskOf, maskedBytes, maskedIdentifier, keyOf}

@@ -10,12 +10,17 @@ use mathlib.Core.Logic.{_⊎_, inl, inr}
 use mathlib.Core.Bool.{Bool, _&&_, and-false, or-false}
 use lib.Dec.{T, eqb, ltb→lt, lt→ltb}
 use lib.ListN.{length}
-use Rattle.graph.specs.Lists.{selected}
+use Rattle.lists.specs.Lists.{selected}
 use Rattle.graph.specs.Order.{Lower, isLower}
 use Rattle.graph.specs.Graph.{GraphLaws, Joined}
-use Rattle.graph.specs.Members.{In}
-use Rattle.graph.specs.laws.ListNotions.{Distinct}
-use Rattle.graph.specs.laws.ListLaws.{compared, equal-two, two-equal, equal-three, three-equal, in-map, map-in, in-flatMap, flatMap-in, selected-in, in-selected, any-in, in-any, distinct-flatMap, distinct-selected, distinct-map, every-two-one, only-one, lowest-none}
+use Rattle.lists.specs.Members.{In}
+use Rattle.lists.specs.laws.ListNotions.{Distinct}
+use Rattle.lists.specs.laws.NumberLaws.{compared, equal-two, two-equal, equal-three, three-equal}
+use Rattle.lists.specs.laws.MemberLaws.{in-map, map-in, in-flatMap, flatMap-in}
+use Rattle.lists.specs.laws.SelectedLaws.{selected-in, in-selected, any-in, in-any}
+use Rattle.lists.specs.laws.DistinctLaws.{distinct-flatMap, distinct-selected, every-two-one, only-one}
+use Rattle.lists.specs.laws.LowestLaws.{lowest-none}
+use Rattle.lists.specs.laws.GivenLaws.{distinct-map}
 use Rattle.graph.specs.laws.OrderLaws.{lowest-ranked}
 use Rattle.rule.specs.Records.{HalfLink, unusableMetric}
 use Rattle.rule.specs.Plan.{Plan}

@@ -12,10 +12,15 @@ use mathlib.Core.Logic.{_⊎_, inl, inr}
 use mathlib.Core.Bool.{Bool, cond, not}
 use lib.Dec.{eqb, eqb→eq, T-not, not-T}
 use lib.ListN.{length, length-append, length-map}
-use Rattle.graph.specs.Lists.{rising, selected}
-use Rattle.graph.specs.Members.{In, sumOver}
-use Rattle.graph.specs.laws.ListNotions.{Distinct}
-use Rattle.graph.specs.laws.ListLaws.{same-or-not, last-of, is-true, is-false, eq-eqb, in-split, flatMap-in, selected-in, in-selected, rising-in, at-most, distinct-selected, distinct-rising, distinct-flatMap, distinct-within, selected-parts, sum-add, sum-most, sum-bounded, sum-parts, sum-flatMap, length-flatMap, length-flatMap-most, length-flatMap-each}
+use Rattle.lists.specs.Lists.{rising, selected}
+use Rattle.lists.specs.Members.{In, sumOver}
+use Rattle.lists.specs.laws.ListNotions.{Distinct}
+use Rattle.lists.specs.laws.NumberLaws.{same-or-not, last-of, is-true, is-false, eq-eqb}
+use Rattle.lists.specs.laws.MemberLaws.{in-split, flatMap-in}
+use Rattle.lists.specs.laws.SelectedLaws.{selected-in, in-selected, rising-in}
+use Rattle.lists.specs.laws.DistinctLaws.{at-most, distinct-selected, distinct-rising, distinct-flatMap, distinct-within, selected-parts}
+use Rattle.lists.specs.laws.GivenLaws.{length-flatMap-each}
+use Rattle.lists.specs.laws.SumLaws.{sum-add, sum-most, sum-bounded, sum-parts, sum-flatMap, length-flatMap, length-flatMap-most}
 use Rattle.rule.specs.Records.{Vid, Member}
 use Rattle.rule.specs.Plan.{Plan}
 use Rattle.rule.specs.Paths.{chosenPath}

@@ -9,11 +9,15 @@ use mathlib.Core.Logic.{inl, inr}
 use mathlib.Core.Bool.{Bool, true, false, cond, _&&_}
 use lib.Dec.{T, eqb, eqb→eq}
 use lib.ListN.{length, length-map}
-use Rattle.graph.specs.Lists.{selected}
-use Rattle.graph.specs.Members.{In}
-use Rattle.graph.specs.laws.ListNotions.{Distinct}
+use Rattle.lists.specs.Lists.{selected}
+use Rattle.lists.specs.Members.{In}
+use Rattle.lists.specs.laws.ListNotions.{Distinct}
 use Rattle.graph.specs.laws.Notions.{Least, Leaves}
-use Rattle.graph.specs.laws.ListLaws.{two-equal, is-true, eq-eqb, eqb-other, none-not-some, map-in, in-flatMap, flatMap-in, selected-in, in-selected, at-most, distinct-flatMap, distinct-map, length-flatMap-each}
+use Rattle.lists.specs.laws.NumberLaws.{two-equal, is-true, eq-eqb, eqb-other}
+use Rattle.lists.specs.laws.MemberLaws.{none-not-some, map-in, in-flatMap, flatMap-in}
+use Rattle.lists.specs.laws.SelectedLaws.{selected-in, in-selected}
+use Rattle.lists.specs.laws.DistinctLaws.{at-most, distinct-flatMap}
+use Rattle.lists.specs.laws.GivenLaws.{distinct-map, length-flatMap-each}
 use Rattle.graph.specs.laws.Paths.{entered-inside}
 use Rattle.graph.specs.laws.ChosenPaths.{chosen-first, chosen-distinct}
 use Rattle.rule.specs.Records.{HalfLink, Member}

@@ -7,7 +7,7 @@ use mathlib.Core.Option.{none, some}
 use lib.ListN.{length}
 use Rattle.graph.specs.Graph.{Graph, GraphLaws, KeyLaws, IsPath}
 use Rattle.graph.specs.Chosen.{Chosen}
-use Rattle.graph.specs.Members.{In}
+use Rattle.lists.specs.Members.{In}
 use Rattle.graph.specs.laws.Enumeration.{chosen-is, is-chosen, no-path-none}
 use Rattle.rule.specs.Records.{HalfLink, Vid}
 use Rattle.rule.specs.Plan.{Plan}

@@ -8,7 +8,7 @@ use mathlib.Core.Option.{Option, none, some}
 use lib.ListN.{length, drop}
 use Rattle.graph.specs.Graph.{IsPath, hops}
 use Rattle.graph.specs.laws.Notions.{Linked}
-use Rattle.graph.specs.laws.ListLaws.{append-same}
+use Rattle.lists.specs.laws.DistinctLaws.{append-same}
 use Rattle.graph.specs.laws.Paths.{linked-path, path-linked}
 use Rattle.graph.specs.laws.ChosenPaths.{chosen-first}
 use Rattle.graph.specs.laws.Enumeration.{path-chosen}

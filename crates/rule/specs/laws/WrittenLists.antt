@@ -9,9 +9,9 @@ use mathlib.Core.Bool.{Bool, true, false, not, _&&_, _||_}
 use lib.Dec.{eqb, leb}
 use lib.ListN.{getElem?}
 use borrow.Author.Tests.{eq-eqb, le-leb}
-use Rattle.graph.specs.Lists.{selected}
-use Rattle.graph.specs.Members.{In}
-use Rattle.graph.specs.laws.ListLaws.{le-or-gt}
+use Rattle.lists.specs.Lists.{selected}
+use Rattle.lists.specs.Members.{In}
+use Rattle.lists.specs.laws.NumberLaws.{le-or-gt}
 use Rattle.rule.specs.Records.{Limits, inLimits, vidLimits, portLimits, groupBit}
 use Rattle.rule.specs.Outcome.{Outcome, answered, refusedIf}
 use Rattle.rule.specs.Plan.{Plan}

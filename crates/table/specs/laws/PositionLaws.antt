@@ -8,10 +8,12 @@ use mathlib.Core.Bool.{Bool, true, false, _||_}
 use mathlib.Core.Logic.{_⊎_, inl, inr}
 use mathlib.Core.Option.{Option, none, some}
 use lib.ListN.{length, drop, getD, getElem?, length-map}
-use Rattle.graph.specs.Lists.{rising, anyPasses, selected}
-use Rattle.graph.specs.Members.{In, EveryTwo}
-use Rattle.graph.specs.laws.ListLaws.{le-or-gt, in-map, map-in, map-at, in-rising, rising-in, rising-at, length-rising}
-use Rattle.graph.specs.laws.Searching.{Searching, search-on, search-finds, search-ends, rising-more}
+use Rattle.lists.specs.Lists.{rising, anyPasses, selected}
+use Rattle.lists.specs.Members.{In, EveryTwo}
+use Rattle.lists.specs.laws.NumberLaws.{le-or-gt}
+use Rattle.lists.specs.laws.MemberLaws.{in-map, map-in, map-at}
+use Rattle.lists.specs.laws.SelectedLaws.{in-rising, rising-in, rising-at, length-rising}
+use Rattle.lists.specs.laws.Searching.{Searching, search-on, search-finds, search-ends, rising-more}
 use Rattle.table.specs.Positions.{recordAt, recordsAt}
 
 module _ {A B : Type 0} (f : A → B) where

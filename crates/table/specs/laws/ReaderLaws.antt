@@ -5,7 +5,7 @@ use mathlib.Core.List.{List, [], _∷_}
 use mathlib.Core.Bool.{Bool, true, false}
 use lib.ListN.{length}
 use borrow.Author.Tests.{lt-ltb, le-ltb, eq-eqb, ne-eqb}
-use Rattle.graph.specs.Lists.{anyPasses}
+use Rattle.lists.specs.Lists.{anyPasses}
 use Rattle.rule.specs.Records.{Bridge, HalfLink, Vid, Member, bridge, vid, Layout, Range, inLimits}
 use Rattle.rule.specs.Check.{outsideRange}
 use Rattle.table.specs.Readers.{cut, zeroBit, outOfRange, whole, readOf}

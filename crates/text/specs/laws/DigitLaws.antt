@@ -8,9 +8,9 @@ use lib.Dec.{ltb}
 use lib.ListN.{length, getD, take, drop, set, length-append, length-set, drop-of-length-le}
 use lib.Seq.{take-suc, take-take, take-at, take-all, drop-cons}
 use borrow.Author.Tests.{lt-ltb, le-ltb}
-use Rattle.graph.specs.Lists.{spliced}
-use Rattle.graph.specs.laws.ListLaws.{same-last}
-use Rattle.graph.specs.laws.Splices.{spliced-nothing, spliced-before}
+use Rattle.lists.specs.Lists.{spliced}
+use Rattle.lists.specs.laws.DistinctLaws.{same-last}
+use Rattle.lists.specs.laws.Splices.{spliced-nothing, spliced-before}
 use Rattle.text.specs.Text.{digit, digitsOf, places, decimal, WrittenAt}
 
 pub low-digit : (d : ℕ) → d < 10 → 48 + d ≡ digit d

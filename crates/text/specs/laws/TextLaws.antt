@@ -5,9 +5,9 @@ use mathlib.Core.Path.{_≡_, refl, sym, ap, _∙_}
 use mathlib.Core.List.{List, [], _∷_, _++_, flatMap, append-nil, append-assoc}
 use lib.ListN.{length, getD, take, set, length-set}
 use lib.Seq.{take-suc, take-all}
-use Rattle.graph.specs.Lists.{spliced}
-use Rattle.graph.specs.laws.Splices.{spliced-nothing}
-use Rattle.graph.specs.laws.AppendingLaws.{appended-length, appended-nothing, appended-both, one-word}
+use Rattle.lists.specs.Lists.{spliced}
+use Rattle.lists.specs.laws.Splices.{spliced-nothing}
+use Rattle.lists.specs.laws.AppendingLaws.{appended-length, appended-nothing, appended-both, one-word}
 use Rattle.text.specs.Text.{fieldText, fields, WrittenAt}
 use Rattle.text.specs.laws.DigitLaws.{length-decimal}
 

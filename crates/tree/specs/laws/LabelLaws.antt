@@ -9,7 +9,7 @@ use mathlib.Core.Bool.{cond, _&&_}
 use lib.Dec.{T, eqb, ltb, leb, ltb→lt, lt→ltb, leb→le, le→leb}
 use lib.ListN.{length, getD, set, length-set}
 use lib.Seq.{getD-set-same, getD-set-other}
-use Rattle.graph.specs.laws.ListLaws.{both, first-of, last-of, same-or-not}
+use Rattle.lists.specs.laws.NumberLaws.{both, first-of, last-of, same-or-not}
 use Rattle.tree.specs.Labels.{noCost, Label, labelAt, taken, settledLabels, stateOf}
 
 -- Labels with the same five numbers are the same.

@@ -6,7 +6,7 @@ use mathlib.Core.Path.{_≡_, refl, sym, ap, _∙_}
 use mathlib.Core.List.{List}
 use mathlib.Core.Logic.{_⊎_, inl, inr}
 use lib.ListN.{getD}
-use Rattle.graph.specs.laws.ListLaws.{le-or-gt, same-or-not}
+use Rattle.lists.specs.laws.NumberLaws.{le-or-gt, same-or-not}
 use Rattle.tree.specs.Labels.{noCost, labelAt, LeastOf, WaitsAt}
 
 -- The first `u` of `n` bridges are compared.

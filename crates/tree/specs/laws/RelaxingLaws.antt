@@ -10,7 +10,7 @@ use lib.Dec.{T, ltb}
 use lib.ListN.{length, getD}
 use Rattle.graph.specs.Order.{Lower, isLower}
 use Rattle.graph.specs.laws.OrderLaws.{test-lower, lower-test, lower-by-first, lower-by-rest}
-use Rattle.graph.specs.laws.ListLaws.{same-or-not}
+use Rattle.lists.specs.laws.NumberLaws.{same-or-not}
 use Rattle.ect.specs.Rows.{rowOf}
 use Rattle.tree.specs.Labels.{Label, labelAt, labelRank, offerRank, taken, relaxed}
 use Rattle.tree.specs.laws.LabelLaws.{length-taken, label-taken, label-passed}

@@ -7,8 +7,9 @@ use mathlib.Core.List.{List}
 use mathlib.Core.Bool.{Bool, true, false, cond}
 use lib.Dec.{T}
 use lib.ListN.{length, getD}
-use Rattle.graph.specs.Lists.{rising}
-use Rattle.graph.specs.laws.ListLaws.{in-rising, sum-falls}
+use Rattle.lists.specs.Lists.{rising}
+use Rattle.lists.specs.laws.SelectedLaws.{in-rising}
+use Rattle.lists.specs.laws.SumLaws.{sum-falls}
 use Rattle.graph.specs.Graph.{Graph}
 use Rattle.tree.specs.Labels.{noCost, labelAt, stateOf, LeastOf, WaitsAt, settledLabels, settledRows}
 use Rattle.tree.specs.laws.LabelLaws.{length-settled}

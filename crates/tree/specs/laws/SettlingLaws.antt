@@ -9,9 +9,9 @@ use mathlib.Core.Bool.{cond}
 use lib.Dec.{eqb}
 use lib.ListN.{length, getD, set, length-set}
 use lib.Seq.{getD-set-same, getD-set-other}
-use Rattle.graph.specs.laws.ListLaws.{same-or-not}
-use Rattle.graph.specs.laws.Splices.{spliced-nothing, spliced-next}
-use Rattle.graph.specs.Lists.{spliced}
+use Rattle.lists.specs.laws.NumberLaws.{same-or-not}
+use Rattle.lists.specs.laws.Splices.{spliced-nothing, spliced-next}
+use Rattle.lists.specs.Lists.{spliced}
 use Rattle.graph.specs.Order.{insertUpward}
 use Rattle.ect.specs.Rows.{rowPlace, rowOf, Insertable}
 use Rattle.ect.specs.laws.RowLaws.{row-written}

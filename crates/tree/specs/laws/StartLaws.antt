@@ -7,7 +7,7 @@ use mathlib.Core.List.{List, [], _∷_}
 use mathlib.Core.Logic.{_⊎_, inl, inr}
 use lib.Dec.{T, ltb→lt, lt→ltb}
 use lib.ListN.{length, getD}
-use Rattle.graph.specs.laws.ListLaws.{same-or-not}
+use Rattle.lists.specs.laws.NumberLaws.{same-or-not}
 use Rattle.graph.specs.Graph.{Graph, Joined}
 use Rattle.graph.specs.Chosen.{Chosen}
 use Rattle.graph.specs.laws.ChosenPaths.{chosen-self}

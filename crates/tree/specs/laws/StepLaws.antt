@@ -11,7 +11,7 @@ use lib.ListN.{length, getD}
 use borrow.Author.Tests.{eq-eqb, ne-eqb}
 use Rattle.graph.specs.Order.{Lower, insertUpward, Upward}
 use Rattle.graph.specs.laws.OrderLaws.{sorted-upward}
-use Rattle.graph.specs.laws.ListLaws.{same-or-not, le-or-gt}
+use Rattle.lists.specs.laws.NumberLaws.{same-or-not, le-or-gt}
 use Rattle.graph.specs.Graph.{Graph, cost, hops, pathId}
 use Rattle.graph.specs.laws.Notions.{Least}
 use Rattle.graph.specs.laws.Ranks.{cost-most}

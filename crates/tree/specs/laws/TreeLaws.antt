@@ -8,7 +8,7 @@ use mathlib.Core.Option.{none, some}
 use mathlib.Core.Logic.{_⊎_, inl, inr}
 use lib.Dec.{T, ltb→lt, lt→ltb}
 use lib.ListN.{getD}
-use Rattle.graph.specs.laws.ListLaws.{le-or-gt}
+use Rattle.lists.specs.laws.NumberLaws.{le-or-gt}
 use Rattle.graph.specs.Graph.{Graph, Joined}
 use Rattle.graph.specs.laws.Notions.{Least}
 use Rattle.graph.specs.laws.Paths.{entered-inside}

@@ -7,7 +7,7 @@ use mathlib.Core.Option.{none, some}
 use lib.ListN.{length, getD, drop}
 use lib.Seq.{drop-cons, drop-length}
 use borrow.Author.Tests.{ne-eqb}
-use Rattle.graph.specs.Lists.{selected}
+use Rattle.lists.specs.Lists.{selected}
 use Rattle.rule.specs.declared.answer.RecordKind.{RecordKind}
 use Rattle.rule.specs.Words.{word, wordsOf}
 use Rattle.rule.specs.Records.{Layout, layoutOf, bridgeLayout, halfLinkLayout, vidLayout, memberLayout, endLayout}

@@ -9,10 +9,10 @@ use lib.Dec.{eqb}
 use lib.ListN.{length, getD, drop}
 use lib.Seq.{drop-length}
 use borrow.Author.Tests.{eq-eqb, ne-eqb}
-use Rattle.graph.specs.Lists.{anyPasses}
-use Rattle.graph.specs.laws.ListLaws.{drop-next}
-use Rattle.graph.specs.Appending.{Appended, Room}
-use Rattle.graph.specs.laws.AppendingLaws.{appended-nothing, Appending, appending-starts, appending-room, appending-goes-on, appending-passes, appending-ends}
+use Rattle.lists.specs.Lists.{anyPasses}
+use Rattle.lists.specs.laws.MemberLaws.{drop-next}
+use Rattle.lists.specs.Appending.{Appended, Room}
+use Rattle.lists.specs.laws.AppendingLaws.{appended-nothing, Appending, appending-starts, appending-room, appending-goes-on, appending-passes, appending-ends}
 use Rattle.rule.specs.Records.{Bridge, address}
 use Rattle.rule.specs.Entries.{entryWords}
 use Rattle.words.specs.Words.{bridgeNumber, entryWith, individualTo, groupAt, groupWords}

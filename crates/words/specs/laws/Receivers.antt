@@ -8,10 +8,11 @@ use mathlib.Core.Bool.{Bool, true, false, cond, not, _&&_, and-false}
 use lib.Dec.{eqb}
 use lib.ListN.{length, getD, set}
 use borrow.Author.Tests.{eq-eqb, ne-eqb}
-use Rattle.graph.specs.Lists.{rising}
-use Rattle.graph.specs.laws.ListLaws.{length-flatMap-most, length-rising}
-use Rattle.graph.specs.Appending.{Appended, Room}
-use Rattle.graph.specs.laws.AppendingLaws.{appended-nothing, one-word}
+use Rattle.lists.specs.Lists.{rising}
+use Rattle.lists.specs.laws.SelectedLaws.{length-rising}
+use Rattle.lists.specs.laws.SumLaws.{length-flatMap-most}
+use Rattle.lists.specs.Appending.{Appended, Room}
+use Rattle.lists.specs.laws.AppendingLaws.{appended-nothing, one-word}
 use Rattle.rule.specs.Words.{wordsOf}
 use Rattle.rule.specs.Records.{Member, bridgeOf, memberOf}
 use Rattle.rule.specs.Entries.{receives}

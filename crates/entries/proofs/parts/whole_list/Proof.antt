@@ -2,7 +2,7 @@
 use native.Mathlib.Omega.{arith}
 use Prim.Native.Nat.{_-_}
 use Rattle.rule.specs.Words.{wordsOf}
-use Rattle.graph.specs.laws.AppendingLaws.{Appending, appending-starts, appending-room, appending-goes-on, appending-length, appending-ends}
+use Rattle.lists.specs.laws.AppendingLaws.{Appending, appending-starts, appending-room, appending-goes-on, appending-length, appending-ends}
 use Rattle.entries.specs.Parts.{vidPart, wholeList}
 use borrow.Author.Needs.{needs}
 use Rattle.entries.proofs.parts.whole_list.Statement.{statement}

@@ -12,7 +12,7 @@ use Rattle.rule.specs.Records.{halfLink, halfLinkOf, halfLinkLayout}
 use Rattle.table.specs.declared.half_link.HalfLinkRead.{HalfLinkRead}
 use Rattle.faults.specs.laws.FaultLaws.{unknown-ends, read-of-16-bits}
 use Prim.Native.Nat.{ℕ}
-use Rattle.graph.specs.Lists.{selected}
+use Rattle.lists.specs.Lists.{selected}
 use Rattle.rule.specs.Check.{hasLink, wrongHalf}
 use Rattle.table.specs.Positions.{recordsAt}
 use Rattle.faults.specs.laws.HalfLinkLaws.{port-repeated}

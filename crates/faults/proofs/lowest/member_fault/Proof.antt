@@ -10,7 +10,7 @@ use Rattle.table.specs.Readers.{cut, zeroBit, outOfRange, whole, memberRead, me
 use Rattle.faults.specs.laws.FaultLaws.{judged-at, own-fault, found-fault, fault-left, left-over}
 use Prim.Native.Nat.{ℕ}
 use borrow.Author.Tests.{lt-ltb, le-ltb, not-true, not-false}
-use Rattle.graph.specs.Lists.{anyPasses}
+use Rattle.lists.specs.Lists.{anyPasses}
 use Rattle.rule.specs.Records.{member, vidOf, memberOf, memberLayout}
 use Rattle.rule.specs.Plan.{hasVid}
 use Rattle.rule.specs.Check.{repeatsMember}

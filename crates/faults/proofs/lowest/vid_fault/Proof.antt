@@ -9,7 +9,7 @@ use Rattle.table.specs.laws.PositionLaws.{how-many}
 use Rattle.table.specs.Readers.{cut, outOfRange, whole, vidRead, vidValues}
 use Rattle.faults.specs.laws.FaultLaws.{judged-at, own-fault, found-fault, fault-left, left-over}
 use Prim.Native.Nat.{ℕ}
-use Rattle.graph.specs.Lists.{anyPasses}
+use Rattle.lists.specs.Lists.{anyPasses}
 use Rattle.rule.specs.Records.{vid, vidOf, vidLayout}
 use Rattle.rule.specs.Plan.{hasVid}
 use Rattle.table.specs.declared.vid.VidRead.{VidRead}

@@ -3,7 +3,7 @@ use Prim.Native.Nat.{_-_, _+_, _*_}
 use native.Mathlib.Omega.{arith}
 use mathlib.Core.Path.{refl}
 use borrow.Author.Tests.{eq-eqb, ne-eqb}
-use Rattle.graph.specs.laws.Searching.{search-starts}
+use Rattle.lists.specs.laws.Searching.{search-starts}
 use Rattle.rule.specs.Words.{wordsOf}
 use Rattle.rule.specs.Records.{bridgeOf}
 use Rattle.rule.specs.Check.{repeatsBridge}

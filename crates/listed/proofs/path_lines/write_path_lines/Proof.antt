@@ -4,7 +4,7 @@ use native.Mathlib.Omega.{arith}
 use mathlib.Core.Path.{_≡_, refl, _∙_}
 use Prim.Native.Nat.{_-_, _≤_}
 use lib.ListN.{length}
-use Rattle.graph.specs.laws.AppendingLaws.{AppendingFew, few-starts, few-room, few-goes-on}
+use Rattle.lists.specs.laws.AppendingLaws.{AppendingFew, few-starts, few-room, few-goes-on}
 use Rattle.rule.specs.Words.{wordsOf}
 use Rattle.table.specs.Positions.{planAt}
 use Rattle.network.specs.KeptTrees.{TreesHeld}

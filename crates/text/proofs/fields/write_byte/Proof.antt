@@ -1,5 +1,5 @@
 -- `text::fields::write_byte` writes one byte. Assumes nothing.
-use Rattle.graph.specs.laws.AppendingLaws.{one-word}
+use Rattle.lists.specs.laws.AppendingLaws.{one-word}
 use borrow.Author.Needs.{needs}
 use native.Mathlib.Omega.{arith}
 use Rattle.text.proofs.fields.write_byte.Statement.{statement}

@@ -1,7 +1,7 @@
 -- `words::entry::write_entry` writes three words one after the other. Assumes nothing.
 use native.Mathlib.Omega.{arith}
 use lib.ListN.{length-set}
-use Rattle.graph.specs.laws.AppendingLaws.{three-words}
+use Rattle.lists.specs.laws.AppendingLaws.{three-words}
 use borrow.Author.Needs.{needs}
 use Rattle.words.proofs.entry.write_entry.Statement.{statement}
 use Rattle.words.proofs.entry.write_entry.Tie as tie

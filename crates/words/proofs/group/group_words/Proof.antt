@@ -4,7 +4,7 @@ use native.Mathlib.Omega.{arith}
 use Prim.Native.Nat.{_-_}
 use mathlib.Core.Path.{refl}
 use lib.ListN.{length}
-use Rattle.graph.specs.laws.AppendingLaws.{appending-length}
+use Rattle.lists.specs.laws.AppendingLaws.{appending-length}
 use Rattle.words.specs.laws.Listing.{Listing, listing-starts, listing-ends, Seeking, seeking-starts, seeking-goes-on, found-room, found-listed, none-listed}
 use borrow.Author.Needs.{needs}
 use Rattle.words.proofs.group.group_words.Statement.{statement}

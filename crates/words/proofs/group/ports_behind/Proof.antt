@@ -4,7 +4,7 @@ use Prim.Native.Nat.{_-_}
 use Rattle.rule.specs.Words.{wordsOf}
 use Rattle.table.specs.Readers.{memberValues}
 use Rattle.words.specs.Words.{behindAt, portsBehind}
-use Rattle.graph.specs.laws.AppendingLaws.{Appending, appending-starts, appending-room, appending-goes-on, appending-length, appending-ends}
+use Rattle.lists.specs.laws.AppendingLaws.{Appending, appending-starts, appending-room, appending-goes-on, appending-length, appending-ends}
 use Rattle.words.specs.laws.Receivers.{behind-room}
 use borrow.Author.Needs.{needs}
 use Rattle.words.proofs.group.ports_behind.Statement.{statement}

@@ -3,7 +3,7 @@ use native.Mathlib.Omega.{arith}
 use Prim.Native.Nat.{_-_}
 use Rattle.rule.specs.Words.{wordsOf}
 use Rattle.words.specs.Words.{individualTo, individualWords}
-use Rattle.graph.specs.laws.AppendingLaws.{Appending, appending-starts, appending-room, appending-goes-on, appending-length, appending-ends}
+use Rattle.lists.specs.laws.AppendingLaws.{Appending, appending-starts, appending-room, appending-goes-on, appending-length, appending-ends}
 use borrow.Author.Needs.{needs}
 use Rattle.words.proofs.individual.individual_words.Statement.{statement}
 use Rattle.words.proofs.individual.individual_words.Tie as tie

@@ -1,5 +1,5 @@
 -- The few functions of lists that the definitions use. None has a name of the toolchain's library: `filter` there takes decisions, `any` the list
--- first, and `insert` makes no list longer that has the element. Their laws stand in laws/ListLaws.
+-- first, and `insert` makes no list longer that has the element. Their laws stand in laws/.
 -- Assumes nothing.
 use Prim.Native.Nat.{ℕ, zero, suc, _+_}
 use mathlib.Core.List.{List, [], _∷_, _++_}

@@ -6,8 +6,8 @@ use mathlib.Core.Path.{_≡_, refl, sym, ap, _∙_, subst}
 use mathlib.Core.List.{List, [], _∷_, _++_, append-assoc}
 use lib.ListN.{length, getD, take, drop, set, length-append, length-take, length-drop, take-append-drop}
 use lib.Seq.{length-take-le, take-suc, take-append-le, drop-append-le, drop-append-add, take-append-seam, drop-drop, drop-at, take-at, set-at, getD-take, getD-drop}
-use Rattle.graph.specs.Lists.{spliced}
-use Rattle.graph.specs.laws.ListLaws.{drop-next}
+use Rattle.lists.specs.Lists.{spliced}
+use Rattle.lists.specs.laws.MemberLaws.{drop-next}
 
 module _ {A : Type 0} (xs : List A) (at : ℕ) where
   -- What stands before the rest.

@@ -5,9 +5,9 @@ use native.Mathlib.Nat.{mul-le-mul-left}
 use mathlib.Core.Path.{_≡_, refl, sym, ap, subst, _∙_}
 use mathlib.Core.List.{List, [], _∷_, _++_, flatMap, append-nil, append-assoc}
 use lib.ListN.{length, set, length-append}
-use Rattle.graph.specs.Lists.{rising, spliced}
-use Rattle.graph.specs.laws.Splices.{length-spliced, spliced-nothing, spliced-next, spliced-twice}
-use Rattle.graph.specs.Appending.{Appended, Room, eachOf}
+use Rattle.lists.specs.Lists.{rising, spliced}
+use Rattle.lists.specs.laws.Splices.{length-spliced, spliced-nothing, spliced-next, spliced-twice}
+use Rattle.lists.specs.Appending.{Appended, Room, eachOf}
 
 pub appended-length : {lent part written : List ℕ} {at end : ℕ} → Appended lent at part written end → Room lent at part → length written ≡ length lent
 appended-length {lent} {part} {written} {at} A r = ap (λ (t : List ℕ). length t) (A .words-are) ∙ length-spliced lent at part r

@@ -2,7 +2,7 @@
 use Prim.Native.Nat.{_+_}
 use mathlib.Core.Path.{_≡_}
 use mathlib.Core.List.{List, [], _∷_, _++_}
-use Rattle.graph.specs.Members.{In}
+use Rattle.lists.specs.Members.{In}
 
 module _ {A : Type 0} where
   -- Nothing is in the list twice.

@@ -3,7 +3,7 @@ use Prim.Native.Nat.{ℕ, _+_, _-_, _≤_}
 use mathlib.Core.Path.{_≡_}
 use mathlib.Core.List.{List, flatMap}
 use lib.ListN.{length}
-use Rattle.graph.specs.Lists.{rising, spliced}
+use Rattle.lists.specs.Lists.{rising, spliced}
 
 -- From the place `at` on the list `lent` got the words of `part`, and nothing else changed; `end` is the place after them.
 pub record Appended (lent : List ℕ) (at : ℕ) (part written : List ℕ) (end : ℕ) : Type 0 where

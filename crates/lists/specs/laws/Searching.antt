@@ -5,7 +5,7 @@ use native.Mathlib.Omega.{arith}
 use mathlib.Core.Path.{_≡_, refl, sym, ap, _∙_}
 use mathlib.Core.List.{List, [], _∷_, _++_}
 use mathlib.Core.Bool.{Bool, true, false, _||_}
-use Rattle.graph.specs.Lists.{rising, anyPasses}
+use Rattle.lists.specs.Lists.{rising, anyPasses}
 
 -- The search has come to `j`: what is left to search has one that passes where the whole has.
 pub record Searching (test : ℕ → Bool) (n j : ℕ) : Type 0 where

@@ -1,4 +1,4 @@
--- Being in a list, relations between its members, sums over it, how often a number is in it. Their laws stand in laws/ListLaws.
+-- Being in a list, relations between its members, sums over it, how often a number is in it. Their laws stand in laws/.
 -- Assumes nothing.
 use Prim.Native.Nat.{ℕ, _+_}
 use mathlib.Core.Path.{_≡_}

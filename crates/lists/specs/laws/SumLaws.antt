@@ -1,0 +1,59 @@
+-- Sums over a list. Assumes nothing.
+use Prim.Native.Nat.{ℕ, _+_, _*_, _≤_, _<_}
+use native.Mathlib.Omega.{arith}
+use mathlib.Core.Path.{_≡_, refl, ap}
+use mathlib.Core.List.{List, [], _∷_, _++_, flatMap}
+use mathlib.Core.Logic.{inl, inr}
+use mathlib.Core.Bool.{Bool, true, false, not}
+use lib.ListN.{length, length-append}
+use Rattle.lists.specs.Lists.{consIf, selected}
+use Rattle.lists.specs.Members.{In, sumOver}
+
+-- Sums
+
+module _ {A : Type 0} where
+  pub sum-add : (f g : A → ℕ) (xs : List A) → sumOver (λ x. f x + g x) xs ≡ sumOver f xs + sumOver g xs
+  sum-add f g [] = refl
+  sum-add f g (x ∷ xs) = omega (arith, sum-add f g xs)
+
+  pub sum-append : (f : A → ℕ) (xs ys : List A) → sumOver f (xs ++ ys) ≡ sumOver f xs + sumOver f ys
+  sum-append f [] ys = omega arith
+  sum-append f (x ∷ xs) ys = omega (arith, sum-append f xs ys)
+
+  pub sum-most : (f g : A → ℕ) (xs : List A) → ((x : A) → In x xs → f x ≤ g x) → sumOver f xs ≤ sumOver g xs
+  sum-most f g [] h = omega arith
+  sum-most f g (x ∷ xs) h = omega (arith, h x (inl refl), sum-most f g xs (λ y k. h y (inr k)))
+
+  -- Where no term of a sum rises and one falls, the sum falls.
+  pub sum-falls : (f g : A → ℕ) (xs : List A) → ((x : A) → f x ≤ g x) → (a : A) → In a xs → f a < g a → sumOver f xs < sumOver g xs
+  sum-falls f g (x ∷ xs) h a (inl e) l = omega (arith, ap f e, ap g e, sum-most f g xs (λ y k. h y))
+  sum-falls f g (x ∷ xs) h a (inr k) l = omega (arith, h x, sum-falls f g xs h a k l)
+
+  pub sum-bounded : (f : A → ℕ) (n : ℕ) (xs : List A) → ((x : A) → In x xs → f x ≤ n) → sumOver f xs ≤ length xs * n
+  sum-bounded f n [] h = omega arith
+  sum-bounded f n (x ∷ xs) h = omega (arith, h x (inl refl), sum-bounded f n xs (λ y k. h y (inr k)))
+
+  -- The sum over a list is the sum over those that pass a test and over those that do not.
+  pub sum-parts : (f : A → ℕ) (test : A → Bool) (xs : List A) → sumOver f xs ≡ sumOver f (selected test xs) + sumOver f (selected (λ x. not (test x)) xs)
+  unfolding selected
+  sum-parts f test [] = refl
+  sum-parts f test (x ∷ xs) = go (test x) (sum-parts f test xs)
+    where
+      go : (b : Bool) → sumOver f xs ≡ sumOver f (selected test xs) + sumOver f (selected (λ x. not (test x)) xs)
+          → f x + sumOver f xs ≡ sumOver f (consIf b x (selected test xs)) + sumOver f (consIf (not b) x (selected (λ x. not (test x)) xs))
+      go true e = omega arith
+      go false e = omega arith
+
+module _ {A B : Type 0} where
+  pub length-flatMap : (f : A → List B) (xs : List A) → length (flatMap f xs) ≡ sumOver (λ x. length (f x)) xs
+  unfolding flatMap
+  length-flatMap f [] = refl
+  length-flatMap f (x ∷ xs) = omega (arith, length-append (f x) (flatMap f xs), length-flatMap f xs)
+
+  pub sum-flatMap : (h : B → ℕ) (f : A → List B) (xs : List A) → sumOver h (flatMap f xs) ≡ sumOver (λ x. sumOver h (f x)) xs
+  unfolding flatMap
+  sum-flatMap h f [] = refl
+  sum-flatMap h f (x ∷ xs) = omega (arith, sum-append h (f x) (flatMap f xs), sum-flatMap h f xs)
+
+  pub length-flatMap-most : (f : A → List B) (n : ℕ) (xs : List A) → ((x : A) → In x xs → length (f x) ≤ n) → length (flatMap f xs) ≤ length xs * n
+  length-flatMap-most f n xs h = omega (arith, length-flatMap f xs, sum-bounded (λ x. length (f x)) n xs h)
