@@ -10,9 +10,9 @@ use Rattle.rule.specs.Plan.{vidRecord}
 use Rattle.table.specs.declared.shape.Shape.{Shape}
 use Rattle.table.specs.Positions.{planAt}
 use Rattle.network.specs.PlanLists.{ListsOf, indexOf}
-use Rattle.ports.specs.Leaving.{PlanHops, LeavingRow}
-use Rattle.ports.specs.Rows.{rowAt, HasRow}
-use Rattle.words.specs.Words.{Readable, vidNumber, memberNumber}
+use Rattle.egress.specs.Leaving.{PlanHops, LeavingRow}
+use Rattle.egress.specs.Rows.{rowAt, HasRow}
+use Rattle.entry_words.specs.Words.{Readable, vidNumber, memberNumber}
 
 -- The lists over which the entries of the bridge `b` are made: those of the table's plan, and the ports of the bridge's hops.
 pub record Lists (t : List ℕ) (s : Shape) (starts neighbours costs identifiers hops : List ℕ) (b : ℕ) : Type 0 where

@@ -9,8 +9,8 @@ use Rattle.lists.specs.Appending.{eachOf}
 use Rattle.rule.specs.Records.{Vid, Member}
 use Rattle.rule.specs.Entries.{groupAddress}
 use Rattle.table.specs.declared.shape.Shape.{Shape}
-use Rattle.ports.specs.Rows.{rowAt}
-use Rattle.words.specs.Words.{bridgeNumber, vidNumber, memberNumber, individualWords, portsBehind, groupWords}
+use Rattle.egress.specs.Rows.{rowAt}
+use Rattle.entry_words.specs.Words.{bridgeNumber, vidNumber, memberNumber, individualWords, portsBehind, groupWords}
 
 -- The words of the group entries for the transmitter `m`, of the group entries for the member `j`, and of all group entries.
 unfoldable pub transmitterPart : List ℕ → Shape → List ℕ → List ℕ → Vid → Member → List ℕ

@@ -8,7 +8,7 @@ use Rattle.table.specs.declared.shape.Shape.{Shape}
 use Rattle.table.specs.Positions.{planAt}
 use Rattle.links.specs.Neighbours.{NeighboursOf}
 use Rattle.network.specs.PlanLists.{ListsOf}
-use Rattle.words.specs.Words.{Readable}
+use Rattle.entry_words.specs.Words.{Readable}
 
 -- The answer with these words.
 abbrev pub listAnswer : List ℕ → Outcome (Written ℕ)

@@ -1,16 +1,16 @@
 // The rows that the entries of a bridge need: one for each different ECT index and bridge among the bridge itself and the
 // transmitting members, of the trees kept in the lent store.
 use network::records::index_of;
-use ports::rows::keep_row;
+use egress::rows::keep_row;
 use table::shape::Shape;
-use words::records::member;
-use words::records::vid;
+use entry_words::records::member;
+use entry_words::records::vid;
 ghost use Prim.Native.Nat.{_+_, _≤_, _<_};
 ghost use lib.ListN.{length};
 ghost use Rattle.rule.specs.Words.{wordsOf};
 ghost use Rattle.network.specs.KeptTrees.{TreesHeld};
-ghost use Rattle.ports.specs.Rows.{HasRow, RowsHeld, Kept};
-ghost use Rattle.words.specs.Words.{vidNumber};
+ghost use Rattle.egress.specs.Rows.{HasRow, RowsHeld, Kept};
+ghost use Rattle.entry_words.specs.Words.{vidNumber};
 ghost use Rattle.entries.specs.Needed.{Lists, TransmitterRow, OwnRows, RowsReady};
 
 // Keeps the row of the bridge's own paths for the VID number `k`.

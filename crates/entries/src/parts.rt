@@ -1,21 +1,21 @@
 // The parts of a bridge's list (01, "Entries"): the group entries for a transmitter, the part of a VID, and all VIDs, by the rows kept.
-use ports::rows::row_at;
+use egress::rows::row_at;
 use table::member::Member;
 use table::shape::Shape;
 use table::vid::Vid;
-use words::group::group_words;
-use words::group::ports_behind;
-use words::individual::individual_words;
-use words::records::bridge;
-use words::records::member;
-use words::records::vid;
+use entry_words::group::group_words;
+use entry_words::group::ports_behind;
+use entry_words::individual::individual_words;
+use entry_words::records::bridge;
+use entry_words::records::member;
+use entry_words::records::vid;
 ghost use mathlib.Core.Path.{_≡_};
 ghost use Prim.Native.Nat.{_≤_, _<_};
 ghost use Rattle.lists.specs.Appending.{Appended, Room};
 ghost use Rattle.rule.specs.Words.{wordsOf};
 ghost use Rattle.rule.specs.Entries.{groupAddress};
 ghost use Rattle.table.specs.Readers.{vidValues, memberValues};
-ghost use Rattle.words.specs.Words.{Readable};
+ghost use Rattle.entry_words.specs.Words.{Readable};
 ghost use Rattle.entries.specs.Needed.{RowsInside};
 ghost use Rattle.entries.specs.Parts.{transmitterPart, memberPart, groupPart, vidPart, wholeList};
 

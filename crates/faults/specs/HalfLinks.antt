@@ -4,7 +4,7 @@ use Prim.Native.Nat.{ℕ, _+_, _*_, _<_}
 use mathlib.Core.Path.{_≡_}
 use mathlib.Core.List.{List}
 use Rattle.rule.specs.Records.{HalfLink, halfLinkOf}
-use Rattle.index.specs.Index.{keyAt, Indexed}
+use Rattle.key_index.specs.Index.{keyAt, Indexed}
 use Rattle.table.specs.Positions.{recordAt}
 
 abbrev pub portKey : HalfLink → ℕ

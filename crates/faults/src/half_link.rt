@@ -1,7 +1,7 @@
 // The faults of a half-link among the half-links before it (01, "Refusals in checking order", 7 to 9). The half-links before it are
 // in two indexes, by near bridge with port and by link number.
-use index::chain::last_place;
-use index::chain::place_before;
+use key_index::chain::last_place;
+use key_index::chain::place_before;
 use table::half_link::HalfLink;
 use table::half_link::half_link_at;
 ghost use mathlib.Core.Path.{_≡_};
@@ -15,8 +15,8 @@ ghost use Rattle.rule.specs.Records.{halfLinkOf};
 ghost use Rattle.rule.specs.Check.{mirrors, hasLink, wrongHalf};
 ghost use Rattle.table.specs.Readers.{halfLinkValues};
 ghost use Rattle.table.specs.Positions.{recordsAt};
-ghost use Rattle.index.specs.Places.{lastPlace};
-ghost use Rattle.index.specs.Index.{Indexed, holds};
+ghost use Rattle.key_index.specs.Places.{lastPlace};
+ghost use Rattle.key_index.specs.Index.{Indexed, holds};
 ghost use Rattle.faults.specs.HalfLinks.{numberKey, Keyed};
 
 // "A bridge .. that a half-link .. names has no record, or near and far bridge are equal."

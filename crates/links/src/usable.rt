@@ -1,5 +1,5 @@
 // What the link of a half-link costs, and how many links are usable (01, "Links").
-use index::chain::other_place;
+use key_index::chain::other_place;
 use rule::metric::Metric;
 use table::half_link::HalfLink;
 use table::half_link::half_link_at;

@@ -4,13 +4,13 @@
 // be. What cannot be written is reported on standard error. The program reads the table, asks the library for the next part of its listing
 // and writes it, until none is left; the parts are proved to be together the listing (crates/listed). Only reading and writing assume
 // anything: that C's read and write keep their contracts.
-use listed::progress::NextPart;
-use listed::progress::Progress;
-use listed::progress::begin_listing;
-use listed::progress::next_part;
+use listing_parts::progress::NextPart;
+use listing_parts::progress::Progress;
+use listing_parts::progress::begin_listing;
+use listing_parts::progress::next_part;
 ghost use Prim.Native.Nat.{_≤_};
 ghost use lib.ListN.{length};
-ghost use Rattle.listed.specs.Remaining.{Underway};
+ghost use Rattle.listing_parts.specs.Remaining.{Underway};
 
 // Whether the text was written.
 fn print(text: &[u8]) -> bool {

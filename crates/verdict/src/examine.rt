@@ -7,7 +7,7 @@ use table::shape::Shape;
 ghost use mathlib.Core.Path.{_≡_};
 ghost use Rattle.rule.specs.Words.{wordsOf};
 ghost use Rattle.rule.specs.Check.{badLength, verdict};
-ghost use Rattle.index.specs.Index.{Indexed};
+ghost use Rattle.key_index.specs.Index.{Indexed};
 ghost use Rattle.verdict.specs.Examination.{examinedValues, Known};
 
 pub enum Examined {

@@ -5,7 +5,7 @@ use faults::lowest::end_fault;
 use faults::lowest::half_link_fault;
 use faults::lowest::member_fault;
 use faults::lowest::vid_fault;
-use index::entry::enter;
+use key_index::entry::enter;
 use rule::answer::RecordKind;
 use table::half_link::half_link_at;
 use table::shape::Shape;

@@ -19,9 +19,9 @@ use Rattle.table.specs.Positions.{vidsFrom, membersFrom, planAt}
 use Rattle.table.specs.laws.PositionLaws.{how-many, record-in}
 use Rattle.network.specs.PlanLists.{Listed, indexOf}
 use Rattle.network.specs.KeptTrees.{slotOf}
-use Rattle.ports.specs.Rows.{rowAt, HasRow, RowsHeld, Kept}
-use Rattle.ports.specs.laws.RowLaws.{kept-all, kept-both, plan-row}
-use Rattle.words.specs.Words.{Readable, vidNumber, memberNumber}
+use Rattle.egress.specs.Rows.{rowAt, HasRow, RowsHeld, Kept}
+use Rattle.egress.specs.laws.RowLaws.{kept-all, kept-both, plan-row}
+use Rattle.entry_words.specs.Words.{Readable, vidNumber, memberNumber}
 use Rattle.entries.specs.laws.PlanWords.{bridges-are}
 use Rattle.entries.specs.Needed.{Lists, TransmitterRow, OwnRows, RowsReady}
 

@@ -23,9 +23,9 @@ use Rattle.rule.specs.laws.OneRecord.{listed-bridge}
 use Rattle.table.specs.declared.shape.Shape.{Shape}
 use Rattle.table.specs.Positions.{recordsAt, planAt}
 use Rattle.table.specs.laws.WordLaws.{part-from}
-use Rattle.ports.specs.laws.PlanPortLaws.{PlanPorts}
-use Rattle.ports.specs.Rows.{rowAt}
-use Rattle.words.specs.Words.{Readable, bridgeNumber, vidNumber, memberNumber, individualWords, portsBehind, groupWords}
+use Rattle.egress.specs.laws.PlanPortLaws.{PlanPorts}
+use Rattle.egress.specs.Rows.{rowAt}
+use Rattle.entry_words.specs.Words.{Readable, bridgeNumber, vidNumber, memberNumber, individualWords, portsBehind, groupWords}
 use Rattle.entries.specs.laws.PlanWords.{vidWords, memberWords, bridges-are, bridge-is, individual-words, group-words}
 use Rattle.entries.specs.Needed.{RowsInside, RowsReady}
 use Rattle.entries.specs.laws.NeededLaws.{vid-fits, member-fits}

@@ -32,9 +32,9 @@ use Rattle.rule.specs.laws.ListedPorts.{leaving-says}
 use Rattle.table.specs.declared.shape.Shape.{Shape}
 use Rattle.table.specs.Positions.{vidsFrom, membersFrom, recordsAt, planAt}
 use Rattle.table.specs.laws.PositionLaws.{how-many, record-at, record-in}
-use Rattle.ports.specs.Leaving.{numberOf, portOn, LeavingRow}
-use Rattle.ports.specs.laws.PlanPortLaws.{PlanPorts}
-use Rattle.words.specs.Words.{Readable, bridgeNumber, vidNumber, memberNumber, entryWith, individualTo, individualWords, behindAt, portsBehind, groupAt, groupWords}
+use Rattle.egress.specs.Leaving.{numberOf, portOn, LeavingRow}
+use Rattle.egress.specs.laws.PlanPortLaws.{PlanPorts}
+use Rattle.entry_words.specs.Words.{Readable, bridgeNumber, vidNumber, memberNumber, entryWith, individualTo, individualWords, behindAt, portsBehind, groupAt, groupWords}
 
 -- The words of a VID's part of a bridge's list, and of the group entries for one transmitter.
 abbrev pub vidWords : Plan → ℕ → Vid → List ℕ

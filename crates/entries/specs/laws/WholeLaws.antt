@@ -23,9 +23,9 @@ use Rattle.links.specs.Neighbours.{NeighboursOf}
 use Rattle.links.specs.Mates.{Checked}
 use Rattle.network.specs.PlanLists.{IdentifiersOf}
 use Rattle.network.specs.laws.PlanListLaws.{lists-of-table}
-use Rattle.ports.specs.Hops.{HopLists, HopPorts, InRange, RisingPorts}
-use Rattle.ports.specs.Leaving.{PlanHops}
-use Rattle.ports.specs.laws.PlanPortLaws.{hop-lists, plan-hops, hops-in-range, plan-ports}
+use Rattle.egress.specs.Hops.{HopLists, HopPorts, InRange, RisingPorts}
+use Rattle.egress.specs.Leaving.{PlanHops}
+use Rattle.egress.specs.laws.PlanPortLaws.{hop-lists, plan-hops, hops-in-range, plan-ports}
 use Rattle.entries.specs.laws.PlanWords.{bridges-are}
 use Rattle.entries.specs.Needed.{Lists, RowsReady}
 use Rattle.entries.specs.laws.NeededLaws.{few-bridges}

@@ -12,10 +12,10 @@ use Rattle.lists.specs.Lists.{rising, anyPasses, selected}
 use Rattle.lists.specs.laws.NumberLaws.{same-or-not, le-or-gt}
 use Rattle.rule.specs.Records.{HalfLink, halfLinkOf}
 use Rattle.rule.specs.Check.{repeatsPort, hasLink, mirrors, wrongHalf}
-use Rattle.index.specs.Places.{lastPlace}
-use Rattle.index.specs.laws.PlaceLaws.{last-within, last-passes, last-same}
-use Rattle.index.specs.laws.Passing.{nothing-passes, last-passing, any-last}
-use Rattle.index.specs.Index.{keyAt, holds, Indexed, Entered, earlierPlace}
+use Rattle.key_index.specs.Places.{lastPlace}
+use Rattle.key_index.specs.laws.PlaceLaws.{last-within, last-passes, last-same}
+use Rattle.key_index.specs.laws.Passing.{nothing-passes, last-passing, any-last}
+use Rattle.key_index.specs.Index.{keyAt, holds, Indexed, Entered, earlierPlace}
 use Rattle.table.specs.Positions.{recordAt, recordsAt}
 use Rattle.table.specs.laws.PositionLaws.{search-records}
 use Rattle.faults.specs.HalfLinks.{portKey, numberKey, Keyed}

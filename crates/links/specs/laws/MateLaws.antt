@@ -20,8 +20,8 @@ use Rattle.rule.specs.Links.{mates, combinedMetric}
 use Rattle.rule.specs.PlanLaws.{Mirrors, PlanLaws}
 use Rattle.rule.specs.laws.OneRecord.{distinct-half-links}
 use Rattle.rule.specs.laws.LinkLaws.{one-half}
-use Rattle.index.specs.laws.PlaceLaws.{last-within, last-passes, none-passes}
-use Rattle.index.specs.Index.{keyAt, holds, otherPlace}
+use Rattle.key_index.specs.laws.PlaceLaws.{last-within, last-passes, none-passes}
+use Rattle.key_index.specs.Index.{keyAt, holds, otherPlace}
 use Rattle.table.specs.declared.shape.Shape.{Shape}
 use Rattle.table.specs.Positions.{halfLinksFrom, planAt}
 use Rattle.table.specs.laws.PositionLaws.{record-in, in-records, every-two-records}

@@ -3,8 +3,8 @@ use borrow.Author.Needs.{needs}
 use native.Mathlib.Omega.{arith}
 use mathlib.Core.Path.{_≡_, refl}
 use lib.ListN.{length, length-take}
-use Rattle.listed.specs.Remaining.{partsLeft, Underway}
-use Rattle.listed.specs.laws.RemainingLaws.{part-fits, part-goes-on}
+use Rattle.listing_parts.specs.Remaining.{partsLeft, Underway}
+use Rattle.listing_parts.specs.laws.RemainingLaws.{part-fits, part-goes-on}
 use Rattle.listing.proofs.print_parts.Statement.{statement}
 use Rattle.listing.proofs.print_parts.Tie as tie
 

@@ -15,7 +15,7 @@ use Rattle.rule.specs.Outcome.{Outcome, answered, refused, refusedIf}
 use Rattle.rule.specs.Answers.{kindNumber}
 use Rattle.rule.specs.Plan.{Plan}
 use Rattle.rule.specs.Check.{badLength, Reading, start, stepOf, after, readOn, verdict}
-use Rattle.index.specs.Index.{Indexed}
+use Rattle.key_index.specs.Index.{Indexed}
 use Rattle.table.specs.declared.shape.Shape.{Shape}
 use Rattle.table.specs.Positions.{halfLinksFrom, vidsFrom, membersFrom, wordsRead, planAt, readingAt}
 use Rattle.table.specs.laws.PositionLaws.{no-records}

@@ -19,7 +19,7 @@ use Rattle.rule.specs.Answers.{kindNumber}
 use Rattle.rule.specs.Plan.{Plan, alike}
 use Rattle.rule.specs.laws.Accepted.{NoFault, no-fault}
 use Rattle.rule.specs.Check.{faults, kindConcerned, goesOn, stops, judged}
-use Rattle.index.specs.Index.{Entered}
+use Rattle.key_index.specs.Index.{Entered}
 use Rattle.table.specs.declared.shape.Shape.{Shape}
 use Rattle.table.specs.Positions.{recordAt, recordsAt, halfLinksFrom, vidsFrom, membersFrom, wordsRead, lastKind, planAt, readingAt}
 use Rattle.table.specs.laws.WordLaws.{count-of-words}

@@ -3,7 +3,7 @@ use borrow.Author.Needs.{needs}
 use native.Mathlib.Omega.{arith}
 use lib.ListN.{length-take, getD-replicate}
 use Prim.Native.Nat.{ℕ}
-use Rattle.ports.specs.laws.RowLaws.{no-rows}
+use Rattle.egress.specs.laws.RowLaws.{no-rows}
 use Rattle.entries.specs.laws.NeededLaws.{few-bridges}
 use Rattle.entries.specs.laws.WholeLaws.{hop-lists-of, in-range, lists-of, whole-room, whole-written}
 use Rattle.entries.proofs.list.list_over_lists.Statement.{statement}

@@ -8,7 +8,7 @@ use Rattle.rule.specs.Records.{Member}
 use Rattle.rule.specs.Plan.{vidRecord}
 use Rattle.table.specs.Positions.{planAt}
 use Rattle.network.specs.PlanLists.{indexOf}
-use Rattle.ports.specs.laws.RowLaws.{kept-all}
+use Rattle.egress.specs.laws.RowLaws.{kept-all}
 use Rattle.entries.specs.laws.PlanWords.{bridges-are}
 use Rattle.entries.specs.laws.NeededLaws.{listed, row-of, transmitter-has, silent, index-fits, member-fits}
 use Rattle.entries.proofs.needed.keep_member_row.Statement.{statement}

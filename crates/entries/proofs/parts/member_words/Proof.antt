@@ -12,7 +12,7 @@ use borrow.Author.Needs.{needs}
 use Rattle.entries.proofs.parts.member_words.Statement.{statement}
 use Rattle.entries.proofs.parts.member_words.Tie as tie
 use Rattle.entries.proofs.parts.transmitter_words.Reads as transmitter-words-reads
-use Rattle.words.proofs.records.member.Reads as member-reads
+use Rattle.entry_words.proofs.records.member.Reads as member-reads
 
 member-requires : tie.Need-member-requires
 member-requires c κs = search needs

@@ -6,16 +6,16 @@ use Rattle.rule.specs.Words.{wordsOf}
 use Rattle.rule.specs.Records.{Bridge}
 use Rattle.table.specs.Readers.{vidValues, memberValues, bridgeValues}
 use Rattle.entries.specs.laws.NeededLaws.{few-bridges}
-use Rattle.words.specs.laws.Receivers.{behind-few}
+use Rattle.entry_words.specs.laws.Receivers.{behind-few}
 use Rattle.entries.specs.laws.PartLaws.{source-fits, row-lent, transmitter-room, transmitter-written}
 use borrow.Author.Needs.{needs}
 use Rattle.entries.proofs.parts.transmitter_words.Statement.{statement}
 use Rattle.entries.proofs.parts.transmitter_words.Tie as tie
-use Rattle.words.proofs.group.group_words.Reads as group-words-reads
-use Rattle.words.proofs.group.ports_behind.Reads as ports-behind-reads
+use Rattle.entry_words.proofs.group.group_words.Reads as group-words-reads
+use Rattle.entry_words.proofs.group.ports_behind.Reads as ports-behind-reads
 use Rattle.entries.proofs.parts.group_address.Reads as group-address-reads
-use Rattle.words.proofs.records.bridge.Reads as bridge-reads
-use Rattle.ports.proofs.rows.row_at.Reads as row-at-reads
+use Rattle.entry_words.proofs.records.bridge.Reads as bridge-reads
+use Rattle.egress.proofs.rows.row_at.Reads as row-at-reads
 
 cast-bridge : tie.Need-cast-bridge
 cast-bridge c = search needs

@@ -2,8 +2,8 @@
 use Prim.Native.Nat.{_+_, _*_, _-_}
 use native.Mathlib.Omega.{arith}
 use mathlib.Core.Path.{refl}
-use Rattle.index.specs.Index.{holds}
-use Rattle.index.specs.laws.PlaceLaws.{last-within}
+use Rattle.key_index.specs.Index.{holds}
+use Rattle.key_index.specs.laws.PlaceLaws.{last-within}
 use Rattle.table.specs.Readers.{halfLinkValues}
 use Rattle.faults.specs.laws.HalfLinkLaws.{first-of-number, third-of-number, second-of-number}
 use borrow.Author.Needs.{needs}

@@ -1,5 +1,5 @@
 -- `spb::check::check` gives the counts of an accepted table, or the refusal of the verdict. Assumes nothing.
-use Rattle.index.specs.laws.IndexLaws.{no-keys-yet}
+use Rattle.key_index.specs.laws.IndexLaws.{no-keys-yet}
 use Rattle.spb.specs.laws.Examined.{accepted-checked}
 use Rattle.spb.specs.laws.CallLaws.{check-accepted, check-refused}
 use borrow.Author.Needs.{needs}

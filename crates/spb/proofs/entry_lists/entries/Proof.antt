@@ -1,6 +1,6 @@
 -- `spb::entry_lists::entries` asks the entries of an accepted table, or passes the refusal of the verdict on. Assumes nothing.
 use borrow.Author.Needs.{needs}
-use Rattle.index.specs.laws.IndexLaws.{no-keys-yet}
+use Rattle.key_index.specs.laws.IndexLaws.{no-keys-yet}
 use Rattle.spb.specs.laws.Examined.{accepted-checked}
 use Rattle.spb.specs.laws.CallLaws.{entries-accepted, entries-refused}
 use Rattle.spb.proofs.entry_lists.entries.Statement.{statement}

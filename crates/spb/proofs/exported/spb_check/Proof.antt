@@ -1,5 +1,5 @@
 -- `spb::exported::spb_check` gives the number of the verdict. Assumes nothing.
-use Rattle.index.specs.laws.IndexLaws.{no-keys-yet}
+use Rattle.key_index.specs.laws.IndexLaws.{no-keys-yet}
 use Rattle.spb.specs.laws.CallLaws.{accepted-number, refused-number}
 use borrow.Author.Needs.{needs}
 use Rattle.spb.proofs.exported.spb_check.Statement.{statement}

@@ -1,6 +1,6 @@
 -- `spb::exported::spb_path_cost` gives the number of an accepted table's path, or of the verdict. Assumes nothing.
 use borrow.Author.Needs.{needs}
-use Rattle.index.specs.laws.IndexLaws.{no-keys-yet}
+use Rattle.key_index.specs.laws.IndexLaws.{no-keys-yet}
 use Rattle.spb.specs.laws.Examined.{accepted-checked}
 use Rattle.spb.specs.laws.CallLaws.{cost-accepted, cost-refused}
 use Rattle.spb.proofs.exported.spb_path_cost.Statement.{statement}

@@ -1,6 +1,6 @@
 -- `spb::paths::path` asks the path of an accepted table, or passes the refusal of the verdict on. Assumes nothing.
 use borrow.Author.Needs.{needs}
-use Rattle.index.specs.laws.IndexLaws.{no-keys-yet}
+use Rattle.key_index.specs.laws.IndexLaws.{no-keys-yet}
 use Rattle.spb.specs.laws.Examined.{accepted-checked}
 use Rattle.spb.specs.laws.CallLaws.{path-accepted, path-refused}
 use Rattle.spb.proofs.paths.path.Statement.{statement}

@@ -1,6 +1,6 @@
 -- `spb::trees::tree` asks the places of an accepted table, or passes the refusal of the verdict on. Assumes nothing.
 use borrow.Author.Needs.{needs}
-use Rattle.index.specs.laws.IndexLaws.{no-keys-yet}
+use Rattle.key_index.specs.laws.IndexLaws.{no-keys-yet}
 use Rattle.spb.specs.laws.Examined.{accepted-checked}
 use Rattle.spb.specs.laws.CallLaws.{tree-accepted, tree-refused}
 use Rattle.spb.proofs.trees.tree.Statement.{statement}

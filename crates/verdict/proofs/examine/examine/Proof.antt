@@ -3,7 +3,7 @@ use native.Mathlib.Omega.{arith}
 use mathlib.Core.Path.{refl, sym, ap, _∙_}
 use lib.ListN.{length}
 use Rattle.rule.specs.Words.{wordsOf}
-use Rattle.index.specs.laws.IndexLaws.{no-keys-yet}
+use Rattle.key_index.specs.laws.IndexLaws.{no-keys-yet}
 use Rattle.table.specs.laws.WordLaws.{count-of-words}
 use Rattle.verdict.specs.laws.ExaminationLaws.{Examining, examining-starts, examining-next, examining-accepts, examining-knows, examining-refuses, examining-ends, refused-knows, bad-length, good-length, length-fits}
 use borrow.Author.Needs.{needs}

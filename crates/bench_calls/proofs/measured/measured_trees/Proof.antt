@@ -1,0 +1,76 @@
+-- `bench_calls::measured::measured_trees` examines a table and makes trees of it. Assumes nothing.
+use borrow.Author.Needs.{needs}
+use native.Mathlib.Omega.{arith}
+use Rattle.key_index.specs.laws.IndexLaws.{no-keys-yet}
+use Rattle.rule.specs.Words.{wordsOf}
+use Rattle.rule.specs.Records.{bridgeOf}
+use Rattle.table.specs.laws.PositionLaws.{how-many}
+use Rattle.spb.specs.laws.Examined.{accepted-checked}
+use Rattle.bench_calls.specs.laws.MeasuredLaws.{too-many, trees-made, trees-refused}
+use Rattle.bench_calls.proofs.measured.measured_trees.Statement.{statement}
+use Rattle.bench_calls.proofs.measured.measured_trees.Tie as tie
+
+slice-aggregate-examine : tie.Need-slice-aggregate-examine
+slice-aggregate-examine c = search needs
+
+examine-requires : tie.Need-examine-requires
+examine-requires c κs = no-keys-yet
+
+enum-known-examined : tie.Need-enum-known-examined
+enum-known-examined c = search needs
+
+returns : tie.Need-returns
+returns c =
+    let at-accepted = c .before .before .before in
+    let at-examine = at-accepted .before .before .before in
+    let at-start = at-examine .before .before .before in
+    let t = at-start .args .table .now in
+    let examined = at-examine .examine in
+    let many = how-many bridgeOf 3 0 (wordsOf t) (at-accepted .examined .given .0 .0 .bridges) in
+    too-many t (examined .result) (examined .ensures .0) (at-start .args .count) _ (at-accepted .examined .given .1) (omega (arith, c .if1 .taken, many))
+
+slice-aggregate-trees-of-table : tie.Need-slice-aggregate-trees-of-table
+slice-aggregate-trees-of-table c = search needs
+
+trees-of-table-requires : tie.Need-trees-of-table-requires
+trees-of-table-requires c κs =
+    let at-if1 = c .before in
+    let at-examined = at-if1 .before .before .before in
+    let at-examine = at-examined .before .before .before in
+    let at-start = at-examine .before .before .before in
+    (accepted-checked (at-start .args .table .now) (at-examine .examine .result) (at-examine .examine .ensures .0) _ _ (at-examined .examined .given .1) (at-examine .examine .ensures .1), omega (arith, (at-if1 .if1 .left)))
+
+enum-known-examined-2 : tie.Need-enum-known-examined-2
+enum-known-examined-2 c = search needs
+
+returns-2 : tie.Need-returns-2
+returns-2 c =
+    let at-accepted = c .before .before .before .before .before in
+    let at-examine = at-accepted .before .before .before in
+    let at-start = at-examine .before .before .before in
+    let t = at-start .args .table .now in
+    let examined = at-examine .examine in
+    let many = how-many bridgeOf 3 0 (wordsOf t) (at-accepted .examined .given .0 .0 .bridges) in
+    trees-made t (examined .result) (examined .ensures .0) (at-start .args .count) _ (at-accepted .examined .given .1)
+    (omega (arith, c .before .before .if1 .left, many)) (c .trees-of-table .ensures)
+
+returns-3 : tie.Need-returns-3
+returns-3 c =
+    let at-examine = c .before .before .before .before in
+    let at-start = at-examine .before .before .before in
+    let examined = at-examine .examine in
+    trees-refused (at-start .args .table .now) (examined .result) (examined .ensures .0) (at-start .args .count) _ _ _ (c .before .examined2 .given .1)
+
+pub measured-trees-spec : {M : Type 1} → statement M
+measured-trees-spec =
+    tie.close
+    (tie.spec
+    slice-aggregate-examine
+    examine-requires
+    enum-known-examined
+    returns
+    slice-aggregate-trees-of-table
+    trees-of-table-requires
+    enum-known-examined-2
+    returns-2
+    returns-3)

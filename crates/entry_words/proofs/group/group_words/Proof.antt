@@ -1,0 +1,106 @@
+-- `entry_words::group::group_words` lists a port as soon as one receiver behind it is found: the loop over receivers is left for the next
+-- port. Assumes nothing.
+use native.Mathlib.Omega.{arith}
+use Prim.Native.Nat.{_-_}
+use mathlib.Core.Path.{refl}
+use lib.ListN.{length}
+use Rattle.lists.specs.laws.AppendingLaws.{appending-length}
+use Rattle.entry_words.specs.laws.Listing.{Listing, listing-starts, listing-ends, Seeking, seeking-starts, seeking-goes-on, found-room, found-listed, none-listed}
+use borrow.Author.Needs.{needs}
+use Rattle.entry_words.proofs.group.group_words.Statement.{statement}
+use Rattle.entry_words.proofs.group.group_words.Tie as tie
+use Rattle.entry_words.proofs.entry.wide.Reads as wide-reads
+use Rattle.entry_words.proofs.entry.write_entry.Reads as write-entry-reads
+
+abbrev Inv-loop : tie.InvT-loop
+Inv-loop ports behind vid address words₀ at end₀ i port j₀ words end j = Seeking behind port words₀ end₀ j words end
+
+abbrev μ-loop : tie.MeasureT-loop
+μ-loop ports behind vid address words₀ at end₀ i port j₀ words end j = length behind - j
+
+abbrev Inv-ports : tie.InvT-ports
+Inv-ports ports behind vid address words₀ at end₀ i₀ words end i = Listing ports behind vid address words₀ at i words end
+
+abbrev μ-ports : tie.MeasureT-ports
+μ-ports ports behind vid address words₀ at end₀ i₀ words end i = length ports - i
+
+ports-holds : tie.Need-ports-holds Inv-loop μ-loop Inv-ports μ-ports
+ports-holds c = listing-starts _ _ _ _ _ _ ((c .before .before .before .pre .0))
+
+mul-port : tie.Need-mul-port Inv-loop μ-loop Inv-ports μ-ports
+mul-port c = search needs
+
+shared-slice-read-port : tie.Need-shared-slice-read-port Inv-loop μ-loop Inv-ports μ-ports
+shared-slice-read-port c = search needs
+
+add-i : tie.Need-add-i Inv-loop μ-loop Inv-ports μ-ports
+add-i c = search needs
+
+loop-holds : tie.Need-loop-holds Inv-loop μ-loop Inv-ports μ-ports
+loop-holds c = seeking-starts _ _ _ _
+
+ports-less : tie.Need-ports-less Inv-loop μ-loop Inv-ports μ-ports
+ports-less c = search needs
+
+ports-again : tie.Need-ports-again Inv-loop μ-loop Inv-ports μ-ports
+ports-again c = none-listed ((c .before .loop .inv)) ((c .before .before .before .before .ports .inv)) ((c .before .before .before .ports-test .taken)) refl ((c .loop-test .left))
+
+mul-if1 : tie.Need-mul-if1 Inv-loop μ-loop Inv-ports μ-ports
+mul-if1 c = search needs
+
+shared-slice-read-if1 : tie.Need-shared-slice-read-if1 Inv-loop μ-loop Inv-ports μ-ports
+shared-slice-read-if1 c = search needs
+
+wide-requires : tie.Need-wide-requires Inv-loop μ-loop Inv-ports μ-ports
+wide-requires c κs = search needs
+
+write-entry-requires : tie.Need-write-entry-requires Inv-loop μ-loop Inv-ports μ-ports
+write-entry-requires c κs = (found-room ((c .before .before .before .before .before .loop .inv)) ((c .before .before .before .before .before .before .before .before .ports .inv)) ((c .before .before .before .before .before .before .before .ports-test .taken)) refl ((c .before .before .before .before .loop-test .taken)) ((c .before .before .if1 .taken)), omega arith, (c .before .before .before .before .before .before .before .before .before .before .before .before .pre .1), omega (arith, (c .wide .ensures)))
+
+ports-less-2 : tie.Need-ports-less-2 Inv-loop μ-loop Inv-ports μ-ports
+ports-less-2 c = search needs
+
+ports-again-2 : tie.Need-ports-again-2 Inv-loop μ-loop Inv-ports μ-ports
+ports-again-2 c = found-listed ((c .before .before .before .before .before .before .before .before .loop .inv)) ((c .before .before .before .before .before .before .before .before .before .before .before .ports .inv)) ((c .before .before .before .before .before .before .before .before .before .before .ports-test .taken)) refl ((c .before .before .before .before .before .before .before .loop-test .taken)) ((c .before .before .before .before .before .if1 .taken)) ((c .before .before .before .wide .ensures .0)) ((c .before .before .write-entry .ensures))
+
+add-j : tie.Need-add-j Inv-loop μ-loop Inv-ports μ-ports
+add-j c = search needs
+
+loop-less : tie.Need-loop-less Inv-loop μ-loop Inv-ports μ-ports
+loop-less c = search needs
+
+loop-again : tie.Need-loop-again Inv-loop μ-loop Inv-ports μ-ports
+loop-again c = seeking-goes-on ((c .before .before .before .loop .inv)) ((c .before .before .loop-test .taken)) ((c .if1 .left))
+
+same-length : tie.Need-same-length Inv-loop μ-loop Inv-ports μ-ports
+same-length c = appending-length ((c .before .ports .inv .so-far))
+
+returns : tie.Need-returns Inv-loop μ-loop Inv-ports μ-ports
+returns c = listing-ends ((c .before .ports .inv)) ((c .ports-test .left))
+
+pub group-words-spec : {M : Type 1} → statement M
+group-words-spec =
+    tie.close
+    (tie.spec
+    Inv-loop
+    μ-loop
+    Inv-ports
+    μ-ports
+    ports-holds
+    mul-port
+    shared-slice-read-port
+    add-i
+    loop-holds
+    ports-less
+    ports-again
+    mul-if1
+    shared-slice-read-if1
+    wide-requires
+    write-entry-requires
+    ports-less-2
+    ports-again-2
+    add-j
+    loop-less
+    loop-again
+    same-length
+    returns)

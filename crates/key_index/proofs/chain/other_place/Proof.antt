@@ -1,0 +1,39 @@
+-- `key_index::chain::other_place` gives the last place of the key, or where that is the place itself the one before. Assumes nothing.
+use mathlib.Core.Path.{_∙_}
+use Rattle.key_index.specs.laws.IndexLaws.{other-is-last, other-is-before}
+use borrow.Author.Needs.{needs}
+use Rattle.key_index.proofs.chain.other_place.Statement.{statement}
+use Rattle.key_index.proofs.chain.other_place.Tie as tie
+
+add-last-place : tie.Need-add-last-place
+add-last-place c = search needs
+
+mul-last-place : tie.Need-mul-last-place
+mul-last-place c = search needs
+
+shared-slice-read-last-place : tie.Need-shared-slice-read-last-place
+shared-slice-read-last-place c = search needs
+
+last-place-requires : tie.Need-last-place-requires
+last-place-requires c κs = search needs
+
+returns : tie.Need-returns
+returns c = other-is-last (c .before .before .before .before .args .index .now) (c .before .before .before .before .args .count) (c .before .before .before .before .args .place) (c .before .last-place .result) (c .before .before .before .before .pre .1) (c .before .before .before .before .pre .2) (c .before .last-place .ensures) (c .if1 .taken)
+
+place-before-requires : tie.Need-place-before-requires
+place-before-requires c κs = search needs
+
+returns-2 : tie.Need-returns-2
+returns-2 c = c .place-before .ensures ∙ other-is-before (c .before .before .before .before .before .args .index .now) (c .before .before .before .before .before .args .count) (c .before .before .before .before .before .args .place) (c .before .before .last-place .result) (c .before .before .before .before .before .pre .1) (c .before .before .before .before .before .pre .2) (c .before .before .last-place .ensures) (c .before .if1 .left)
+
+pub other-place-spec : {M : Type 1} → statement M
+other-place-spec =
+    tie.close
+    (tie.spec
+    add-last-place
+    mul-last-place
+    shared-slice-read-last-place
+    last-place-requires
+    returns
+    place-before-requires
+    returns-2)

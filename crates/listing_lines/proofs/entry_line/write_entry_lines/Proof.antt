@@ -1,0 +1,86 @@
+-- `listing_lines::entry_line::write_entry_lines` writes a line for each entry: those of the words passed are written. Assumes nothing.
+use borrow.Author.Needs.{needs}
+use Prim.Native.Nat.{_-_}
+use lib.ListN.{length}
+use Rattle.listing_lines.specs.laws.EntryLineLaws.{EntryListing, entry-listing-starts, entry-listing-room, entry-listing-goes-on, entry-listing-ends}
+use Rattle.listing_lines.proofs.entry_line.write_entry_lines.Statement.{statement}
+use Rattle.listing_lines.proofs.entry_line.write_entry_lines.Tie as tie
+
+abbrev Inv-loop : tie.InvT-loop
+Inv-loop words bridge out₀ at next₀ i₀ out next i = EntryListing bridge words out₀ at out next i
+
+abbrev μ-loop : tie.MeasureT-loop
+μ-loop words bridge out₀ at next₀ i₀ out next i = length words - i
+
+loop-holds : tie.Need-loop-holds Inv-loop μ-loop
+loop-holds c = entry-listing-starts _ _ _ _
+
+sub-loop : tie.Need-sub-loop Inv-loop μ-loop
+sub-loop c = search needs
+
+mul-write-entry-line : tie.Need-mul-write-entry-line Inv-loop μ-loop
+mul-write-entry-line c = search needs
+
+shared-slice-read-write-entry-line : tie.Need-shared-slice-read-write-entry-line Inv-loop μ-loop
+shared-slice-read-write-entry-line c = search needs
+
+add-write-entry-line : tie.Need-add-write-entry-line Inv-loop μ-loop
+add-write-entry-line c = search needs
+
+mul-write-entry-line-2 : tie.Need-mul-write-entry-line-2 Inv-loop μ-loop
+mul-write-entry-line-2 c = search needs
+
+shared-slice-read-write-entry-line-2 :
+    tie.Need-shared-slice-read-write-entry-line-2 Inv-loop μ-loop
+shared-slice-read-write-entry-line-2 c = search needs
+
+add-write-entry-line-2 : tie.Need-add-write-entry-line-2 Inv-loop μ-loop
+add-write-entry-line-2 c = search needs
+
+mul-write-entry-line-3 : tie.Need-mul-write-entry-line-3 Inv-loop μ-loop
+mul-write-entry-line-3 c = search needs
+
+shared-slice-read-write-entry-line-3 :
+    tie.Need-shared-slice-read-write-entry-line-3 Inv-loop μ-loop
+shared-slice-read-write-entry-line-3 c = search needs
+
+write-entry-line-requires : tie.Need-write-entry-line-requires Inv-loop μ-loop
+write-entry-line-requires c κs = entry-listing-room (c .before .before .before .before .before .loop .inv) (c .before .before .before .before .before .before .before .before .pre) (c .before .before .before .before .loop-test .taken)
+
+add-i : tie.Need-add-i Inv-loop μ-loop
+add-i c = search needs
+
+loop-less : tie.Need-loop-less Inv-loop μ-loop
+loop-less c = search needs
+
+loop-again : tie.Need-loop-again Inv-loop μ-loop
+loop-again c = entry-listing-goes-on (c .before .before .before .before .before .before .before .before .loop .inv) (c .before .before .before .before .before .before .before .before .before .before .before .pre) (c .before .before .before .before .before .before .before .loop-test .taken) _ _ (c .before .before .write-entry-line .ensures .0) (c .before .before .write-entry-line .ensures .1)
+
+same-length : tie.Need-same-length Inv-loop μ-loop
+same-length c = search needs
+
+returns : tie.Need-returns Inv-loop μ-loop
+returns c = entry-listing-ends (c .before .loop .inv) (c .loop-test .left)
+
+pub write-entry-lines-spec : {M : Type 1} → statement M
+write-entry-lines-spec =
+    tie.close
+    (tie.spec
+    Inv-loop
+    μ-loop
+    loop-holds
+    sub-loop
+    mul-write-entry-line
+    shared-slice-read-write-entry-line
+    add-write-entry-line
+    mul-write-entry-line-2
+    shared-slice-read-write-entry-line-2
+    add-write-entry-line-2
+    mul-write-entry-line-3
+    shared-slice-read-write-entry-line-3
+    write-entry-line-requires
+    add-i
+    loop-less
+    loop-again
+    same-length
+    returns)

@@ -1,0 +1,27 @@
+-- The parts of a listing in order (01, "Listing program"): the counts line, the path lines of each VID record and from, the entry lines
+-- of each bridge. Assumes nothing.
+use Prim.Native.Nat.{ℕ, zero, suc, _+_, _*_, _-_, _/_, _%_}
+use mathlib.Core.List.{List}
+use mathlib.Core.Bool.{cond}
+use lib.Dec.{ltb}
+use lib.ListN.{length}
+use Rattle.rule.specs.Plan.{Plan, vidAt}
+use Rattle.rule.specs.Calls.{countsOf, planEntries}
+use Rattle.text.specs.Text.{line}
+use Rattle.text.specs.CheckText.{countsWord, countsFields}
+use Rattle.listing_lines.specs.Listing.{pathLines, entryLines}
+
+-- How many pairs of a VID record and a from there are.
+abbrev pub pairCount : Plan → ℕ
+pairCount p = length (p .vids) * length (p .bridges)
+
+abbrev pub partCount : Plan → ℕ
+partCount p = 1 + pairCount p + length (p .bridges)
+
+-- The part number `i`, counted from 0: "the five counts"; path lines "in VID record order, then by from"; "entry lines by bridge".
+unfoldable pub listingPart : Plan → ℕ → List ℕ
+listingPart p zero = line countsWord (countsFields (countsOf p))
+listingPart p (suc i) =
+    cond (ltb i (pairCount p))
+    (pathLines p (vidAt p (i / length (p .bridges)) .vid) (i % length (p .bridges)))
+    (entryLines (i - pairCount p) (planEntries p (i - pairCount p)))

@@ -1,0 +1,44 @@
+-- `probe_calls::line::write_entries` writes the answer, the list's later contents and the newline. Assumes nothing.
+use borrow.Author.Needs.{needs}
+use mathlib.Core.Path.{ap}
+use mathlib.Core.List.{List}
+use Prim.Native.Nat.{ℕ}
+use Rattle.rule.specs.Outcome.{Outcome}
+use Rattle.text.specs.laws.TextLaws.{written-on, written-as}
+use Rattle.probe_calls.specs.AnswerText.{entriesText}
+use native.Mathlib.Omega.{arith}
+use Rattle.probe_calls.proofs.line.write_entries.Statement.{statement}
+use Rattle.probe_calls.proofs.line.write_entries.Tie as tie
+
+entries-requires : tie.Need-entries-requires
+entries-requires c κs = search needs
+
+write-entries-answer-requires : tie.Need-write-entries-answer-requires
+write-entries-answer-requires c κs = search needs
+
+write-fields-requires : tie.Need-write-fields-requires
+write-fields-requires c κs = search needs
+
+write-byte-requires : tie.Need-write-byte-requires
+write-byte-requires c κs = search needs
+
+same-length : tie.Need-same-length
+same-length c = search needs
+
+same-length-2 : tie.Need-same-length-2
+same-length-2 c = search needs
+
+returns : tie.Need-returns
+returns c = (written-as (written-on ((c .before .before .before .before .before .before .before .before .before .before .before .write-entries-answer .ensures .0)) (written-on ((c .before .before .before .before .before .before .write-fields .ensures .0)) ((c .before .before .write-byte .ensures)) (omega (arith, (c .before .before .before .before .before .before .before .before .before .before .before .write-entries-answer .ensures .1), (c .before .before .before .before .before .before .write-fields .ensures .1), (c .before .before .before .before .before .before .before .before .before .before .before .before .before .before .before .before .before .before .before .before .pre)))) (omega (arith, (c .before .before .before .before .before .before .before .before .before .before .before .write-entries-answer .ensures .1), (c .before .before .before .before .before .before .before .before .before .before .before .before .before .before .before .before .before .before .before .before .pre)))) _ (ap (λ (o : Outcome ℕ × List ℕ). entriesText o) ((c .before .before .before .before .before .before .before .before .before .before .before .before .before .before .before .entries .ensures))), omega (arith, (c .before .before .before .before .before .before .before .before .before .before .before .write-entries-answer .ensures .1), (c .before .before .before .before .before .before .write-fields .ensures .1), (c .before .before .write-byte .ensures .end-is), (c .before .before .before .before .before .before .before .before .before .before .before .before .before .before .before .before .before .before .before .before .pre)))
+
+pub write-entries-spec : {M : Type 1} → statement M
+write-entries-spec =
+    tie.close
+    (tie.spec
+    entries-requires
+    write-entries-answer-requires
+    write-fields-requires
+    write-byte-requires
+    same-length
+    same-length-2
+    returns)

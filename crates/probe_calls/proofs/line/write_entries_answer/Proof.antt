@@ -1,0 +1,46 @@
+-- `probe_calls::line::write_entries_answer` writes the number of words, or the refusal. Assumes nothing.
+use borrow.Author.Needs.{needs}
+use mathlib.Core.Path.{sym, ap}
+use Rattle.rule.specs.declared.answer.EntriesAnswer.{EntriesAnswer}
+use Rattle.rule.specs.Answers.{entriesValues}
+use Rattle.text.specs.laws.TextLaws.{written-as}
+use Rattle.probe_calls.specs.AnswerText.{entriesAnswerText}
+use Rattle.probe_calls.proofs.line.write_entries_answer.Statement.{statement}
+use Rattle.probe_calls.proofs.line.write_entries_answer.Tie as tie
+
+enum-known-answer : tie.Need-enum-known-answer
+enum-known-answer c = search needs
+
+write-given-entries-requires : tie.Need-write-given-entries-requires
+write-given-entries-requires c κs = search needs
+
+enum-known-answer-2 : tie.Need-enum-known-answer-2
+enum-known-answer-2 c = search needs
+
+write-refusal-requires : tie.Need-write-refusal-requires
+write-refusal-requires c κs = search needs
+
+same-length : tie.Need-same-length
+same-length c = search needs
+
+returns : tie.Need-returns
+returns c = (written-as ((c .before .before .write-given-entries .ensures .0)) _ (sym (ap (λ (a : EntriesAnswer). entriesAnswerText (entriesValues a)) ((c .before .before .before .before .before .answer .given .1)))), (c .before .before .write-given-entries .ensures .1))
+
+same-length-2 : tie.Need-same-length-2
+same-length-2 c = search needs
+
+returns-2 : tie.Need-returns-2
+returns-2 c = (written-as ((c .before .before .write-refusal .ensures .0)) _ (sym (ap (λ (a : EntriesAnswer). entriesAnswerText (entriesValues a)) ((c .before .before .before .before .before .answer2 .given .1)))), (c .before .before .write-refusal .ensures .1))
+
+pub write-entries-answer-spec : {M : Type 1} → statement M
+write-entries-answer-spec =
+    tie.close
+    (tie.spec
+    enum-known-answer
+    write-given-entries-requires
+    enum-known-answer-2
+    write-refusal-requires
+    same-length
+    returns
+    same-length-2
+    returns-2)

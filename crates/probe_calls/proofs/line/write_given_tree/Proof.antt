@@ -1,0 +1,31 @@
+-- `probe_calls::line::write_given_tree` writes the word and the number of bridges. Assumes nothing.
+use borrow.Author.Needs.{needs}
+use Rattle.text.specs.laws.TextLaws.{written-on}
+use native.Mathlib.Omega.{arith}
+use Rattle.probe_calls.proofs.line.write_given_tree.Statement.{statement}
+use Rattle.probe_calls.proofs.line.write_given_tree.Tie as tie
+
+slice-aggregate-write-word : tie.Need-slice-aggregate-write-word
+slice-aggregate-write-word c = search needs
+
+write-word-requires : tie.Need-write-word-requires
+write-word-requires c κs = search needs
+
+write-field-requires : tie.Need-write-field-requires
+write-field-requires c κs = search needs
+
+same-length : tie.Need-same-length
+same-length c = search needs
+
+returns : tie.Need-returns
+returns c = (written-on ((c .before .before .before .before .before .before .write-word .ensures)) ((c .before .before .write-field .ensures .0)) (omega (arith, (c .before .before .before .before .before .before .write-word .ensures .end-is), (c .before .before .before .before .before .before .before .before .before .before .pre))), omega (arith, (c .before .before .before .before .before .before .write-word .ensures .end-is), (c .before .before .write-field .ensures .1)))
+
+pub write-given-tree-spec : {M : Type 1} → statement M
+write-given-tree-spec =
+    tie.close
+    (tie.spec
+    slice-aggregate-write-word
+    write-word-requires
+    write-field-requires
+    same-length
+    returns)

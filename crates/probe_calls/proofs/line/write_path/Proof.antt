@@ -1,0 +1,45 @@
+-- `probe_calls::line::write_path` writes the answer, the list's later contents and the newline. Assumes nothing.
+use borrow.Author.Needs.{needs}
+use mathlib.Core.Path.{ap}
+use mathlib.Core.List.{List}
+use Prim.Native.Nat.{ℕ}
+use Rattle.rule.specs.Outcome.{Outcome}
+use Rattle.rule.specs.Answers.{CostAndHops}
+use Rattle.text.specs.laws.TextLaws.{written-on, written-as}
+use Rattle.probe_calls.specs.AnswerText.{pathText}
+use native.Mathlib.Omega.{arith}
+use Rattle.probe_calls.proofs.line.write_path.Statement.{statement}
+use Rattle.probe_calls.proofs.line.write_path.Tie as tie
+
+path-requires : tie.Need-path-requires
+path-requires c κs = search needs
+
+write-path-answer-requires : tie.Need-write-path-answer-requires
+write-path-answer-requires c κs = search needs
+
+write-fields-requires : tie.Need-write-fields-requires
+write-fields-requires c κs = search needs
+
+write-byte-requires : tie.Need-write-byte-requires
+write-byte-requires c κs = search needs
+
+same-length : tie.Need-same-length
+same-length c = search needs
+
+same-length-2 : tie.Need-same-length-2
+same-length-2 c = search needs
+
+returns : tie.Need-returns
+returns c = (written-as (written-on ((c .before .before .before .before .before .before .before .before .before .before .before .write-path-answer .ensures .0)) (written-on ((c .before .before .before .before .before .before .write-fields .ensures .0)) ((c .before .before .write-byte .ensures)) (omega (arith, (c .before .before .before .before .before .before .before .before .before .before .before .write-path-answer .ensures .1), (c .before .before .before .before .before .before .write-fields .ensures .1), (c .before .before .before .before .before .before .before .before .before .before .before .before .before .before .before .before .before .before .before .before .pre)))) (omega (arith, (c .before .before .before .before .before .before .before .before .before .before .before .write-path-answer .ensures .1), (c .before .before .before .before .before .before .before .before .before .before .before .before .before .before .before .before .before .before .before .before .pre)))) _ (ap (λ (o : Outcome CostAndHops × List ℕ). pathText o) ((c .before .before .before .before .before .before .before .before .before .before .before .before .before .before .before .path .ensures))), omega (arith, (c .before .before .before .before .before .before .before .before .before .before .before .write-path-answer .ensures .1), (c .before .before .before .before .before .before .write-fields .ensures .1), (c .before .before .write-byte .ensures .end-is), (c .before .before .before .before .before .before .before .before .before .before .before .before .before .before .before .before .before .before .before .before .pre)))
+
+pub write-path-spec : {M : Type 1} → statement M
+write-path-spec =
+    tie.close
+    (tie.spec
+    path-requires
+    write-path-answer-requires
+    write-fields-requires
+    write-byte-requires
+    same-length
+    same-length-2
+    returns)

@@ -1,0 +1,46 @@
+-- `probe_calls::question::write_asked_path` lends a part of a list whose places were set. Assumes nothing.
+use borrow.Author.Needs.{needs}
+use mathlib.Core.Path.{ap}
+use mathlib.Core.List.{List}
+use Prim.Native.Nat.{ℕ}
+use lib.ListN.{length-take}
+use native.Mathlib.Omega.{arith}
+use Rattle.rule.specs.Calls.{pathOutcome}
+use Rattle.text.specs.laws.TextLaws.{written-as}
+use Rattle.probe_calls.specs.AnswerText.{pathText}
+use Rattle.probe_calls.specs.laws.UntouchedLaws.{front-untouched}
+use Rattle.probe_calls.proofs.question.write_asked_path.Statement.{statement}
+use Rattle.probe_calls.proofs.question.write_asked_path.Tie as tie
+
+slice-aggregate-set-untouched : tie.Need-slice-aggregate-set-untouched
+slice-aggregate-set-untouched c = search needs
+
+set-untouched-requires : tie.Need-set-untouched-requires
+set-untouched-requires c κs = search needs
+
+array-borrow-prefix-list : tie.Need-array-borrow-prefix-list
+array-borrow-prefix-list c = search needs
+
+slice-aggregate-write-path : tie.Need-slice-aggregate-write-path
+slice-aggregate-write-path c = simp length-take (omega (arith, (c .before .before .before .before .before .before .pre .0)))
+
+write-path-requires : tie.Need-write-path-requires
+write-path-requires c κs = simp length-take (omega (arith, (c .before .before .before .before .before .before .before .pre .0), (c .before .before .before .before .before .before .before .pre .1)))
+
+same-length : tie.Need-same-length
+same-length c = search needs
+
+returns : tie.Need-returns
+returns c = (written-as ((c .before .before .before .write-path .ensures .0)) _ (ap (λ (l : List ℕ). pathText (pathOutcome ((c .before .before .before .before .before .before .before .before .before .before .before .args .table .now)) ((c .before .before .before .before .before .before .before .before .before .before .before .args .vid)) ((c .before .before .before .before .before .before .before .before .before .before .before .args .from)) ((c .before .before .before .before .before .before .before .before .before .before .before .args .to)) l)) (front-untouched _ ((c .before .before .before .before .before .before .before .before .before .before .before .args .places)) 80 ((c .before .before .before .before .before .before .before .set-untouched .ensures)) ((c .before .before .before .before .before .before .before .before .before .before .before .pre .0)))), (c .before .before .before .write-path .ensures .1))
+
+pub write-asked-path-spec : {M : Type 1} → statement M
+write-asked-path-spec =
+    tie.close
+    (tie.spec
+    slice-aggregate-set-untouched
+    set-untouched-requires
+    array-borrow-prefix-list
+    slice-aggregate-write-path
+    write-path-requires
+    same-length
+    returns)

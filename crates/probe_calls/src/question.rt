@@ -1,0 +1,67 @@
+// Questions: path, tree and entries into lists of so many untouched places, each as one line.
+use crate::lent::set_untouched;
+use crate::line::write_entries;
+use crate::line::write_path;
+use crate::line::write_tree;
+ghost use Prim.Native.Nat.{_≤_};
+ghost use lib.ListN.{length};
+ghost use Rattle.rule.specs.Calls.{pathOutcome, treeOutcome, entriesOutcome};
+ghost use Rattle.text.specs.Text.{WrittenAt};
+ghost use Rattle.probe_calls.specs.AnswerText.{untouched, pathText, treeText, entriesText};
+
+// The line of a path at the front of the lent bytes, and its length.
+pub fn write_asked_path(
+    table: &[u8],
+    vid: u32,
+    from: u32,
+    to: u32,
+    places: usize,
+    out: &mut [u8],
+) -> usize
+    requires { ⌜ (places ≤ 80) × (921 ≤ length (now out)) ⌝ }
+    ensures { λ r. ⌜ WrittenAt 0 (now (out .entry)) (now (out .exit)) (pathText (pathOutcome (now (table .entry)) vid from to (untouched places))) r × (r ≤ length (now (out .entry))) ⌝ }
+{
+    let mut list = [0u32; 80];
+    set_untouched(&mut list);
+    write_path(table, vid, from, to, &mut list[..places], out)
+}
+
+// The line of a tree at the front of the lent bytes, and its length.
+pub fn write_asked_tree(
+    table: &[u8],
+    vid: u32,
+    from: u32,
+    cost_places: usize,
+    hop_places: usize,
+    last_places: usize,
+    out: &mut [u8],
+) -> usize
+    requires { ⌜ («cost_places» ≤ 80) × («hop_places» ≤ 80) × («last_places» ≤ 80) × (2681 ≤ length (now out)) ⌝ }
+    ensures { λ r. ⌜ WrittenAt 0 (now (out .entry)) (now (out .exit)) (treeText (treeOutcome (now (table .entry)) vid from (untouched «cost_places») (untouched «hop_places») (untouched «last_places»))) r × (r ≤ length (now (out .entry))) ⌝ }
+{
+    let mut costs = [0u32; 80];
+    set_untouched(&mut costs);
+    let mut hops = [0u32; 80];
+    set_untouched(&mut hops);
+    let mut lasts = [0u32; 80];
+    set_untouched(&mut lasts);
+    write_tree(
+        table,
+        vid,
+        from,
+        &mut costs[..cost_places],
+        &mut hops[..hop_places],
+        &mut lasts[..last_places],
+        out,
+    )
+}
+
+// The line of a bridge's entries at the front of the lent bytes, and its length.
+pub fn write_asked_entries(table: &[u8], bridge: u32, places: usize, out: &mut [u8]) -> usize
+    requires { ⌜ (places ≤ 14932) × (164293 ≤ length (now out)) ⌝ }
+    ensures { λ r. ⌜ WrittenAt 0 (now (out .entry)) (now (out .exit)) (entriesText (entriesOutcome (now (table .entry)) bridge (untouched places))) r × (r ≤ length (now (out .entry))) ⌝ }
+{
+    let mut list = [0u32; 14932];
+    set_untouched(&mut list);
+    write_entries(table, bridge, &mut list[..places], out)
+}

@@ -1,0 +1,24 @@
+-- `probe_check::answer::write_answer` writes the line of the check's answer. Assumes nothing.
+use mathlib.Core.Path.{ap}
+use Rattle.rule.specs.Outcome.{Outcome}
+use Rattle.rule.specs.declared.answer.Counts.{Counts}
+use Rattle.text.specs.laws.TextLaws.{written-as}
+use Rattle.text.specs.CheckText.{checkText}
+use borrow.Author.Needs.{needs}
+use Rattle.probe_check.proofs.answer.write_answer.Statement.{statement}
+use Rattle.probe_check.proofs.answer.write_answer.Tie as tie
+
+check-requires : tie.Need-check-requires
+check-requires c κs = search needs
+
+write-check-requires : tie.Need-write-check-requires
+write-check-requires c κs = search needs
+
+same-length : tie.Need-same-length
+same-length c = search needs
+
+returns : tie.Need-returns
+returns c = (written-as ((c .before .before .write-check .ensures .0)) _ (ap (λ (o : Outcome Counts). checkText o) ((c .before .before .before .before .check .ensures))), (c .before .before .write-check .ensures .1))
+
+pub write-answer-spec : {M : Type 1} → statement M
+write-answer-spec = tie.close (tie.spec check-requires write-check-requires same-length returns)
