@@ -8,11 +8,11 @@
 #include "table.hpp"
 #include "timing.hpp"
 
-// crates/measured
-extern "C" std::uint32_t measured_path(const std::uint8_t *table, std::size_t len, std::uint32_t vid, std::uint32_t from,
+// crates/bench_calls
+extern "C" std::uint32_t bench_path(const std::uint8_t *table, std::size_t len, std::uint32_t vid, std::uint32_t from,
                                        std::uint32_t to);
-extern "C" std::uint32_t measured_tree(const std::uint8_t *table, std::size_t len, std::uint32_t vid, std::uint32_t from);
-extern "C" std::uint32_t measured_trees(const std::uint8_t *table, std::size_t len, std::uint32_t count);
+extern "C" std::uint32_t bench_tree(const std::uint8_t *table, std::size_t len, std::uint32_t vid, std::uint32_t from);
+extern "C" std::uint32_t bench_trees(const std::uint8_t *table, std::size_t len, std::uint32_t count);
 
 namespace {
 
@@ -41,8 +41,8 @@ struct Times {
 // One tree over lists that are made already: the trees of all bridges without
 // the check and the lists, which a call for no tree makes too.
 double time_inner_tree(const std::uint8_t *bytes, std::size_t length, std::size_t bridges) {
-    const double all = time_calls(1, [=](std::size_t) { sum += measured_trees(bytes, length, std::uint32_t(bridges)); });
-    const double none = time_calls(1, [=](std::size_t) { sum += measured_trees(bytes, length, 0); });
+    const double all = time_calls(1, [=](std::size_t) { sum += bench_trees(bytes, length, std::uint32_t(bridges)); });
+    const double none = time_calls(1, [=](std::size_t) { sum += bench_trees(bytes, length, 0); });
     return (all - none) / double(bridges);
 }
 
@@ -58,9 +58,9 @@ Times time_round(const Table &table, const Graph &graph, Tree &grown) {
     });
     times.check = time_calls(table.bridges, [=](std::size_t) { sum += spb_check(bytes, length); });
     times.path = time_calls(table.bridges, [=](std::size_t from) {
-        sum += measured_path(bytes, length, vid, std::uint32_t(from), last - std::uint32_t(from));
+        sum += bench_path(bytes, length, vid, std::uint32_t(from), last - std::uint32_t(from));
     });
-    times.tree = time_calls(table.bridges, [=](std::size_t from) { sum += measured_tree(bytes, length, vid, std::uint32_t(from)); });
+    times.tree = time_calls(table.bridges, [=](std::size_t from) { sum += bench_tree(bytes, length, vid, std::uint32_t(from)); });
     times.inner = time_inner_tree(bytes, length, table.bridges);
     return times;
 }

@@ -7,8 +7,8 @@
 #include "table.hpp"
 #include "timing.hpp"
 
-// crates/measured
-extern "C" std::uint32_t measured_entries(const std::uint8_t *table, std::size_t len, std::uint32_t bridge);
+// crates/bench_calls
+extern "C" std::uint32_t bench_entries(const std::uint8_t *table, std::size_t len, std::uint32_t bridge);
 
 namespace {
 
@@ -55,7 +55,7 @@ void measure(const std::string &name, const Table &table) {
         }));
         entries.push_back(microseconds([&] {
             for (std::size_t bridge = 0; bridge < table.bridges; bridge++) {
-                const std::uint32_t words = measured_entries(table.bytes.data(), table.bytes.size(), std::uint32_t(bridge));
+                const std::uint32_t words = bench_entries(table.bytes.data(), table.bytes.size(), std::uint32_t(bridge));
                 if (words <= 13) {
                     throw std::runtime_error("refused");
                 }

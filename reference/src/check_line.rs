@@ -1,4 +1,4 @@
-//! The check's answer as one line, as the program `checking` writes it.
+//! The check's answer as one line, as the program `probe_check` writes it.
 
 use crate::check::{check, Counts};
 use crate::refusal::Refusal;
@@ -21,7 +21,7 @@ pub fn refused(Refusal { number, kind, word }: Refusal) -> String {
     format!("refused {number} {kind} {word}")
 }
 
-/// A table as `checking` and `asking` read it: its length as a word, high byte first, and its bytes.
+/// A table as `probe_check` and `probe_calls` read it: its length as a word, high byte first, and its bytes.
 pub fn framed(table: &[u8]) -> Vec<u8> {
     let mut bytes = (table.len() as u32).to_be_bytes().to_vec();
     bytes.extend(table);

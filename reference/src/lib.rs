@@ -6,7 +6,7 @@
 //! and the tests over all of them (`properties`).
 
 pub mod arguments;
-pub mod asking;
+pub mod call_lines;
 pub mod check;
 pub mod check_line;
 pub mod checked;

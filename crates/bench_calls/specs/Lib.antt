@@ -1,3 +1,3 @@
 -- What the functions for the benchmark give, and the laws behind it.
-pub mod Measured
+pub mod BenchCalls
 pub mod laws

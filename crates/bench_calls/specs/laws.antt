@@ -1,2 +1,2 @@
 -- Theorems: nothing here is cited by a contract.
-pub mod MeasuredLaws
+pub mod BenchCallLaws

@@ -1,4 +1,5 @@
--- Rows: one list with 64 places for each bridge (01, "The table": up to 64), of which the bridge's row fills the first.
+-- Rows: the masked PATHIDs of all bridges in one list, `path-ids`, with 64 places for each bridge (01, "The table": up to 64), of which
+-- the bridge's row fills the first.
 -- Assumes nothing.
 use Prim.Native.Nat.{ℕ, _+_, _*_, _≤_, _<_}
 use mathlib.Core.Path.{_≡_}
@@ -12,16 +13,16 @@ rowPlace bridge = bridge * 64
 
 -- The row of a bridge, of `count` keys.
 abbrev pub rowOf : List ℕ → ℕ → ℕ → List ℕ
-rowOf rows bridge count = take count (drop (rowPlace bridge) rows)
+rowOf path-ids bridge count = take count (drop (rowPlace bridge) path-ids)
 
 -- The list has all places of a bridge.
 abbrev pub HasRow : List ℕ → ℕ → Type 0
-HasRow rows bridge = rowPlace bridge + 64 ≤ length rows
+HasRow path-ids bridge = rowPlace bridge + 64 ≤ length path-ids
 
 -- The row of `count` keys of the bridge `from` can be written to the bridge `to` with one key more.
-pub record Insertable (rows : List ℕ) (from to count : ℕ) : Type 0 where
+pub record Insertable (path-ids : List ℕ) (from to count : ℕ) : Type 0 where
   pub apart : from ≡ to → ⊥
   pub room : count < 64
-  pub has-from : HasRow rows from
-  pub has-to : HasRow rows to
-  pub upward : Upward (rowOf rows from count)
+  pub has-from : HasRow path-ids from
+  pub has-to : HasRow path-ids to
+  pub upward : Upward (rowOf path-ids from count)

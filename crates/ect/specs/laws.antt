@@ -1,6 +1,5 @@
 -- Theorems: nothing here is cited by a contract.
 pub mod MaskLaws
-pub mod KeyLaws
 pub mod RowLaws
 pub mod InsertionLaws
 pub mod ComparisonLaws

@@ -1,9 +1,6 @@
 // ECT masks and masked identifiers (01, "The chosen path").
 ghost use mathlib.Core.Path.{_≡_};
-ghost use mathlib.Core.List.{map};
 ghost use Prim.Native.Nat.{_≤_};
-ghost use lib.ListN.{length};
-ghost use Rattle.lists.specs.Lists.{spliced};
 ghost use Rattle.rule.specs.Identifiers.{maskOf, maskedBytes};
 ghost use Rattle.ect.specs.Masks.{spread};
 
@@ -47,16 +44,4 @@ pub fn masked_identifier(identifier: u64, mask: u8) -> u64
     ensures { λ r. ⌜ r ≡ maskedBytes 8 mask identifier ⌝ }
 {
     identifier ^ spread_mask(mask)
-}
-
-// The key of each bridge: its masked identifier, written to the front of a lent list.
-pub fn write_keys(identifiers: &[u64], mask: u8, keys: &mut [u64])
-    requires { ⌜ length (now identifiers) ≤ length (now keys) ⌝ }
-    ensures { λ _. ⌜ now (keys .exit) ≡ spliced (now (keys .entry)) 0 (map (maskedBytes 8 mask) (now (identifiers .entry))) ⌝ }
-{
-    let mut u = 0;
-    while u < identifiers.len() {
-        keys[u] = masked_identifier(identifiers[u], mask);
-        u += 1;
-    }
 }

@@ -35,7 +35,7 @@ portOn hs b none = 0
 portOn hs b (some path) = numberOf (leavingPort hs b path)
 
 -- For each bridge the port by which the chosen path from `a` to it leaves `b`, 0 where it does not pass `b` or ends there.
-pub record LeavingRow (p : Plan) (index a b : ℕ) (row : List ℕ) : Type 0 where
+pub record EgressRow (p : Plan) (index a b : ℕ) (row : List ℕ) : Type 0 where
   pub each : (d : ℕ) → d < length (p .bridges) → getD row d 0 ≡ portOn (p .halfLinks) b (chosenPath p index a d)
 
 -- The port of the hop by which the way of `k` hops from `c` towards the root comes to `b`.
@@ -45,19 +45,19 @@ walked labels hops b (suc k) c =
     cond (eqb (labelAt labels c .next) b) (getD hops c 0) (walked labels hops b k (labelAt labels c .next))
 
 unfoldable pub leavingBy : List ℕ → List ℕ → ℕ → ℕ → ℕ
-leavingBy labels hops b d = cond (eqb (labelAt labels d .far) noCost) 0 (walked labels hops b (labelAt labels d .steps) d)
+leavingBy labels hops b d = cond (eqb (labelAt labels d .cost) noCost) 0 (walked labels hops b (labelAt labels d .hops) d)
 
 -- The row that the labels give.
-abbrev pub rowBy : List ℕ → List ℕ → ℕ → ℕ → List ℕ
-rowBy labels hops b n = eachOf (λ d. leavingBy labels hops b d ∷ []) n
+abbrev pub egressRowBy : List ℕ → List ℕ → ℕ → ℕ → List ℕ
+egressRowBy labels hops b n = eachOf (λ d. leavingBy labels hops b d ∷ []) n
 
 -- From every bridge with a path, next hops lead to the root, with one hop less each time.
 pub record Walkable (labels : List ℕ) (n : ℕ) : Type 0 where
   pub most : n ≤ 64
-  pub onward : (u : ℕ) → u < n → (labelAt labels u .far ≡ noCost → ⊥) → 0 < labelAt labels u .steps
+  pub onward : (u : ℕ) → u < n → (labelAt labels u .cost ≡ noCost → ⊥) → 0 < labelAt labels u .hops
       → (labelAt labels u .next < n)
-      × (labelAt labels (labelAt labels u .next) .far ≡ noCost → ⊥)
-      × (labelAt labels u .steps ≡ labelAt labels (labelAt labels u .next) .steps + 1)
+      × (labelAt labels (labelAt labels u .next) .cost ≡ noCost → ⊥)
+      × (labelAt labels u .hops ≡ labelAt labels (labelAt labels u .next) .hops + 1)
 
 pub record WalkableFrom (labels : List ℕ) (d : ℕ) : Type 0 where
   pub count : ℕ

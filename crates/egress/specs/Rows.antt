@@ -4,30 +4,31 @@ use Prim.Native.Nat.{ℕ, _+_, _*_, _≤_, _<_}
 use mathlib.Core.Path.{_≡_}
 use mathlib.Core.List.{List}
 use lib.ListN.{length, getD, drop}
-use Rattle.network.specs.PlanLists.{TreeOfLists}
-use Rattle.network.specs.KeptTrees.{slotOf}
+use Rattle.network.specs.Layout.{bridgesIn}
+use Rattle.network.specs.Networks.{TreeIn}
+use Rattle.network.specs.Store.{slotOf}
 use Rattle.egress.specs.Leaving.{leavingBy}
 
 -- Where the row of an index and a bridge begins.
-abbrev pub rowAt : List ℕ → ℕ → ℕ → ℕ
-rowAt rows index a = getD rows (slotOf index a) 0
+abbrev pub egressRowAt : List ℕ → ℕ → ℕ → ℕ
+egressRowAt rows index a = getD rows (slotOf index a) 0
 
 -- There is a row.
-pub record HasRow (rows : List ℕ) (index a : ℕ) : Type 0 where
-  pub there : 0 < rowAt rows index a
+pub record HasEgressRow (rows : List ℕ) (index a : ℕ) : Type 0 where
+  pub there : 0 < egressRowAt rows index a
 
--- The row of a tree over the lists: for each bridge the port by which the way from the root to it leaves `b`.
-pub record RowOf (n : ℕ) (starts neighbours costs identifiers hops : List ℕ) (b index a : ℕ) (row : List ℕ) : Type 0 where
+-- The row of a tree of the network: for each bridge the port by which the way from the root to it leaves `b`.
+pub record EgressRowOf (net hops : List ℕ) (b index a : ℕ) (row : List ℕ) : Type 0 where
   pub labels : List ℕ
-  pub tree : TreeOfLists n starts neighbours costs identifiers index a labels
-  pub each : (d : ℕ) → d < n → getD row d 0 ≡ leavingBy labels hops b d
+  pub tree : TreeIn net index a labels
+  pub each : (d : ℕ) → d < bridgesIn net → getD row d 0 ≡ leavingBy labels hops b d
 
 -- There are `count` rows, and each place that is not 0 says where its row begins.
-pub record RowsHeld (n : ℕ) (starts neighbours costs identifiers hops : List ℕ) (b count : ℕ) (rows : List ℕ) : Type 0 where
+pub record EgressRowsKept (net hops : List ℕ) (b count : ℕ) (rows : List ℕ) : Type 0 where
   pub size : 6144 ≤ length rows
-  pub begins : (index a : ℕ) → 1 ≤ index → index ≤ 16 → a < n → (rowAt rows index a ≡ 0 → ⊥) → (1024 ≤ rowAt rows index a) × (rowAt rows index a + 64 ≤ 1024 + 64 * count)
-  pub held : (index a : ℕ) → 1 ≤ index → index ≤ 16 → a < n → (rowAt rows index a ≡ 0 → ⊥)
-      → RowOf n starts neighbours costs identifiers hops b index a (drop (rowAt rows index a) rows)
+  pub begins : (index a : ℕ) → 1 ≤ index → index ≤ 16 → a < bridgesIn net → (egressRowAt rows index a ≡ 0 → ⊥) → (1024 ≤ egressRowAt rows index a) × (egressRowAt rows index a + 64 ≤ 1024 + 64 * count)
+  pub held : (index a : ℕ) → 1 ≤ index → index ≤ 16 → a < bridgesIn net → (egressRowAt rows index a ≡ 0 → ⊥)
+      → EgressRowOf net hops b index a (drop (egressRowAt rows index a) rows)
 
 -- No row is lost, and the list keeps its length.
 pub record Kept (before after : List ℕ) : Type 0 where

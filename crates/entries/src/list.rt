@@ -1,14 +1,19 @@
 // The entries of a bridge of a table that passed the check (01, "Calls"): the words are made in an array of their own and copied when
 // they fit, so that a refusal writes nothing.
-use crate::needed::keep_rows;
+use crate::needed::keep_egress_rows;
 use crate::parts::whole_list;
-use links::neighbours::neighbours_of;
-use network::records::write_identifiers;
 use egress::hops::hop_ports;
 use egress::hops::rising_ports;
+use egress::rows::ROWS;
+use network::make::make_network;
+use network::parts::NETWORK;
+use network::store::LINE;
 use rule::answer::EntriesAnswer;
 use rule::answer::RecordKind;
+use rule::kinds::MOST_BRIDGES;
+use rule::kinds::MOST_VIDS;
 use table::shape::Shape;
+use tree::search::PATH_IDS;
 ghost use mathlib.Core.Path.{_≡_};
 ghost use mathlib.Core.List.{List};
 ghost use Prim.Native.Nat.{ℕ, _≤_, _<_};
@@ -21,92 +26,59 @@ ghost use Rattle.rule.specs.Answers.{entriesValues};
 ghost use Rattle.rule.specs.Calls.{planEntries};
 ghost use Rattle.rule.specs.Entries.{entryListOf};
 ghost use Rattle.table.specs.Positions.{planAt};
-ghost use Rattle.links.specs.Mates.{Checked};
-ghost use Rattle.network.specs.KeptTrees.{TreesHeld};
-ghost use Rattle.entries.specs.Whole.{PlanOf, listAnswer};
+ghost use Rattle.verdict.specs.Examination.{Checked, LinkIndex};
+ghost use Rattle.network.specs.Networks.{TableNetwork};
+ghost use Rattle.network.specs.Store.{TreesKept};
+ghost use Rattle.entries.specs.Whole.{listAnswer};
 
-// The words of the bridge's list, over the lists of a plan, written to the front of a lent list; gives how many there are. The list of the
-// search and the store of trees are lent too, so that a caller for many bridges makes each tree once.
-pub fn list_over_lists(
+// "No bridge's list exceeds 14,931 words": individual entries for the other bridges in each VID, and group entries as `ListBound` counts
+// them.
+pub const LONGEST_LIST: usize = 3
+    * (MOST_VIDS * (MOST_BRIDGES - 1) + (MOST_BRIDGES - 1) * (MOST_BRIDGES - 1));
+
+// The words of the bridge's list, from the network of its table, written to the front of a lent list; gives how many there are. The list
+// of the search and the store of trees are lent too, so that a caller for many bridges makes each tree once.
+pub fn list_in_network(
     table: &[u8],
     s: Shape,
-    starts: &[u32],
-    neighbours: &[u32],
-    costs: &[u32],
-    ports: &[u32],
-    identifiers: &[u64],
+    network: &[u32],
     b: usize,
     path_ids: &mut [u64],
-    marks: &mut [u32],
-    trees: &mut [u32],
+    store: &mut [u32],
     words: &mut [u32],
 ) -> usize
-    requires { ⌜ PlanOf (now table) s (now starts) (now neighbours) (now costs) (now ports) (now identifiers) × (b < s .bridges) × (4096 ≤ length (now «path_ids»)) × (14931 ≤ length (now words)) ⌝ }
-    requires { ⌜ TreesHeld (s .bridges) (now starts) (now neighbours) (now costs) (now identifiers) (now marks) (now trees) ⌝ }
+    requires { ⌜ TableNetwork (now table) s (now network) × (b < s .bridges) × (4096 ≤ length (now «path_ids»)) × TreesKept (now network) (now store) × (14931 ≤ length (now words)) ⌝ }
     ensures { λ r. ⌜ Appended (now (words .entry)) 0 (entryListOf (planAt (wordsOf (now (table .entry))) s) b) (now (words .exit)) r ⌝ }
-    ensures { λ _. ⌜ TreesHeld (s .bridges) (now (starts .entry)) (now (neighbours .entry)) (now (costs .entry)) (now (identifiers .entry)) (now (marks .exit)) (now (trees .exit)) ⌝ }
+    ensures { λ _. ⌜ TreesKept (now (network .entry)) (now (store .exit)) ⌝ }
 {
-    let mut hops = [0u16; 64];
-    hop_ports(starts, neighbours, ports, s.bridges, b, &mut hops);
-    let mut rises = [0u16; 64];
+    let mut hops = [0u16; MOST_BRIDGES];
+    hop_ports(network, b, &mut hops);
+    let mut rises = [0u16; MOST_BRIDGES];
     let count = rising_ports(&hops, s.bridges, &mut rises);
-    let mut rows = [0u16; 6144];
-    keep_rows(
+    let mut egress_rows = [0u16; ROWS];
+    keep_egress_rows(
         table,
         s,
-        starts,
-        neighbours,
-        costs,
-        identifiers,
+        network,
         &hops,
         b,
         path_ids,
-        marks,
-        trees,
-        &mut rows,
+        store,
+        &mut egress_rows,
     );
-    whole_list(table, s, &rows, &rises[..count], b, words)
+    whole_list(table, s, &egress_rows, &rises[..count], b, words)
 }
 
-// The same of a table that passed the check, with a store of one tree.
-fn list_of_table(table: &[u8], s: Shape, links: &[u32], b: usize, words: &mut [u32]) -> usize
-    requires { ⌜ Checked (now table) (now links) s × (b < s .bridges) × (14931 ≤ length (now words)) ⌝ }
+// The same of a checked table, with a store of one tree.
+fn list_of_table(table: &[u8], s: Shape, link_index: &[u32], b: usize, words: &mut [u32]) -> usize
+    requires { ⌜ Checked (now table) s × (b < s .bridges) × (14931 ≤ length (now words)) × LinkIndex (now «link_index») (now table) s ⌝ }
     ensures { λ r. ⌜ Appended (now (words .entry)) 0 (entryListOf (planAt (wordsOf (now (table .entry))) s) b) (now (words .exit)) r ⌝ }
 {
-    let mut pairs = [0u64; 4096];
-    let mut starts = [0u32; 65];
-    let mut neighbours = [0u32; 512];
-    let mut costs = [0u32; 512];
-    let mut ports = [0u32; 512];
-    let mut identifiers = [0u64; 64];
-    neighbours_of(
-        table,
-        s,
-        links,
-        &mut pairs,
-        &mut starts,
-        &mut neighbours,
-        &mut costs,
-        &mut ports,
-    );
-    write_identifiers(table, s, &mut identifiers);
-    let mut path_ids = [0u64; 4096];
-    let mut marks = [0u32; 1];
-    let mut trees = [0u32; 320];
-    list_over_lists(
-        table,
-        s,
-        &starts,
-        &neighbours,
-        &costs,
-        &ports,
-        &identifiers,
-        b,
-        &mut path_ids,
-        &mut marks,
-        &mut trees,
-        words,
-    )
+    let mut network = [0u32; NETWORK];
+    make_network(table, s, link_index, &mut network);
+    let mut path_ids = [0u64; PATH_IDS];
+    let mut store = [0u32; LINE];
+    list_in_network(table, s, &network, b, &mut path_ids, &mut store, words)
 }
 
 // Copies the words to the front of the lent list.
@@ -143,11 +115,11 @@ fn fitted(words: &[u32], list: &mut [u32]) -> EntriesAnswer
 pub fn entries_in_table(
     table: &[u8],
     s: Shape,
-    links: &[u32],
+    link_index: &[u32],
     bridge: u32,
     list: &mut [u32],
 ) -> EntriesAnswer
-    requires { ⌜ Checked (now table) (now links) s ⌝ }
+    requires { ⌜ Checked (now table) s × LinkIndex (now «link_index») (now table) s ⌝ }
     ensures { λ r. ⌜ _≡_ {A = Outcome ℕ × List ℕ} (entriesValues r, now (list .exit)) (lentTo (now (list .entry)) (planEntries (planAt (wordsOf (now (table .entry))) s) bridge)) ⌝ }
 {
     if s.bridges <= bridge as usize {
@@ -157,7 +129,7 @@ pub fn entries_in_table(
             word: 0,
         };
     }
-    let mut words = [0u32; 14931];
-    let count = list_of_table(table, s, links, bridge as usize, &mut words);
+    let mut words = [0u32; LONGEST_LIST];
+    let count = list_of_table(table, s, link_index, bridge as usize, &mut words);
     fitted(&words[..count], list)
 }

@@ -2,36 +2,16 @@
 -- leaves the bridge whose entries are written, 0 where none does. Assumes nothing.
 use Prim.Native.Nat.{ℕ, _*_, _≤_}
 use mathlib.Core.List.{List, [], _∷_}
-use mathlib.Core.Bool.{Bool, cond}
+use mathlib.Core.Bool.{cond}
 use lib.Dec.{eqb}
 use lib.ListN.{length, getD}
 use Rattle.lists.specs.Lists.{anyPasses}
 use Rattle.lists.specs.Appending.{eachOf}
-use Rattle.rule.specs.Words.{wordsOf}
-use Rattle.rule.specs.Records.{Bridge, Vid, Member, bridgeOf, vidOf, memberOf, address}
-use Rattle.rule.specs.Entries.{Entry, entryWords, receives}
-use Rattle.rule.specs.PlanLaws.{PlanLaws}
+use Rattle.rule.specs.Records.{Member, address}
+use Rattle.rule.specs.Entries.{entryWords, receives}
+use Rattle.entry_codec.specs.Codec.{entryWith}
 use Rattle.table.specs.declared.shape.Shape.{Shape}
-use Rattle.table.specs.Positions.{recordAt, vidsFrom, membersFrom, wordsRead, planAt}
-
--- A table whose records, as many of each kind as `s` says, are those of an accepted plan.
-pub record Readable (t : List ℕ) (s : Shape) : Type 0 where
-  pub whole : 4 * wordsRead s ≤ length t
-  pub bounded : length t ≤ 7492
-  pub laws : PlanLaws (planAt (wordsOf t) s)
-
--- The records by their numbers.
-abbrev pub bridgeNumber : List ℕ → ℕ → Bridge
-bridgeNumber ws d = recordAt bridgeOf 3 0 ws d
-
-abbrev pub vidNumber : List ℕ → Shape → ℕ → Vid
-vidNumber ws s k = recordAt vidOf 1 (vidsFrom s) ws k
-
-abbrev pub memberNumber : List ℕ → Shape → ℕ → Member
-memberNumber ws s j = recordAt memberOf 2 (membersFrom s) ws j
-
-abbrev pub entryWith : ℕ → ℕ → ℕ → ℕ → Entry
-entryWith kind vid port addr = record { kind = kind; vid = vid; port = port; address = addr }
+use Rattle.table.specs.Numbered.{bridgeNumber, memberNumber}
 
 -- "for each other bridge by number that a path reaches, one entry with that bridge's address and the port of the first hop's link".
 unfoldable pub individualTo : List ℕ → List ℕ → ℕ → ℕ → List ℕ

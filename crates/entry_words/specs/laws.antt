@@ -1,3 +1,3 @@
 -- Theorems: nothing here is cited by a contract.
-pub mod Listing
+pub mod EntryWordLaws
 pub mod Receivers

@@ -1,8 +1,9 @@
 // Group entries (01, "Entries"): the ports behind which a transmitter's receivers are, and the words of an entry for each.
-use crate::entry::wide;
-use crate::entry::write_entry;
-use crate::records::member;
+use entry_codec::layout::GROUP;
+use entry_codec::writer::wide;
+use entry_codec::writer::write_entry;
 use table::member::Member;
+use table::records::member;
 use table::shape::Shape;
 ghost use mathlib.Core.Path.{_≡_};
 ghost use Prim.Native.Nat.{_<_, _≤_};
@@ -11,7 +12,8 @@ ghost use Rattle.rule.specs.Words.{wordsOf};
 ghost use Rattle.rule.specs.Entries.{receives};
 ghost use Rattle.table.specs.Readers.{memberValues};
 ghost use Rattle.lists.specs.Appending.{Appended, Room};
-ghost use Rattle.entry_words.specs.Words.{Readable, behindAt, portsBehind, groupWords};
+ghost use Rattle.verdict.specs.Examination.{Checked};
+ghost use Rattle.entry_words.specs.Words.{behindAt, portsBehind, groupWords};
 
 // "another bridge with R in the same I-SID and VID".
 fn is_receiver(m: Member, r: Member) -> bool
@@ -33,35 +35,41 @@ fn is_receiver(m: Member, r: Member) -> bool
 fn note_receiver(
     table: &[u8],
     s: Shape,
-    row: &[u16],
+    egress_row: &[u16],
     m: Member,
     j: usize,
     behind: &mut [u16],
     at: usize,
 ) -> usize
-    requires { ⌜ Readable (now table) s × (j < s .members) × (s .bridges ≤ length (now row)) ⌝ }
-    requires { ⌜ Room (now behind) at (behindAt (wordsOf (now table)) s (now row) (memberValues m) j) ⌝ }
-    ensures { λ r. ⌜ Appended (now (behind .entry)) at (behindAt (wordsOf (now (table .entry))) s (now (row .entry)) (memberValues m) j) (now (behind .exit)) r ⌝ }
+    requires { ⌜ Checked (now table) s × (j < s .members) × (s .bridges ≤ length (now «egress_row»)) ⌝ }
+    requires { ⌜ Room (now behind) at (behindAt (wordsOf (now table)) s (now «egress_row») (memberValues m) j) ⌝ }
+    ensures { λ r. ⌜ Appended (now (behind .entry)) at (behindAt (wordsOf (now (table .entry))) s (now («egress_row» .entry)) (memberValues m) j) (now (behind .exit)) r ⌝ }
 {
     let r = member(table, s, j);
     let bridge = r.bridge as usize;
     if !is_receiver(m, r) {
         return at;
     }
-    behind[at] = row[bridge];
+    behind[at] = egress_row[bridge];
     at + 1
 }
 
 // The ports behind which the receivers of the transmitter `m` are, by the row of its bridge: one for each receiver, 0 where its path
 // does not pass. Gives how many there are.
-pub fn ports_behind(table: &[u8], s: Shape, row: &[u16], m: Member, behind: &mut [u16]) -> usize
-    requires { ⌜ Readable (now table) s × (s .bridges ≤ length (now row)) × (64 ≤ length (now behind)) ⌝ }
-    ensures { λ r. ⌜ Appended (now (behind .entry)) 0 (portsBehind (wordsOf (now (table .entry))) s (now (row .entry)) (memberValues m)) (now (behind .exit)) r ⌝ }
+pub fn ports_behind(
+    table: &[u8],
+    s: Shape,
+    egress_row: &[u16],
+    m: Member,
+    behind: &mut [u16],
+) -> usize
+    requires { ⌜ Checked (now table) s × (s .bridges ≤ length (now «egress_row»)) × (64 ≤ length (now behind)) ⌝ }
+    ensures { λ r. ⌜ Appended (now (behind .entry)) 0 (portsBehind (wordsOf (now (table .entry))) s (now («egress_row» .entry)) (memberValues m)) (now (behind .exit)) r ⌝ }
 {
     let mut at = 0;
     let mut j = 0;
     while j < s.members {
-        at = note_receiver(table, s, row, m, j, behind, at);
+        at = note_receiver(table, s, egress_row, m, j, behind, at);
         j += 1;
     }
     at
@@ -88,7 +96,7 @@ pub fn group_words(
         let mut j = 0;
         while j < behind.len() {
             if behind[j] == port {
-                end = write_entry(words, end, 9, vid, wide(port), address);
+                end = write_entry(words, end, GROUP, vid, wide(port), address);
                 continue 'ports;
             }
             j += 1;

@@ -1,5 +1,3 @@
 // The words of filtering entries (01, "Entries"), by the ports of rows, in lent lists.
-pub mod entry;
 pub mod group;
 pub mod individual;
-pub mod records;

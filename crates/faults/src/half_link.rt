@@ -51,23 +51,29 @@ fn is_mirror(h: HalfLink, earlier: HalfLink) -> bool
 }
 
 // Whether one of the first `count` half-links has the near bridge with port.
-pub fn is_port_repeated(ports: &[u32], count: usize, near: u32, port: u32) -> bool
-    requires { ⌜ Indexed (now ports) count × (near < 65536) × (port < 65536) ⌝ }
-    ensures { λ r. ⌜ r ≡ not (eqb (lastPlace (holds (now (ports .entry)) (near * 65536 + port)) count) 0) ⌝ }
+pub fn is_port_repeated(port_index: &[u32], count: usize, near: u32, port: u32) -> bool
+    requires { ⌜ Indexed (now «port_index») count × (near < 65536) × (port < 65536) ⌝ }
+    ensures { λ r. ⌜ r ≡ not (eqb (lastPlace (holds (now («port_index» .entry)) (near * 65536 + port)) count) 0) ⌝ }
 {
-    last_place(ports, count, port_key(near, port)) != 0
+    last_place(port_index, count, port_key(near, port)) != 0
 }
 
 // Whether the half-link is "a third half-link of a link number, or the second and no mirror of the first".
-pub fn is_wrong_link(table: &[u8], from: usize, count: usize, links: &[u32], h: HalfLink) -> bool
-    requires { ⌜ (4 * (from + 3 * count) ≤ length (now table)) × Keyed numberKey (now links) (wordsOf (now table)) from count ⌝ }
+pub fn is_wrong_link(
+    table: &[u8],
+    from: usize,
+    count: usize,
+    link_index: &[u32],
+    h: HalfLink,
+) -> bool
+    requires { ⌜ (4 * (from + 3 * count) ≤ length (now table)) × Keyed numberKey (now «link_index») (wordsOf (now table)) from count ⌝ }
     ensures { λ r. ⌜ r ≡ wrongHalf (halfLinkValues h) (selected (hasLink (h .link)) (recordsAt halfLinkOf 3 from (wordsOf (now (table .entry))) count)) ⌝ }
 {
-    let place = last_place(links, count, h.link);
+    let place = last_place(link_index, count, h.link);
     if place == 0 {
         return false;
     }
-    if place_before(links, count, place) != 0 {
+    if place_before(link_index, count, place) != 0 {
         return true;
     }
     let at = from + 3 * (place as usize - 1);

@@ -5,6 +5,16 @@ use crate::half_link::names_unknown;
 use crate::repeats::is_bridge_repeated;
 use crate::repeats::is_member_repeated;
 use crate::repeats::is_vid_known;
+use rule::kinds::BRIDGE;
+use rule::kinds::END;
+use rule::kinds::HALF_LINK;
+use rule::kinds::MEMBER;
+use rule::kinds::MOST_BRIDGES;
+use rule::kinds::MOST_ENDS;
+use rule::kinds::MOST_HALF_LINKS;
+use rule::kinds::MOST_MEMBERS;
+use rule::kinds::MOST_VIDS;
+use rule::kinds::VID;
 use table::bridge::BridgeRead;
 use table::bridge::read_bridge;
 use table::end::EndRead;
@@ -17,11 +27,10 @@ use table::shape::Shape;
 use table::vid::VidRead;
 use table::vid::read_vid;
 ghost use mathlib.Core.Path.{_≡_};
-ghost use Prim.Native.Nat.{_*_, _≤_};
-ghost use lib.ListN.{length};
 ghost use Rattle.rule.specs.Words.{wordsOf};
 ghost use Rattle.rule.specs.Records.{bridgeLayout, halfLinkLayout, vidLayout, memberLayout, endLayout};
-ghost use Rattle.table.specs.Positions.{halfLinksFrom, wordsRead};
+ghost use Rattle.table.specs.Positions.{halfLinksFrom};
+ghost use Rattle.table.specs.Whole.{Whole};
 ghost use Rattle.faults.specs.HalfLinks.{portKey, numberKey, Keyed};
 ghost use Rattle.faults.specs.Faults.{numbered, ownFault, faultAt};
 
@@ -47,18 +56,18 @@ fn own_fault(last: u32, kind: u32, found: u32, count: usize, limit: usize) -> u3
 
 // Of the bridge record after those of `s`.
 pub fn bridge_fault(table: &[u8], s: Shape) -> u32
-    requires { ⌜ (4 * wordsRead s ≤ length (now table)) × (length (now table) ≤ 7492) ⌝ }
+    requires { ⌜ Whole (now table) s ⌝ }
     ensures { λ r. ⌜ numbered r ≡ faultAt (wordsOf (now (table .entry))) s bridgeLayout ⌝ }
 {
     let at = 4 * s.words_read();
     let last = s.last_kind();
     let read = read_bridge(&table[at..]);
     match read {
-        BridgeRead::Cut => own_fault(last, 1, 3, s.bridges, 64),
-        BridgeRead::ZeroBit => own_fault(last, 1, 4, s.bridges, 64),
-        BridgeRead::OutOfRange => own_fault(last, 1, 6, s.bridges, 64),
+        BridgeRead::Cut => own_fault(last, BRIDGE, 3, s.bridges, MOST_BRIDGES),
+        BridgeRead::ZeroBit => own_fault(last, BRIDGE, 4, s.bridges, MOST_BRIDGES),
+        BridgeRead::OutOfRange => own_fault(last, BRIDGE, 6, s.bridges, MOST_BRIDGES),
         BridgeRead::Record(b) => {
-            let own = own_fault(last, 1, 0, s.bridges, 64);
+            let own = own_fault(last, BRIDGE, 0, s.bridges, MOST_BRIDGES);
             if own != 0 {
                 return own;
             }
@@ -71,31 +80,31 @@ pub fn bridge_fault(table: &[u8], s: Shape) -> u32
 }
 
 // Of the half-link record after those of `s`, whose half-links are in the two indexes.
-pub fn half_link_fault(table: &[u8], s: Shape, ports: &[u32], links: &[u32]) -> u32
-    requires { ⌜ (4 * wordsRead s ≤ length (now table)) × (length (now table) ≤ 7492) ⌝ }
-    requires { ⌜ Keyed portKey (now ports) (wordsOf (now table)) (halfLinksFrom s) (s .«half_links») ⌝ }
-    requires { ⌜ Keyed numberKey (now links) (wordsOf (now table)) (halfLinksFrom s) (s .«half_links») ⌝ }
+pub fn half_link_fault(table: &[u8], s: Shape, port_index: &[u32], link_index: &[u32]) -> u32
+    requires { ⌜ Whole (now table) s ⌝ }
+    requires { ⌜ Keyed portKey (now «port_index») (wordsOf (now table)) (halfLinksFrom s) (s .«half_links») ⌝ }
+    requires { ⌜ Keyed numberKey (now «link_index») (wordsOf (now table)) (halfLinksFrom s) (s .«half_links») ⌝ }
     ensures { λ r. ⌜ numbered r ≡ faultAt (wordsOf (now (table .entry))) s halfLinkLayout ⌝ }
 {
     let at = 4 * s.words_read();
     let last = s.last_kind();
     let read = read_half_link(&table[at..]);
     match read {
-        HalfLinkRead::Cut => own_fault(last, 2, 3, s.half_links, 512),
-        HalfLinkRead::ZeroBit => own_fault(last, 2, 4, s.half_links, 512),
-        HalfLinkRead::OutOfRange => own_fault(last, 2, 6, s.half_links, 512),
+        HalfLinkRead::Cut => own_fault(last, HALF_LINK, 3, s.half_links, MOST_HALF_LINKS),
+        HalfLinkRead::ZeroBit => own_fault(last, HALF_LINK, 4, s.half_links, MOST_HALF_LINKS),
+        HalfLinkRead::OutOfRange => own_fault(last, HALF_LINK, 6, s.half_links, MOST_HALF_LINKS),
         HalfLinkRead::Record(h) => {
-            let own = own_fault(last, 2, 0, s.half_links, 512);
+            let own = own_fault(last, HALF_LINK, 0, s.half_links, MOST_HALF_LINKS);
             if own != 0 {
                 return own;
             }
             if names_unknown(s.bridges, h.near, h.far) {
                 return 7;
             }
-            if is_port_repeated(ports, s.half_links, h.near, h.port) {
+            if is_port_repeated(port_index, s.half_links, h.near, h.port) {
                 return 8;
             }
-            if is_wrong_link(table, s.half_links_from(), s.half_links, links, h) {
+            if is_wrong_link(table, s.half_links_from(), s.half_links, link_index, h) {
                 return 9;
             }
             0
@@ -105,17 +114,17 @@ pub fn half_link_fault(table: &[u8], s: Shape, ports: &[u32], links: &[u32]) -> 
 
 // Of the VID record after those of `s`.
 pub fn vid_fault(table: &[u8], s: Shape) -> u32
-    requires { ⌜ (4 * wordsRead s ≤ length (now table)) × (length (now table) ≤ 7492) ⌝ }
+    requires { ⌜ Whole (now table) s ⌝ }
     ensures { λ r. ⌜ numbered r ≡ faultAt (wordsOf (now (table .entry))) s vidLayout ⌝ }
 {
     let at = 4 * s.words_read();
     let last = s.last_kind();
     let read = read_vid(&table[at..]);
     match read {
-        VidRead::Cut => own_fault(last, 3, 3, s.vids, 16),
-        VidRead::OutOfRange => own_fault(last, 3, 6, s.vids, 16),
+        VidRead::Cut => own_fault(last, VID, 3, s.vids, MOST_VIDS),
+        VidRead::OutOfRange => own_fault(last, VID, 6, s.vids, MOST_VIDS),
         VidRead::Record(v) => {
-            let own = own_fault(last, 3, 0, s.vids, 16);
+            let own = own_fault(last, VID, 0, s.vids, MOST_VIDS);
             if own != 0 {
                 return own;
             }
@@ -129,18 +138,18 @@ pub fn vid_fault(table: &[u8], s: Shape) -> u32
 
 // Of the member record after those of `s`.
 pub fn member_fault(table: &[u8], s: Shape) -> u32
-    requires { ⌜ (4 * wordsRead s ≤ length (now table)) × (length (now table) ≤ 7492) ⌝ }
+    requires { ⌜ Whole (now table) s ⌝ }
     ensures { λ r. ⌜ numbered r ≡ faultAt (wordsOf (now (table .entry))) s memberLayout ⌝ }
 {
     let at = 4 * s.words_read();
     let last = s.last_kind();
     let read = read_member(&table[at..]);
     match read {
-        MemberRead::Cut => own_fault(last, 4, 3, s.members, 64),
-        MemberRead::ZeroBit => own_fault(last, 4, 4, s.members, 64),
-        MemberRead::OutOfRange => own_fault(last, 4, 6, s.members, 64),
+        MemberRead::Cut => own_fault(last, MEMBER, 3, s.members, MOST_MEMBERS),
+        MemberRead::ZeroBit => own_fault(last, MEMBER, 4, s.members, MOST_MEMBERS),
+        MemberRead::OutOfRange => own_fault(last, MEMBER, 6, s.members, MOST_MEMBERS),
         MemberRead::Record(m) => {
-            let own = own_fault(last, 4, 0, s.members, 64);
+            let own = own_fault(last, MEMBER, 0, s.members, MOST_MEMBERS);
             if own != 0 {
                 return own;
             }
@@ -160,7 +169,7 @@ pub fn member_fault(table: &[u8], s: Shape) -> u32
 
 // Of the end record after those of `s`. It is never one too many: a second one would stand after it and is not read.
 pub fn end_fault(table: &[u8], s: Shape) -> u32
-    requires { ⌜ (4 * wordsRead s ≤ length (now table)) × (length (now table) ≤ 7492) ⌝ }
+    requires { ⌜ Whole (now table) s ⌝ }
     ensures { λ r. ⌜ numbered r ≡ faultAt (wordsOf (now (table .entry))) s endLayout ⌝ }
 {
     let before = s.words_read();
@@ -168,9 +177,9 @@ pub fn end_fault(table: &[u8], s: Shape) -> u32
     let last = s.last_kind();
     let read = read_end(&table[at..]);
     match read {
-        EndRead::Cut => own_fault(last, 15, 3, 0, 1),
+        EndRead::Cut => own_fault(last, END, 3, 0, MOST_ENDS),
         EndRead::Record { count } => {
-            let own = own_fault(last, 15, 0, 0, 1);
+            let own = own_fault(last, END, 0, 0, MOST_ENDS);
             if own != 0 {
                 return own;
             }

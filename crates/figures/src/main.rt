@@ -28,6 +28,9 @@ fn print_check(name: &[u8], table: &[u8])
     io::write_all(1, &line[..end]);
 }
 
+// The bytes of a table at most: 65 bridges, 513 half-links, 17 VIDs, 65 members, the end record and a word after it.
+const LONGEST: usize = 4 * (3 * 65 + 3 * 513 + 17 + 2 * 65 + 2);
+
 // The table with so many records of each kind, and `more` words 0 after its end record.
 fn print_limit(
     name: &[u8],
@@ -45,7 +48,7 @@ fn print_limit(
         vids: vids,
         members: members,
     };
-    let mut table = [0u8; 8192];
+    let mut table = [0u8; LONGEST];
     write_table(s, &mut table);
     let bytes = 4 * (s.words_read() + 1 + more);
     print_check(name, &table[..bytes]);

@@ -4,6 +4,11 @@ ghost use Prim.Native.Nat.{_≤_, _<_};
 ghost use Rattle.key_index.specs.Index.{remainder, InChain, Indexed, holds, earlierPlace, otherPlace};
 ghost use Rattle.key_index.specs.Places.{lastPlace};
 
+// As many keys as an index may have, and as many chains.
+pub const MOST_KEYS: usize = 512;
+// The words of an index: for each chain its last place; for each place its key; for each place the one before it in its chain.
+pub const INDEX: usize = 3 * MOST_KEYS;
+
 // Which chain a key belongs to.
 pub fn chain_of(key: u32) -> u32
     ensures { λ r. ⌜ (r ≡ remainder key) × (r < 512) ⌝ }

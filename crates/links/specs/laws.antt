@@ -2,6 +2,3 @@
 pub mod MateLaws
 pub mod CountLaws
 pub mod PairLaws
-pub mod ListingLaws
-pub mod NeighbourListLaws
-pub mod NeighbourLaws

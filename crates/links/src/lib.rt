@@ -1,5 +1,4 @@
 // The links of a table that passed the check (01, "Links").
 pub mod counts;
-pub mod neighbours;
 pub mod pairs;
 pub mod usable;

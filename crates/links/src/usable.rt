@@ -2,31 +2,24 @@
 use key_index::chain::other_place;
 use rule::metric::Metric;
 use table::half_link::HalfLink;
-use table::half_link::half_link_at;
+use table::records::half_link;
 use table::shape::Shape;
 ghost use mathlib.Core.Path.{_≡_};
-ghost use Prim.Native.Nat.{_*_, _≤_, _<_};
-ghost use lib.ListN.{length};
+ghost use Prim.Native.Nat.{_<_};
 ghost use Rattle.rule.specs.Words.{wordsOf};
 ghost use Rattle.rule.specs.Links.{countUsable};
 ghost use Rattle.table.specs.Readers.{halfLinkValues};
-ghost use Rattle.table.specs.Positions.{wordsRead, planAt};
-ghost use Rattle.links.specs.Mates.{Checked, halfLinkAt, linkMetric, counted};
-
-// The half-link number `i`.
-pub fn half_link(table: &[u8], s: Shape, i: usize) -> HalfLink
-    requires { ⌜ (4 * wordsRead s ≤ length (now table)) × (length (now table) ≤ 7492) × (i < s .«half_links») ⌝ }
-    ensures { λ r. ⌜ halfLinkValues r ≡ halfLinkAt (wordsOf (now (table .entry))) s i ⌝ }
-{
-    half_link_at(table, s.half_links_from() + 3 * i)
-}
+ghost use Rattle.table.specs.Positions.{planAt};
+ghost use Rattle.table.specs.Numbered.{halfLinkNumber};
+ghost use Rattle.verdict.specs.Examination.{Checked, LinkIndex};
+ghost use Rattle.links.specs.Mates.{linkMetric, counted};
 
 // What the link of the half-link `h`, which is number `i`, costs. "A half-link alone isn't used."
-pub fn link_metric(table: &[u8], s: Shape, links: &[u32], i: usize, h: HalfLink) -> Metric
-    requires { ⌜ Checked (now table) (now links) s × (i < s .«half_links») × (halfLinkValues h ≡ halfLinkAt (wordsOf (now table)) s i) ⌝ }
+pub fn link_metric(table: &[u8], s: Shape, link_index: &[u32], i: usize, h: HalfLink) -> Metric
+    requires { ⌜ Checked (now table) s × (i < s .«half_links») × (halfLinkValues h ≡ halfLinkNumber (wordsOf (now table)) s i) × LinkIndex (now «link_index») (now table) s ⌝ }
     ensures { λ r. ⌜ r .0 ≡ linkMetric (planAt (wordsOf (now (table .entry))) s .halfLinks) (halfLinkValues h) ⌝ }
 {
-    let place = other_place(links, s.half_links, i as u32 + 1);
+    let place = other_place(link_index, s.half_links, i as u32 + 1);
     if place == 0 {
         return Metric::UNUSABLE;
     }
@@ -35,29 +28,29 @@ pub fn link_metric(table: &[u8], s: Shape, links: &[u32], i: usize, h: HalfLink)
 }
 
 // 1 where the half-link `i` is of a usable link and is seen from its lower bridge.
-fn count_one(table: &[u8], s: Shape, links: &[u32], i: usize) -> u32
-    requires { ⌜ Checked (now table) (now links) s × (i < s .«half_links») ⌝ }
-    ensures { λ r. ⌜ r ≡ counted (planAt (wordsOf (now (table .entry))) s .halfLinks) (halfLinkAt (wordsOf (now (table .entry))) s i) ⌝ }
+fn count_one(table: &[u8], s: Shape, link_index: &[u32], i: usize) -> u32
+    requires { ⌜ Checked (now table) s × (i < s .«half_links») × LinkIndex (now «link_index») (now table) s ⌝ }
+    ensures { λ r. ⌜ r ≡ counted (planAt (wordsOf (now (table .entry))) s .halfLinks) (halfLinkNumber (wordsOf (now (table .entry))) s i) ⌝ }
 {
     let h = half_link(table, s, i);
     if h.far <= h.near {
         return 0;
     }
-    if link_metric(table, s, links, i, h).is_usable() {
+    if link_metric(table, s, link_index, i, h).is_usable() {
         return 1;
     }
     0
 }
 
 // How many links are usable: each is counted where it is seen from its lower bridge.
-pub fn count_usable(table: &[u8], s: Shape, links: &[u32]) -> u32
-    requires { ⌜ Checked (now table) (now links) s ⌝ }
+pub fn count_usable(table: &[u8], s: Shape, link_index: &[u32]) -> u32
+    requires { ⌜ Checked (now table) s × LinkIndex (now «link_index») (now table) s ⌝ }
     ensures { λ r. ⌜ r ≡ countUsable (planAt (wordsOf (now (table .entry))) s .halfLinks) ⌝ }
 {
     let mut count = 0;
     let mut i = 0;
     while i < s.half_links {
-        count += count_one(table, s, links, i);
+        count += count_one(table, s, link_index, i);
         i += 1;
     }
     count

@@ -1,7 +1,7 @@
 // Entry lines (01, "Listing program"), by the words of entries.
-use lookup::entry::address_of;
-use lookup::entry::port_of;
-use lookup::entry::vid_of;
+use entry_codec::reader::address_of;
+use entry_codec::reader::port_of;
+use entry_codec::reader::vid_of;
 use text::digits::write_address;
 use text::fields::write_byte;
 use text::fields::write_fields;

@@ -1,5 +1,4 @@
-// Path lines (01, "Listing program"), by the labels of the tree that is rooted at `to`.
-use path::path::labelled_path;
+// Path lines (01, "Listing program"), by what the path call answers.
 use rule::answer::PathAnswer;
 use rule::measure::Cost;
 use rule::measure::Hops;
@@ -10,9 +9,10 @@ use text::fields::write_word;
 ghost use mathlib.Core.List.{_∷_, []};
 ghost use Prim.Native.Nat.{_+_, _≤_};
 ghost use lib.ListN.{length};
+ghost use Rattle.rule.specs.Answers.{pathValues};
 ghost use Rattle.text.specs.Text.{line, pathWord, WrittenAt};
-ghost use Rattle.path.specs.Labelled.{labelledPath, Followable};
 ghost use Rattle.listing_lines.specs.Listing.{noneWord, pathLine};
+ghost use Rattle.listing_lines.specs.PathAnswers.{bridgesGiven, givenPath};
 
 // "VID, from, to, cost, hops, bridges": at most 64 bridges, so 69 fields.
 fn write_given_path(
@@ -44,20 +44,19 @@ fn write_none(vid: u32, from: u32, to: u32, out: &mut [u8], at: usize) -> usize
     write_line(b"none", &numbers, out, at)
 }
 
-// The line of one pair: what the labels answer to the path call. A path has 64 bridges at most, so the list holds it.
-pub fn write_path_line(
-    labels: &[u32],
+// The line of one pair, by what the path call answers and the list that it was lent.
+pub fn write_path_answer(
+    answer: PathAnswer,
+    list: &[u32],
     vid: u32,
     from: u32,
     to: u32,
     out: &mut [u8],
     at: usize,
 ) -> usize
-    requires { ⌜ (320 ≤ length (now labels)) × Followable (now labels) from × (at + 764 ≤ length (now out)) ⌝ }
-    ensures { λ r. ⌜ WrittenAt at (now (out .entry)) (now (out .exit)) (pathLine vid from to (labelledPath (now (labels .entry)) from)) r × (r ≤ at + 764) ⌝ }
+    requires { ⌜ (bridgesGiven (pathValues answer) ≤ length (now list)) × (length (now list) ≤ 64) × (at + 764 ≤ length (now out)) ⌝ }
+    ensures { λ r. ⌜ WrittenAt at (now (out .entry)) (now (out .exit)) (pathLine vid from to (givenPath (pathValues answer) (now (list .entry)))) r × (r ≤ at + 764) ⌝ }
 {
-    let mut list = [0u32; 64];
-    let answer = labelled_path(labels, from, &mut list);
     match answer {
         PathAnswer::Given { cost, hops } => {
             let count = hops.bridges();

@@ -13,8 +13,8 @@ use Rattle.table.specs.declared.shape.Shape.{Shape}
 use Rattle.table.specs.Positions.{planAt}
 use Rattle.verdict.specs.declared.examine.Examined.{Examined}
 use Rattle.verdict.specs.Examination.{examinedValues}
-use Rattle.network.specs.KeptTrees.{TreesHeld}
-use Rattle.entries.specs.Whole.{PlanOf}
+use Rattle.network.specs.Networks.{TableNetwork}
+use Rattle.network.specs.Store.{TreesKept}
 use Rattle.text.specs.Text.{line}
 use Rattle.text.specs.CheckText.{refusedWord}
 use Rattle.listing_parts.specs.declared.progress.Progress.{Progress}
@@ -51,23 +51,22 @@ abbrev pub GivenParts : List ℕ → Progress → List (List ℕ) → Type 0
 GivenParts t b [] = remaining t b ≡ []
 GivenParts t b (part ∷ parts) = (after : Progress) × Gives t b part after × GivenParts t after parts
 
--- A store of trees whose lines hold none.
-abbrev pub NoMarks : List ℕ → Type 0
-NoMarks marks = (line : ℕ) → line < length marks → getD marks line 0 ≡ 0
+-- A list of zeros: a store of trees that holds none.
+abbrev pub AllZero : List ℕ → Type 0
+AllZero store = (i : ℕ) → i < length store → getD store i 0 ≡ 0
 
--- The lists of an accepted table's plan, the store of its trees, and its counts, as the parts of its listing need them.
-pub record PartsReady (t : List ℕ) (b : Progress) (s : Shape) (starts neighbours costs ports identifiers marks trees : List ℕ) : Type 0 where
-  pub lists : PlanOf t s starts neighbours costs ports identifiers
-  pub trees-held : TreesHeld (s .bridges) starts neighbours costs identifiers marks trees
+-- The network of an accepted table, the store of its trees, and its counts, as the parts of its listing need them.
+pub record PartsReady (t : List ℕ) (b : Progress) (s : Shape) (net store : List ℕ) : Type 0 where
+  pub table-network : TableNetwork t s net
+  pub trees-kept : TreesKept net store
   pub counted : b .counts ≡ countsOf (planAt (wordsOf t) s)
 
 -- A listing underway: the verdict is that on the table, and where it accepts the table its parts can be made.
-pub record Underway (t : List ℕ) (b : Progress) (starts neighbours costs ports identifiers marks trees : List ℕ) : Type 0 where
+pub record Underway (t : List ℕ) (b : Progress) (net store : List ℕ) : Type 0 where
   pub of-table : examinedValues (wordsOf t) (b .examined) ≡ verdict t
-  pub accepted : (s : Shape) → b .examined ≡ Examined.Accepted s → PartsReady t b s starts neighbours costs ports identifiers marks trees
+  pub accepted : (s : Shape) → b .examined ≡ Examined.Accepted s → PartsReady t b s net store
 
 -- After a part was given the listing is underway still, with fewer parts left.
-abbrev pub GoesOn : List ℕ → Progress → List ℕ → List ℕ → List ℕ → List ℕ → List ℕ → List ℕ → List ℕ → NextPart → Type 0
-GoesOn t before starts neighbours costs ports identifiers marks trees (NextPart.Part written after) =
-    Underway t after starts neighbours costs ports identifiers marks trees × (partsLeft t after < partsLeft t before)
-GoesOn t before starts neighbours costs ports identifiers marks trees NextPart.None = Unit {0}
+abbrev pub GoesOn : List ℕ → Progress → List ℕ → List ℕ → NextPart → Type 0
+GoesOn t before net store (NextPart.Part written after) = Underway t after net store × (partsLeft t after < partsLeft t before)
+GoesOn t before net store NextPart.None = Unit {0}

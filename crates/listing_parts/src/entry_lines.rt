@@ -1,5 +1,5 @@
 // The entry lines of one bridge (01, "Listing program").
-use entries::list::list_over_lists;
+use entries::list::list_in_network;
 use listing_lines::entry_line::write_entry_lines;
 use table::shape::Shape;
 ghost use Prim.Native.Nat.{_≤_, _<_};
@@ -7,8 +7,8 @@ ghost use lib.ListN.{length};
 ghost use Rattle.rule.specs.Words.{wordsOf};
 ghost use Rattle.rule.specs.Calls.{planEntries};
 ghost use Rattle.table.specs.Positions.{planAt};
-ghost use Rattle.network.specs.KeptTrees.{TreesHeld};
-ghost use Rattle.entries.specs.Whole.{PlanOf};
+ghost use Rattle.network.specs.Networks.{TableNetwork};
+ghost use Rattle.network.specs.Store.{TreesKept};
 ghost use Rattle.text.specs.Text.{WrittenAt};
 ghost use Rattle.listing_lines.specs.Listing.{entryLines};
 
@@ -17,36 +17,18 @@ ghost use Rattle.listing_lines.specs.Listing.{entryLines};
 pub fn write_entry_lines_of(
     table: &[u8],
     s: Shape,
-    starts: &[u32],
-    neighbours: &[u32],
-    costs: &[u32],
-    ports: &[u32],
-    identifiers: &[u64],
+    network: &[u32],
     b: usize,
     path_ids: &mut [u64],
-    marks: &mut [u32],
-    trees: &mut [u32],
+    store: &mut [u32],
     words: &mut [u32],
     out: &mut [u8],
 ) -> usize
-    requires { ⌜ PlanOf (now table) s (now starts) (now neighbours) (now costs) (now ports) (now identifiers) × (b < s .bridges) × (14931 ≤ length (now words)) × (258804 ≤ length (now out)) ⌝ }
-    requires { ⌜ (4096 ≤ length (now «path_ids»)) × TreesHeld (s .bridges) (now starts) (now neighbours) (now costs) (now identifiers) (now marks) (now trees) ⌝ }
-    ensures { λ r. ⌜ TreesHeld (s .bridges) (now (starts .entry)) (now (neighbours .entry)) (now (costs .entry)) (now (identifiers .entry)) (now (marks .exit)) (now (trees .exit)) ⌝ }
+    requires { ⌜ TableNetwork (now table) s (now network) × (b < s .bridges) × (14931 ≤ length (now words)) × (258804 ≤ length (now out)) ⌝ }
+    requires { ⌜ (4096 ≤ length (now «path_ids»)) × TreesKept (now network) (now store) ⌝ }
+    ensures { λ r. ⌜ TreesKept (now (network .entry)) (now (store .exit)) ⌝ }
     ensures { λ r. ⌜ WrittenAt 0 (now (out .entry)) (now (out .exit)) (entryLines b (planEntries (planAt (wordsOf (now (table .entry))) s) b)) r × (r ≤ 258804) ⌝ }
 {
-    let count = list_over_lists(
-        table,
-        s,
-        starts,
-        neighbours,
-        costs,
-        ports,
-        identifiers,
-        b,
-        path_ids,
-        marks,
-        trees,
-        words,
-    );
+    let count = list_in_network(table, s, network, b, path_ids, store, words);
     write_entry_lines(&words[..count], b as u32, out, 0)
 }

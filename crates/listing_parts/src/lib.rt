@@ -1,6 +1,7 @@
 // The parts of a listing (01, "Listing program"), of a table that passed the check: the counts line, the path lines of one VID and from,
 // and the entry lines of one bridge.
 pub mod entry_lines;
+pub mod labelled_line;
 pub mod part;
 pub mod path_lines;
 pub mod progress;

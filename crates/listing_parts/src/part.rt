@@ -1,6 +1,7 @@
 // The parts of a listing by their numbers, in order (01, "Listing program").
 use crate::entry_lines::write_entry_lines_of;
 use crate::path_lines::write_path_lines;
+use entries::list::LONGEST_LIST;
 use rule::answer::Counts;
 use table::shape::Shape;
 use text::check::write_counts;
@@ -10,10 +11,13 @@ ghost use lib.ListN.{length};
 ghost use Rattle.rule.specs.Words.{wordsOf};
 ghost use Rattle.rule.specs.Calls.{countsOf};
 ghost use Rattle.table.specs.Positions.{planAt};
-ghost use Rattle.network.specs.KeptTrees.{TreesHeld};
-ghost use Rattle.entries.specs.Whole.{PlanOf};
+ghost use Rattle.network.specs.Networks.{TableNetwork};
+ghost use Rattle.network.specs.Store.{TreesKept};
 ghost use Rattle.text.specs.Text.{WrittenAt};
 ghost use Rattle.listing_parts.specs.Parts.{partCount, listingPart};
+
+// The bytes of the longest part: an entry line of 52 bytes for each entry of the longest list, of 3 words each.
+pub const LONGEST_PART: usize = 52 * (LONGEST_LIST / 3);
 
 // How many parts the listing of a table has.
 pub fn part_count(s: Shape) -> usize
@@ -28,21 +32,16 @@ pub fn write_part(
     table: &[u8],
     s: Shape,
     counts: Counts,
-    starts: &[u32],
-    neighbours: &[u32],
-    costs: &[u32],
-    ports: &[u32],
-    identifiers: &[u64],
+    network: &[u32],
     part: usize,
     path_ids: &mut [u64],
-    marks: &mut [u32],
-    trees: &mut [u32],
+    store: &mut [u32],
     words: &mut [u32],
     out: &mut [u8],
 ) -> usize
-    requires { ⌜ PlanOf (now table) s (now starts) (now neighbours) (now costs) (now ports) (now identifiers) × (counts ≡ countsOf (planAt (wordsOf (now table)) s)) × (part < partCount (planAt (wordsOf (now table)) s)) ⌝ }
-    requires { ⌜ (4096 ≤ length (now «path_ids»)) × TreesHeld (s .bridges) (now starts) (now neighbours) (now costs) (now identifiers) (now marks) (now trees) × (14931 ≤ length (now words)) × (258804 ≤ length (now out)) ⌝ }
-    ensures { λ r. ⌜ TreesHeld (s .bridges) (now (starts .entry)) (now (neighbours .entry)) (now (costs .entry)) (now (identifiers .entry)) (now (marks .exit)) (now (trees .exit)) ⌝ }
+    requires { ⌜ TableNetwork (now table) s (now network) × (counts ≡ countsOf (planAt (wordsOf (now table)) s)) × (part < partCount (planAt (wordsOf (now table)) s)) ⌝ }
+    requires { ⌜ (4096 ≤ length (now «path_ids»)) × TreesKept (now network) (now store) × (14931 ≤ length (now words)) × (258804 ≤ length (now out)) ⌝ }
+    ensures { λ r. ⌜ TreesKept (now (network .entry)) (now (store .exit)) ⌝ }
     ensures { λ r. ⌜ WrittenAt 0 (now (out .entry)) (now (out .exit)) (listingPart (planAt (wordsOf (now (table .entry))) s) part) r × (r ≤ 258804) ⌝ }
 {
     if part == 0 {
@@ -54,31 +53,13 @@ pub fn write_part(
         return write_path_lines(
             table,
             s,
-            starts,
-            neighbours,
-            costs,
-            identifiers,
+            network,
             pair / s.bridges,
             pair % s.bridges,
             path_ids,
-            marks,
-            trees,
+            store,
             out,
         );
     }
-    write_entry_lines_of(
-        table,
-        s,
-        starts,
-        neighbours,
-        costs,
-        ports,
-        identifiers,
-        pair - pairs,
-        path_ids,
-        marks,
-        trees,
-        words,
-        out,
-    )
+    write_entry_lines_of(table, s, network, pair - pairs, path_ids, store, words, out)
 }

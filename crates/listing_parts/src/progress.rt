@@ -2,21 +2,20 @@
 // left. The parts given are together the listing of the table (`listing-given`).
 use crate::part::part_count;
 use crate::part::write_part;
-use listing_lines::refusal::write_refused;
+use key_index::chain::INDEX;
 use links::counts::counts;
-use links::neighbours::neighbours_of;
-use network::records::write_identifiers;
+use listing_lines::refusal::write_refused;
+use network::make::make_network;
 use rule::answer::Counts;
-use table::shape::Shape;
 use verdict::examine::Examined;
 use verdict::examine::examine;
 ghost use mathlib.Core.Path.{_≡_};
-ghost use Prim.Native.Nat.{_+_, _*_, _≤_, _<_};
+ghost use Prim.Native.Nat.{_+_, _≤_, _<_};
 ghost use lib.ListN.{length};
-ghost use Rattle.links.specs.Mates.{Checked};
-ghost use Rattle.entries.specs.Whole.{PlanOf};
+ghost use Rattle.network.specs.Layout.{networkWords};
+ghost use Rattle.network.specs.Store.{lineWords};
 ghost use Rattle.listing_lines.specs.Listing.{listing};
-ghost use Rattle.listing_parts.specs.Remaining.{NoMarks, remaining, NextOf, Underway, GoesOn};
+ghost use Rattle.listing_parts.specs.Remaining.{AllZero, remaining, NextOf, Underway, GoesOn};
 
 // How far a listing is given: the verdict on its table, the table's counts where it was accepted, and how many parts were given.
 pub struct Progress {
@@ -46,69 +45,21 @@ fn part_given(examined: Examined, counts: Counts, given: usize, written: usize) 
     }
 }
 
-// The lists of a table that passed the check, written to the lent lists.
-fn write_lists(
-    table: &[u8],
-    s: Shape,
-    links: &[u32],
-    starts: &mut [u32],
-    neighbours: &mut [u32],
-    costs: &mut [u32],
-    ports: &mut [u32],
-    identifiers: &mut [u64],
-)
-    requires { ⌜ Checked (now table) (now links) s × (65 ≤ length (now starts)) × (length (now identifiers) ≡ 64) ⌝ }
-    requires { ⌜ (512 ≤ length (now neighbours)) × (512 ≤ length (now costs)) × (512 ≤ length (now ports)) ⌝ }
-    ensures { λ _. ⌜ PlanOf (now (table .entry)) s (now (starts .exit)) (now (neighbours .exit)) (now (costs .exit)) (now (ports .exit)) (now (identifiers .exit)) ⌝ }
-{
-    let mut pairs = [0u64; 4096];
-    neighbours_of(
-        table,
-        s,
-        links,
-        &mut pairs,
-        starts,
-        neighbours,
-        costs,
-        ports,
-    );
-    write_identifiers(table, s, identifiers);
-}
-
-// Begins the listing of a table: nothing of it is given yet. The lists are those of its plan then, where it is accepted; the store of
-// trees is empty.
-pub fn begin_listing(
-    table: &[u8],
-    starts: &mut [u32],
-    neighbours: &mut [u32],
-    costs: &mut [u32],
-    ports: &mut [u32],
-    identifiers: &mut [u64],
-    marks: &[u32],
-    trees: &[u32],
-) -> Progress
-    requires { ⌜ (65 ≤ length (now starts)) × (512 ≤ length (now neighbours)) × (512 ≤ length (now costs)) × (512 ≤ length (now ports)) × (length (now identifiers) ≡ 64) ⌝ }
-    requires { ⌜ (1 ≤ length (now marks)) × (320 * length (now marks) ≤ length (now trees)) × NoMarks (now marks) ⌝ }
+// Begins the listing of a table: nothing of it is given yet. The lent list is the network of its plan then, where it is accepted; the
+// store of trees is empty.
+pub fn begin_listing(table: &[u8], network: &mut [u32], store: &[u32]) -> Progress
+    requires { ⌜ (length (now network) ≡ networkWords) × (lineWords ≤ length (now store)) × AllZero (now store) ⌝ }
     ensures { λ r. ⌜ remaining (now (table .entry)) r ≡ listing (now (table .entry)) ⌝ }
-    ensures { λ r. ⌜ Underway (now (table .entry)) r (now (starts .exit)) (now (neighbours .exit)) (now (costs .exit)) (now (ports .exit)) (now (identifiers .exit)) (now (marks .entry)) (now (trees .entry)) ⌝ }
+    ensures { λ r. ⌜ Underway (now (table .entry)) r (now (network .exit)) (now (store .entry)) ⌝ }
 {
-    let mut links = [0u32; 1536];
-    let examined = examine(table, &mut links);
+    let mut link_index = [0u32; INDEX];
+    let examined = examine(table, &mut link_index);
     match examined {
         Examined::Accepted(s) => {
-            write_lists(
-                table,
-                s,
-                &links,
-                starts,
-                neighbours,
-                costs,
-                ports,
-                identifiers,
-            );
+            make_network(table, s, &link_index, network);
             Progress {
                 examined: examined,
-                counts: counts(table, s, &links),
+                counts: counts(table, s, &link_index),
                 given: 0,
             }
         }
@@ -133,22 +84,17 @@ pub fn begin_listing(
 // Gives the next part: writes it to the front of the lent bytes. Trees are kept, so that each is made once for all parts.
 pub fn next_part(
     table: &[u8],
-    starts: &[u32],
-    neighbours: &[u32],
-    costs: &[u32],
-    ports: &[u32],
-    identifiers: &[u64],
+    network: &[u32],
     progress: Progress,
     path_ids: &mut [u64],
-    marks: &mut [u32],
-    trees: &mut [u32],
+    store: &mut [u32],
     words: &mut [u32],
     out: &mut [u8],
 ) -> NextPart
-    requires { ⌜ Underway (now table) progress (now starts) (now neighbours) (now costs) (now ports) (now identifiers) (now marks) (now trees) ⌝ }
+    requires { ⌜ Underway (now table) progress (now network) (now store) ⌝ }
     requires { ⌜ (4096 ≤ length (now «path_ids»)) × (14931 ≤ length (now words)) × (258804 ≤ length (now out)) ⌝ }
     ensures { λ r. ⌜ NextOf (now (table .entry)) progress (now (out .exit)) r ⌝ }
-    ensures { λ r. ⌜ GoesOn (now (table .entry)) progress (now (starts .entry)) (now (neighbours .entry)) (now (costs .entry)) (now (ports .entry)) (now (identifiers .entry)) (now (marks .exit)) (now (trees .exit)) r ⌝ }
+    ensures { λ r. ⌜ GoesOn (now (table .entry)) progress (now (network .entry)) (now (store .exit)) r ⌝ }
 {
     let examined = progress.examined;
     let counts = progress.counts;
@@ -162,15 +108,10 @@ pub fn next_part(
                 table,
                 s,
                 counts,
-                starts,
-                neighbours,
-                costs,
-                ports,
-                identifiers,
+                network,
                 given,
                 path_ids,
-                marks,
-                trees,
+                store,
                 words,
                 out,
             );

@@ -1,7 +1,7 @@
 // Entry lists: their faults, the matching entry n, and what the lookup call answers (01, "Calls" and 14 under "Refusals in checking order").
 use crate::entry::is_faulty;
 use crate::entry::is_match;
-use crate::entry::port_of;
+use entry_codec::reader::port_of;
 use rule::answer::LookupAnswer;
 use rule::answer::RecordKind;
 ghost use mathlib.Core.Path.{_≡_};

@@ -1,4 +1,7 @@
--- The lists of a plan, its trees, and a store of them.
-pub mod PlanLists
-pub mod KeptTrees
+-- The network of a plan, its trees, and a store of them.
+pub mod Layout
+pub mod Numbering
+pub mod Neighbours
+pub mod Networks
+pub mod Store
 pub mod laws

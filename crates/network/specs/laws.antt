@@ -1,4 +1,8 @@
 -- Theorems: nothing here is cited by a contract.
-pub mod PlanListLaws
-pub mod RecordLaws
-pub mod KeptTreeLaws
+pub mod LayoutLaws
+pub mod NumberingLaws
+pub mod NeighbourListLaws
+pub mod NeighbourLaws
+pub mod IdentifierLaws
+pub mod NetworkLaws
+pub mod StoreLaws

@@ -1,4 +1,8 @@
-// A table that passed the check, as the layers above ask it: its identifiers, the ECT index of a VID, and the trees of its chosen paths.
-pub mod kept;
+// The network of a checked table: one lent list of words, made by one function, that the search and the layers above read; the trees of its
+// chosen paths, and a lent store that keeps them.
+pub mod hops;
+pub mod identifiers;
+pub mod make;
+pub mod parts;
 pub mod plan_tree;
-pub mod records;
+pub mod store;

@@ -1,78 +1,67 @@
-// Trees of the chosen paths of a plan (01, "The chosen path").
-use crate::records::write_identifiers;
+// Trees of the chosen paths of a plan, from its network (01, "The chosen path").
+use crate::identifiers::write_keys;
+use crate::make::make_network;
+use crate::parts::COSTS;
+use crate::parts::NEIGHBOURS;
+use crate::parts::NETWORK;
+use crate::parts::PORTS;
+use crate::parts::STARTS;
+use crate::parts::bridges;
 use ect::mask::mask_of;
-use ect::mask::write_keys;
-use links::neighbours::neighbours_of;
+use rule::kinds::MOST_BRIDGES;
 use table::shape::Shape;
+use tree::search::PATH_IDS;
 use tree::search::tree;
 ghost use Prim.Native.Nat.{_≤_, _<_};
 ghost use lib.ListN.{length};
 ghost use Rattle.rule.specs.Words.{wordsOf};
 ghost use Rattle.table.specs.Positions.{planAt};
-ghost use Rattle.links.specs.Mates.{Checked};
-ghost use Rattle.network.specs.PlanLists.{Listed, PlanTree, TreeOfLists};
+ghost use Rattle.verdict.specs.Examination.{Checked, LinkIndex};
+ghost use Rattle.network.specs.Layout.{bridgesIn};
+ghost use Rattle.network.specs.Networks.{IsNetwork, PlanTree, TreeIn};
 
-// The tree for an ECT index and a root, over the lists of a plan. The rows are lent too, so that a caller of many trees makes them once.
-pub fn tree_over_lists(
-    starts: &[u32],
-    neighbours: &[u32],
-    costs: &[u32],
-    identifiers: &[u64],
+// The tree for an ECT index and a root. The list that the search keeps masked PATHIDs in is lent, so that a caller of many trees makes it
+// once.
+pub fn tree_in_network(
+    network: &[u32],
     index: u32,
-    labels: &mut [u32],
-    rows: &mut [u64],
-    n: usize,
     root: usize,
+    labels: &mut [u32],
+    path_ids: &mut [u64],
 )
-    requires { ⌜ Listed n (now starts) (now neighbours) (now costs) (now identifiers) × (length (now identifiers) ≤ 64) ⌝ }
-    requires { ⌜ (1 ≤ index) × (index ≤ 16) × (root < n) × (320 ≤ length (now labels)) × (4096 ≤ length (now rows)) ⌝ }
-    ensures { λ _. ⌜ TreeOfLists n (now (starts .entry)) (now (neighbours .entry)) (now (costs .entry)) (now (identifiers .entry)) index root (now (labels .exit)) ⌝ }
+    requires { ⌜ IsNetwork (now network) × (1 ≤ index) × (index ≤ 16) × (root < bridgesIn (now network)) × (320 ≤ length (now labels)) × (4096 ≤ length (now «path_ids»)) ⌝ }
+    ensures { λ _. ⌜ TreeIn (now (network .entry)) index root (now (labels .exit)) ⌝ }
 {
-    let mut keys = [0u64; 64];
+    let mut keys = [0u64; MOST_BRIDGES];
     let mask = mask_of(index);
-    write_keys(identifiers, mask, &mut keys);
-    tree(starts, neighbours, costs, &keys, labels, rows, n, root);
+    write_keys(network, mask, &mut keys);
+    let n = bridges(network);
+    tree(
+        &network[STARTS..NEIGHBOURS],
+        &network[NEIGHBOURS..COSTS],
+        &network[COSTS..PORTS],
+        &keys,
+        labels,
+        path_ids,
+        n,
+        root,
+    );
 }
 
-// The tree for an ECT index and a root of a table that passed the check.
+// The tree for an ECT index and a root of a checked table.
 pub fn tree_of_table(
     table: &[u8],
     s: Shape,
-    links: &[u32],
+    link_index: &[u32],
     index: u32,
     root: usize,
     labels: &mut [u32],
 )
-    requires { ⌜ Checked (now table) (now links) s × (1 ≤ index) × (index ≤ 16) × (root < s .bridges) × (320 ≤ length (now labels)) ⌝ }
+    requires { ⌜ Checked (now table) s × (1 ≤ index) × (index ≤ 16) × (root < s .bridges) × (320 ≤ length (now labels)) × LinkIndex (now «link_index») (now table) s ⌝ }
     ensures { λ _. ⌜ PlanTree (planAt (wordsOf (now (table .entry))) s) index root (now (labels .exit)) ⌝ }
 {
-    let mut pairs = [0u64; 4096];
-    let mut starts = [0u32; 65];
-    let mut neighbours = [0u32; 512];
-    let mut costs = [0u32; 512];
-    let mut ports = [0u32; 512];
-    let mut identifiers = [0u64; 64];
-    let mut rows = [0u64; 4096];
-    neighbours_of(
-        table,
-        s,
-        links,
-        &mut pairs,
-        &mut starts,
-        &mut neighbours,
-        &mut costs,
-        &mut ports,
-    );
-    write_identifiers(table, s, &mut identifiers);
-    tree_over_lists(
-        &starts,
-        &neighbours,
-        &costs,
-        &identifiers,
-        index,
-        labels,
-        &mut rows,
-        s.bridges,
-        root,
-    );
+    let mut network = [0u32; NETWORK];
+    let mut path_ids = [0u64; PATH_IDS];
+    make_network(table, s, link_index, &mut network);
+    tree_in_network(&network, index, root, labels, &mut path_ids);
 }

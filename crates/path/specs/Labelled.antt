@@ -13,15 +13,15 @@ use Rattle.path.specs.Followed.{followed, Inside}
 -- The path from the bridge `u` to the root: its label's cost and hops, and the bridges that next hops lead to. "12. No path exists."
 abbrev pub labelledPath : List ℕ → ℕ → Outcome (Written CostAndHops)
 labelledPath labels u =
-    cond (eqb (labelAt labels u .far) noCost)
+    cond (eqb (labelAt labels u .cost) noCost)
     (refusedAs 12)
     (answered (record {
-      values = record { cost = labelAt labels u .far; hops = labelAt labels u .steps };
-      words = followed labels u (labelAt labels u .steps + 1);
+      values = record { cost = labelAt labels u .cost; hops = labelAt labels u .hops };
+      words = followed labels u (labelAt labels u .hops + 1);
     }))
 
 -- Where the bridge `u` has a path its next hops stay among the bridges that labels have places for.
 pub record Followable (labels : List ℕ) (u : ℕ) : Type 0 where
   pub place : u < 64
-  pub few : (labelAt labels u .far ≡ noCost → ⊥) → labelAt labels u .steps < 64
-  pub inside : (labelAt labels u .far ≡ noCost → ⊥) → Inside labels u (labelAt labels u .steps + 1)
+  pub few : (labelAt labels u .cost ≡ noCost → ⊥) → labelAt labels u .hops < 64
+  pub inside : (labelAt labels u .cost ≡ noCost → ⊥) → Inside labels u (labelAt labels u .hops + 1)

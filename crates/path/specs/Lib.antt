@@ -2,5 +2,5 @@
 pub mod Followed
 pub mod Labelled
 pub mod Named
-pub mod Places
+pub mod Branches
 pub mod laws

@@ -4,8 +4,8 @@ use mathlib.Core.Path.{_≡_}
 use mathlib.Core.List.{List}
 use mathlib.Core.Bool.{cond, _&&_}
 use Rattle.rule.specs.Plan.{Plan, knownBridge, vidRecord}
-use Rattle.rule.specs.Calls.{named}
-use Rattle.network.specs.PlanLists.{PlanTree, indexOf}
+use Rattle.table.specs.Numbered.{indexOf}
+use Rattle.network.specs.Networks.{PlanTree}
 
 -- The ECT index of the VID, or 0 where the plan lacks the VID or one of the bridges.
 abbrev pub namedIndex : Plan → ℕ → ℕ → ℕ → ℕ

@@ -2,5 +2,5 @@
 pub mod FollowedLaws
 pub mod LabelledLaws
 pub mod NamedLaws
-pub mod PlaceLaws
+pub mod BranchLaws
 pub mod PlanCalls

@@ -4,8 +4,10 @@ use rule::answer::PathAnswer;
 use rule::answer::RecordKind;
 use rule::measure::Cost;
 use table::shape::Shape;
+use tree::label::LABELS;
 use tree::label::cost_at;
 use tree::label::hops_at;
+use tree::label::next_number;
 ghost use mathlib.Core.Path.{_≡_};
 ghost use mathlib.Core.List.{List};
 ghost use Prim.Native.Nat.{ℕ, _≤_};
@@ -17,7 +19,7 @@ ghost use Rattle.rule.specs.Answers.{CostAndHops, pathValues};
 ghost use Rattle.rule.specs.Calls.{planPath};
 ghost use Rattle.rule.specs.Exported.{costNumber};
 ghost use Rattle.table.specs.Positions.{planAt};
-ghost use Rattle.links.specs.Mates.{Checked};
+ghost use Rattle.verdict.specs.Examination.{Checked, LinkIndex};
 ghost use Rattle.path.specs.Followed.{followed, Inside};
 ghost use Rattle.path.specs.Labelled.{labelledPath, Followable};
 
@@ -30,7 +32,7 @@ pub fn write_path(labels: &[u32], from: u32, count: usize, list: &mut [u32])
     let mut u = from;
     while i < count {
         list[i] = u;
-        u = labels[192 + u as usize];
+        u = next_number(labels, u as usize);
         i += 1;
     }
 }
@@ -72,17 +74,17 @@ pub fn labelled_path(labels: &[u32], from: u32, list: &mut [u32]) -> PathAnswer
 pub fn path_in_table(
     table: &[u8],
     s: Shape,
-    links: &[u32],
+    link_index: &[u32],
     vid: u32,
     from: u32,
     to: u32,
     list: &mut [u32],
 ) -> PathAnswer
-    requires { ⌜ Checked (now table) (now links) s ⌝ }
+    requires { ⌜ Checked (now table) s × LinkIndex (now «link_index») (now table) s ⌝ }
     ensures { λ r. ⌜ _≡_ {A = Outcome CostAndHops × List ℕ} (pathValues r, now (list .exit)) (lentTo (now (list .entry)) (planPath (planAt (wordsOf (now (table .entry))) s) vid from to)) ⌝ }
 {
-    let mut labels = [0u32; 320];
-    let index = named_tree(table, s, links, vid, from, to, &mut labels);
+    let mut labels = [0u32; LABELS];
+    let index = named_tree(table, s, link_index, vid, from, to, &mut labels);
     if index == 0 {
         return refused(11);
     }
@@ -93,16 +95,16 @@ pub fn path_in_table(
 pub fn path_cost_in_table(
     table: &[u8],
     s: Shape,
-    links: &[u32],
+    link_index: &[u32],
     vid: u32,
     from: u32,
     to: u32,
 ) -> u64
-    requires { ⌜ Checked (now table) (now links) s ⌝ }
+    requires { ⌜ Checked (now table) s × LinkIndex (now «link_index») (now table) s ⌝ }
     ensures { λ r. ⌜ r ≡ costNumber (planPath (planAt (wordsOf (now (table .entry))) s) vid from to) ⌝ }
 {
-    let mut labels = [0u32; 320];
-    let index = named_tree(table, s, links, vid, from, to, &mut labels);
+    let mut labels = [0u32; LABELS];
+    let index = named_tree(table, s, link_index, vid, from, to, &mut labels);
     if index == 0 {
         return Cost::REFUSED + 11;
     }

@@ -7,6 +7,9 @@ ghost use Rattle.rule.specs.Calls.{checkOutcome};
 ghost use Rattle.text.specs.Text.{WrittenAt};
 ghost use Rattle.text.specs.CheckText.{checkText};
 
+// The bytes of a line at most.
+pub const LONGEST_LINE: usize = 62;
+
 // The line at the front of the lent bytes, and its length.
 pub fn write_answer(table: &[u8], out: &mut [u8]) -> usize
     requires { ⌜ 62 ≤ length (now out) ⌝ }

@@ -6,53 +6,32 @@
 // writing assume anything: that C's read and write keep their contracts.
 mod answer;
 
+use crate::answer::LONGEST_LINE;
 use crate::answer::write_answer;
-use table::words::word_at;
-ghost use Prim.Native.Nat.{_≤_};
-ghost use lib.ListN.{length as List·length};
-
-// Whether the next bytes of the input fill the first `length` of the lent ones.
-fn read_table(length: usize, table: &mut [u8]) -> bool
-    requires { ⌜ length ≤ List·length (now table) ⌝ }
-{
-    let got = io::read_full(0, &mut table[..length]);
-    got == length
-}
+use probe_input::tables::LONGEST;
+use probe_input::tables::NextTable;
+use probe_input::tables::TURNS;
+use probe_input::tables::next_table;
 
 // The line of one table.
 fn answer_table(table: &[u8]) -> bool {
-    let mut line = [0u8; 64];
+    let mut line = [0u8; LONGEST_LINE];
     let written = write_answer(table, &mut line);
     io::write_all(1, &line[..written])
 }
 
 // One table read and answered: false at the end of the input, and where it cannot go on.
 fn answer_next() -> bool {
-    let mut head = [0u8; 4];
-    let start = io::read_full(0, &mut head);
-    if start == 0 {
-        return false;
+    let mut table = [0u8; LONGEST];
+    let next = next_table(b"probe_check", &mut table);
+    match next {
+        NextTable::Bytes(length) => answer_table(&table[..length]),
+        NextTable::None => false,
     }
-    if start < 4 {
-        io::write_all(2, b"checking: the input ends inside a length\n");
-        return false;
-    }
-    let length = word_at(&head, 0) as usize;
-    if 8192 < length {
-        io::write_all(2, b"checking: a table of more than 8,192 bytes\n");
-        return false;
-    }
-    let mut table = [0u8; 8192];
-    if !read_table(length, &mut table) {
-        io::write_all(2, b"checking: the input ends inside a table\n");
-        return false;
-    }
-    answer_table(&table[..length])
 }
 
-// A proved loop has to end, and nothing says that the input does: the turns count down from a number that no run uses up.
 fn main() {
-    let mut turns = u64::MAX;
+    let mut turns = TURNS;
     while turns > 0 && answer_next() {
         turns -= 1;
     }

@@ -10,7 +10,7 @@ use Rattle.lists.specs.Lists.{rising}
 use Rattle.graph.specs.Graph.{cost, hops}
 use Rattle.rule.specs.Records.{Vid}
 use Rattle.rule.specs.Outcome.{Outcome, answered, refused, andThen, refusedAs, Written, lentTo, overwritten}
-use Rattle.rule.specs.Plan.{Plan, knownBridge, vidRecord}
+use Rattle.rule.specs.Plan.{Plan, knownBridge, vidRecord, planOfVid}
 use Rattle.rule.specs.Check.{verdict}
 use Rattle.rule.specs.Links.{countUsable, graphOf}
 use Rattle.rule.specs.Paths.{chosenPath}
@@ -50,7 +50,8 @@ pathFound p (some path) = answered (record { values = measured p path; words = p
 -- What the path call answers, whatever list is lent: of an accepted plan, and of a table.
 abbrev pub planPath : Plan → ℕ → ℕ → ℕ → Outcome (Written CostAndHops)
 planPath p vid a b =
-    named (knownBridge p a && knownBridge p b) (vidRecord p vid) λ v. pathFound p (chosenPath p (v .index) a b)
+    named (knownBridge p a && knownBridge p b) (vidRecord p vid) λ v.
+    pathFound (planOfVid p v) (chosenPath (planOfVid p v) (v .index) a b)
 
 unfoldable pub pathAnswer : List ℕ → ℕ → ℕ → ℕ → Outcome (Written CostAndHops)
 pathAnswer t vid a b = andThen (verdict t) λ p. planPath p vid a b
@@ -61,7 +62,7 @@ pathOutcome t vid a b lent = lentTo lent (pathAnswer t vid a b)
 
 -- What the tree call gives of one bridge: the cost, hops and last bridge but one of the path to it, or 0, 0 and 65,535 where none
 -- leads there.
-pub record Place : Type 0 where
+pub record Branch : Type 0 where
   pub cost : ℕ
   pub hops : ℕ
   pub last : ℕ
@@ -73,19 +74,19 @@ lastButOne (u ∷ []) = u
 lastButOne (u ∷ v ∷ []) = u
 lastButOne (u ∷ v ∷ w ∷ t) = lastButOne (v ∷ w ∷ t)
 
-abbrev pub placeOf : Plan → Option (List ℕ) → Place
-placeOf p none = record { cost = 0; hops = 0; last = 65535 }
-placeOf p (some path) = record { cost = cost (graphOf p) path; hops = hops path; last = lastButOne path }
+abbrev pub branchOf : Plan → Option (List ℕ) → Branch
+branchOf p none = record { cost = 0; hops = 0; last = 65535 }
+branchOf p (some path) = record { cost = cost (graphOf p) path; hops = hops path; last = lastButOne path }
 
-unfoldable pub treeOf : Plan → ℕ → ℕ → List Place
-treeOf p index a = map (λ b. placeOf p (chosenPath p index a b)) (rising 0 (length (p .bridges)))
+unfoldable pub treeOf : Plan → ℕ → ℕ → List Branch
+treeOf p index a = map (λ b. branchOf p (chosenPath p index a b)) (rising 0 (length (p .bridges)))
 
 -- The later contents of three lent lists, of which each needs a place for every bridge.
 abbrev pub lentToThree :
     List ℕ →
     List ℕ →
     List ℕ →
-    Outcome (List Place) →
+    Outcome (List Branch) →
     Outcome ℕ × List ℕ × List ℕ × List ℕ
 lentToThree costs hopCounts lasts (refused number kind at) = (refused number kind at, costs, hopCounts, lasts)
 lentToThree costs hopCounts lasts (answered places) =
@@ -99,13 +100,13 @@ lentToThree costs hopCounts lasts (answered places) =
     (refusedAs 13, costs, hopCounts, lasts)
 
 -- What the tree call answers of an accepted plan, whatever lists are lent.
-abbrev pub planPlaces : Plan → ℕ → ℕ → Outcome (List Place)
-planPlaces p vid a = named (knownBridge p a) (vidRecord p vid) λ v. answered (treeOf p (v .index) a)
+abbrev pub planBranches : Plan → ℕ → ℕ → Outcome (List Branch)
+planBranches p vid a = named (knownBridge p a) (vidRecord p vid) λ v. answered (treeOf (planOfVid p v) (v .index) a)
 
 -- Tree (VID, from): for each bridge its place, into three lent lists. A house form: docs/DECISIONS.md.
 unfoldable pub treeOutcome : List ℕ → ℕ → ℕ → List ℕ → List ℕ → List ℕ → Outcome ℕ × List ℕ × List ℕ × List ℕ
 treeOutcome t vid a costs hopCounts lasts =
-    lentToThree costs hopCounts lasts (andThen (verdict t) λ p. planPlaces p vid a)
+    lentToThree costs hopCounts lasts (andThen (verdict t) λ p. planBranches p vid a)
 
 -- What the entries call answers, whatever list is lent: the number of words, and the words; of an accepted plan, and of a table.
 abbrev pub planEntries : Plan → ℕ → Outcome (Written ℕ)

@@ -12,9 +12,13 @@ use Rattle.rule.specs.Records.{Bridge, HalfLink, Member, Record, bridge,
 use Rattle.rule.specs.Outcome.{Outcome, answered, refused, refusedIf}
 use Rattle.rule.specs.Plan.{Plan, noRecords, withRecord, alike, knownBridge, knownVid}
 
+-- The bytes of the longest table: as many records of each kind as there may be.
+abbrev pub longestTable : ℕ
+longestTable = 7492
+
 -- 1. "The table's length is 0, above 7,492 bytes, or no multiple of 4."
 abbrev pub badLength : ℕ → Bool
-badLength n = eqb n 0 || ltb 7492 n || not (eqb (n % 4) 0)
+badLength n = eqb n 0 || ltb longestTable n || not (eqb (n % 4) 0)
 
 -- 6. "A value is outside its range, or the end count is wrong": the count is of the words before the end record.
 abbrev pub outsideRange : List Range → List ℕ → Bool

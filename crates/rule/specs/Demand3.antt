@@ -12,7 +12,7 @@ use Rattle.graph.specs.Order.{Lower}
 use Rattle.graph.specs.Graph.{cost, hops, pathId}
 use Rattle.rule.specs.Records.{HalfLink, Vid, Member, address}
 use Rattle.rule.specs.Outcome.{answered, refusedAs}
-use Rattle.rule.specs.Plan.{Plan, bridgeAt}
+use Rattle.rule.specs.Plan.{Plan, bridgeAt, planOfVid}
 use Rattle.rule.specs.Check.{verdict}
 use Rattle.rule.specs.Links.{Link, to, turned, joined, graphOf}
 use Rattle.rule.specs.Identifiers.{keyOf}
@@ -52,8 +52,12 @@ Chain hs a b (u ∷ []) = (u ≡ a) × (u ≡ b)
 Chain hs a b (u ∷ v ∷ t) = (u ≡ a) × T (joined hs u v) × Chain hs v b (v ∷ t)
 
 module _ (s : Setting) where
+  -- The plan that the paths of the VID are chosen in. Chains, frames, costs and masked PATHIDs are those of it.
+  abbrev pub vidPlan : Plan
+  vidPlan = planOfVid (s .plan) (s .vid)
+
   abbrev pub ChainIn : ℕ → ℕ → List ℕ → Type 0
-  ChainIn a b q = Chain (s .plan .halfLinks) a b q
+  ChainIn a b q = Chain (vidPlan .halfLinks) a b q
 
   -- "no chain of usable links joins a and b".
   abbrev pub Apart : ℕ → ℕ → Type 0
@@ -68,17 +72,17 @@ module _ (s : Setting) where
 
   -- The links that the individual frame from `a` for `b` crosses in `n` moves.
   abbrev pub frame : ℕ → ℕ → ℕ → List Link
-  frame a b n = crossings (leaves (s .plan .halfLinks) (s .lists) (s .vid .vid) (address (bridgeAt (s .plan) b))) b n a
+  frame a b n = crossings (leaves (vidPlan .halfLinks) (s .lists) (s .vid .vid) (address (bridgeAt (s .plan) b))) b n a
 
   -- The ports of the entries of kind 8 for the bridge `b` at the bridge `u`.
   abbrev pub portsFor : ℕ → ℕ → List ℕ
   portsFor u b = entryPorts 8 (s .vid .vid) (address (bridgeAt (s .plan) b)) (s .lists u)
 
   abbrev pub costIn : List ℕ → ℕ
-  costIn q = cost (graphOf (s .plan)) q
+  costIn q = cost (graphOf vidPlan) q
 
   abbrev pub maskedPathId : List ℕ → List ℕ
-  maskedPathId q = pathId (keyOf (s .plan) (s .vid .index)) q
+  maskedPathId q = pathId (keyOf vidPlan (s .vid .index)) q
 
   -- "A group frame from any transmitting member": the member record of its sender.
   pub record Transmits (m : Member) : Type 0 where
@@ -96,7 +100,7 @@ module _ (s : Setting) where
   -- The links by which copies of the group frame of the member `m` leave a bridge.
   abbrev pub copiesOf : Member → ℕ → List Link
   copiesOf m u =
-      copiesLeave (s .plan .halfLinks) (s .lists) (s .vid .vid)
+      copiesLeave (vidPlan .halfLinks) (s .lists) (s .vid .vid)
       (groupAddress (bridgeAt (s .plan) (m .bridge) .spSourceId) (m .isid)) u
 
   -- The sentences
@@ -217,7 +221,7 @@ module _ (s : Setting) where
       Bridges s a b →
       (path : List ℕ) (values : CostAndHops) →
       Given a b path values →
-      values ≡ measured (s .plan) path)
+      values ≡ measured vidPlan path)
       × ((u : ℕ) → u < length (s .plan .bridges) → (s .lists u ≡ entryListOf (s .plan) u) × (length (s .lists u) ≤ 14931))
 
   -- Demand 3.

@@ -8,7 +8,7 @@ use lib.Dec.{eqb}
 use lib.ListN.{length}
 use Rattle.lists.specs.Lists.{rising, selected, anyPasses}
 use Rattle.rule.specs.Records.{HalfLink, Vid, Member, address, allWithin, portLimits}
-use Rattle.rule.specs.Plan.{Plan, bridgeAt}
+use Rattle.rule.specs.Plan.{Plan, bridgeAt, planOfVid}
 use Rattle.rule.specs.Links.{hopLink}
 use Rattle.rule.specs.Paths.{chosenPath}
 
@@ -45,6 +45,8 @@ leavingPort hs b (u ∷ t) = cond (eqb u b) (firstPort hs (u ∷ t)) (leavingPor
 abbrev pub portsOf : (List ℕ → Option ℕ) → Option (List ℕ) → List ℕ
 portsOf port none = []
 portsOf port (some path) = listOf (port path)
+
+-- The entries of one VID. Their plan is the one that the VID's paths are chosen in.
 
 abbrev pub individualEntry : Plan → Vid → ℕ → ℕ → Entry
 individualEntry p v d port = record { kind = 8; vid = v .vid; port = port; address = address (bridgeAt p d) }
@@ -95,7 +97,8 @@ groupEntries p v b ms =
 
 -- "For a bridge, VID by VID in record order."
 unfoldable pub entriesOf : Plan → ℕ → List Entry
-entriesOf p b = flatMap (λ v. individualEntries p v b ++ groupEntries p v b (p .members)) (p .vids)
+entriesOf p b =
+    flatMap (λ v. individualEntries (planOfVid p v) v b ++ groupEntries (planOfVid p v) v b (p .members)) (p .vids)
 
 -- The words of a bridge's list.
 unfoldable pub entryListOf : Plan → ℕ → List ℕ

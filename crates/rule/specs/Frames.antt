@@ -1,5 +1,6 @@
 -- How frames move (01, "Frames"): by the half-links of the table and the words that the entries call wrote, and nothing else.
--- `lists` gives the words of each bridge. Assumes nothing.
+-- `hs` are the half-links of the plan that the paths of the frame's VID are chosen in (`planOfVid`), `lists` gives the words of each
+-- bridge. Assumes nothing.
 use Prim.Native.Nat.{ℕ, zero, suc}
 use mathlib.Core.List.{List, [], _∷_, _++_, map, flatMap}
 use mathlib.Core.Option.{Option, none, some}

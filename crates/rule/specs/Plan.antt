@@ -58,3 +58,8 @@ vidRecord p n = getElem? (selected (hasVid n) (p .vids)) 0
 
 abbrev pub knownVid : Plan → ℕ → Bool
 knownVid p n = anyPasses (hasVid n) (p .vids)
+
+-- The plan that the paths of a VID are chosen in and its frames move over: the plan itself. Request A14 (document 02) puts the plan of
+-- the VID's topology behind this name: the same bridges, VIDs and members, and of the half-links those of that topology.
+abbrev pub planOfVid : Plan → Vid → Plan
+planOfVid p v = p

@@ -1,6 +1,7 @@
 -- Theorems: nothing here is cited by a contract.
 pub mod Accepted
 pub mod OneRecord
+pub mod VidPlan
 pub mod LinkLaws
 pub mod MeasureLaws
 pub mod IdentifierLaws

@@ -1,4 +1,5 @@
 // Check (01, "Calls").
+use key_index::chain::INDEX;
 use links::counts::counts;
 use rule::answer::CheckAnswer;
 use verdict::examine::Examined;
@@ -11,10 +12,10 @@ ghost use Rattle.rule.specs.Calls.{checkOutcome};
 pub fn check(table: &[u8]) -> CheckAnswer
     ensures { λ r. ⌜ checkValues r ≡ checkOutcome (now (table .entry)) ⌝ }
 {
-    let mut links = [0u32; 1536];
-    let examined = examine(table, &mut links);
+    let mut link_index = [0u32; INDEX];
+    let examined = examine(table, &mut link_index);
     match examined {
-        Examined::Accepted(s) => CheckAnswer::Accepted(counts(table, s, &links)),
+        Examined::Accepted(s) => CheckAnswer::Accepted(counts(table, s, &link_index)),
         Examined::Refused { number, kind, word } => CheckAnswer::Refused {
             number: number,
             kind: kind,

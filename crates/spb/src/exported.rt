@@ -1,4 +1,5 @@
 // The functions for the C screens, over numbers and byte slices (01, "Calls"). include/spb.h declares them.
+use key_index::chain::INDEX;
 use path::path::path_cost_in_table;
 use rule::measure::Cost;
 use verdict::examine::Examined;
@@ -11,8 +12,8 @@ ghost use Rattle.rule.specs.Exported.{exportedCheck, exportedPathCost};
 pub extern "C" fn spb_check(table: &[u8]) -> u32
     ensures { λ r. ⌜ r ≡ exportedCheck (now (table .entry)) ⌝ }
 {
-    let mut links = [0u32; 1536];
-    let examined = examine(table, &mut links);
+    let mut link_index = [0u32; INDEX];
+    let examined = examine(table, &mut link_index);
     match examined {
         Examined::Accepted(_) => 0,
         Examined::Refused {
@@ -28,10 +29,10 @@ pub extern "C" fn spb_check(table: &[u8]) -> u32
 pub extern "C" fn spb_path_cost(table: &[u8], vid: u32, from: u32, to: u32) -> u64
     ensures { λ r. ⌜ r ≡ exportedPathCost (now (table .entry)) vid from to ⌝ }
 {
-    let mut links = [0u32; 1536];
-    let examined = examine(table, &mut links);
+    let mut link_index = [0u32; INDEX];
+    let examined = examine(table, &mut link_index);
     match examined {
-        Examined::Accepted(s) => path_cost_in_table(table, s, &links, vid, from, to),
+        Examined::Accepted(s) => path_cost_in_table(table, s, &link_index, vid, from, to),
         Examined::Refused {
             number,
             kind: _,

@@ -1,5 +1,6 @@
 // Tree (the fifth call: docs/DECISIONS.md).
-use path::places::tree_in_table;
+use key_index::chain::INDEX;
+use path::branches::tree_in_table;
 use rule::answer::TreeAnswer;
 use verdict::examine::Examined;
 use verdict::examine::examine;
@@ -21,10 +22,19 @@ pub fn tree(
 ) -> TreeAnswer
     ensures { λ r. ⌜ _≡_ {A = Outcome ℕ × List ℕ × List ℕ × List ℕ} (treeValues r, now (costs .exit), now (hops .exit), now (lasts .exit)) (treeOutcome (now (table .entry)) vid from (now (costs .entry)) (now (hops .entry)) (now (lasts .entry))) ⌝ }
 {
-    let mut links = [0u32; 1536];
-    let examined = examine(table, &mut links);
+    let mut link_index = [0u32; INDEX];
+    let examined = examine(table, &mut link_index);
     match examined {
-        Examined::Accepted(s) => tree_in_table(table, s, &links, vid, from, costs, hops, lasts),
+        Examined::Accepted(s) => tree_in_table(
+            table,
+            s,
+            &link_index,
+            vid,
+            from,
+            costs,
+            hops,
+            lasts,
+        ),
         Examined::Refused { number, kind, word } => TreeAnswer::Refused {
             number: number,
             kind: kind,

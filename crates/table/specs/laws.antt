@@ -2,3 +2,4 @@
 pub mod WordLaws
 pub mod ReaderLaws
 pub mod PositionLaws
+pub mod NumberedLaws

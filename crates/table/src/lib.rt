@@ -3,6 +3,7 @@ pub mod bridge;
 pub mod end;
 pub mod half_link;
 pub mod member;
+pub mod records;
 pub mod shape;
 pub mod vid;
 pub mod words;

@@ -1,5 +1,9 @@
 // How many records of each kind have been read. Kinds never fall, so that this says where every record stands, where the next one
 // begins and which kind came last.
+use rule::kinds::BRIDGE;
+use rule::kinds::HALF_LINK;
+use rule::kinds::MEMBER;
+use rule::kinds::VID;
 ghost use mathlib.Core.Path.{_≡_};
 ghost use Prim.Native.Nat.{_<_};
 ghost use Rattle.table.specs.Positions.{halfLinksFrom, vidsFrom, membersFrom, wordsRead, lastKind};
@@ -49,16 +53,16 @@ impl Shape {
         ensures { λ r. ⌜ r ≡ lastKind self ⌝ }
     {
         if 0 < self.members {
-            return 4;
+            return MEMBER;
         }
         if 0 < self.vids {
-            return 3;
+            return VID;
         }
         if 0 < self.half_links {
-            return 2;
+            return HALF_LINK;
         }
         if 0 < self.bridges {
-            return 1;
+            return BRIDGE;
         }
         0
     }

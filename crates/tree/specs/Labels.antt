@@ -20,16 +20,16 @@ noCost = noPathCost
 
 pub record Label : Type 0 where
   pub waits : ℕ
-  pub far : ℕ
-  pub steps : ℕ
+  pub cost : ℕ
+  pub hops : ℕ
   pub next : ℕ
   pub first : ℕ
 
 abbrev pub labelAt : List ℕ → ℕ → Label
 labelAt labels u = record {
   waits = getD labels u 0;
-  far = getD labels (64 + u) 0;
-  steps = getD labels (128 + u) 0;
+  cost = getD labels (64 + u) 0;
+  hops = getD labels (128 + u) 0;
   next = getD labels (192 + u) 0;
   first = getD labels (256 + u) 0;
 }
@@ -47,10 +47,10 @@ pub record WaitsAt (labels : List ℕ) (n least u : ℕ) : Type 0 where
 
 -- What a label is compared by, and what the way through the bridge `via` is compared by, with its cost and hops.
 abbrev pub labelRank : List ℕ → Label → List ℕ
-labelRank rows b = b .far ∷ b .steps ∷ rowOf rows (b .next) (b .steps)
+labelRank path-ids b = b .cost ∷ b .hops ∷ rowOf path-ids (b .next) (b .hops)
 
 abbrev pub offerRank : List ℕ → ℕ → ℕ → ℕ → List ℕ
-offerRank rows via cost hops = cost ∷ hops ∷ rowOf rows via hops
+offerRank path-ids via cost hops = cost ∷ hops ∷ rowOf path-ids via hops
 
 -- The way through the bridge `via` is the label of the bridge `v` now.
 abbrev pub taken : List ℕ → ℕ → ℕ → ℕ → ℕ → List ℕ
@@ -58,24 +58,24 @@ taken labels via v cost hops = set (set (set (set labels v cost) (64 + v) cost) 
 
 -- The bridge `v` was offered the way through the bridge `via`.
 abbrev pub relaxed : List ℕ → List ℕ → ℕ → ℕ → ℕ → ℕ → List ℕ
-relaxed labels rows via v cost hops =
-    cond (isLower (offerRank rows via cost hops) (labelRank rows (labelAt labels v))) (taken labels via v cost hops) labels
+relaxed labels path-ids via v cost hops =
+    cond (isLower (offerRank path-ids via cost hops) (labelRank path-ids (labelAt labels v))) (taken labels via v cost hops) labels
 
 -- The bridge `u` was settled.
 abbrev pub settledLabels : List ℕ → ℕ → ℕ → List ℕ
 settledLabels labels root u =
     set (set labels (256 + u) (cond (eqb (labelAt labels u .next) root) u (labelAt labels (labelAt labels u .next) .first))) u noCost
 
-abbrev pub settledRows : List ℕ → List ℕ → ℕ → ℕ → List ℕ
-settledRows labels rows u key = spliced rows (rowPlace u) (insertUpward key (rowOf rows (labelAt labels u .next) (labelAt labels u .steps)))
+abbrev pub settledPathIds : List ℕ → List ℕ → ℕ → ℕ → List ℕ
+settledPathIds labels path-ids u key = spliced path-ids (rowPlace u) (insertUpward key (rowOf path-ids (labelAt labels u .next) (labelAt labels u .hops)))
 
--- What the first `n` labels and the rows stand for. A settled bridge has a cost and does not wait.
+-- What the first `n` labels and masked PATHIDs stand for. A settled bridge has a cost and does not wait.
 abbrev pub stateOf : ℕ → List ℕ → List ℕ → State
-stateOf n labels rows = record {
-  settled = λ u. ltb u n && (ltb (labelAt labels u .far) noCost && leb noCost (labelAt labels u .waits));
-  labelled = λ u. ltb (labelAt labels u .far) noCost;
-  far = λ u. labelAt labels u .far;
-  steps = λ u. labelAt labels u .steps;
+stateOf n labels path-ids = record {
+  settled = λ u. ltb u n && (ltb (labelAt labels u .cost) noCost && leb noCost (labelAt labels u .waits));
+  labelled = λ u. ltb (labelAt labels u .cost) noCost;
+  far = λ u. labelAt labels u .cost;
+  steps = λ u. labelAt labels u .hops;
   next = λ u. labelAt labels u .next;
-  row = λ u. rowOf rows u (labelAt labels u .steps + 1);
+  row = λ u. rowOf path-ids u (labelAt labels u .hops + 1);
 }

@@ -1,4 +1,4 @@
--- Labels and rows of a search in lent lists, and what a search keeps true of them.
+-- Labels and masked PATHIDs of a search in lent lists, and what a search keeps true of them.
 pub mod Labels
 pub mod Relaxing
 pub mod Settling

@@ -1,4 +1,4 @@
--- What a search keeps true of its labels and rows.
+-- What a search keeps true of its labels and masked PATHIDs.
 -- Assumes nothing.
 use Prim.Native.Nat.{ℕ, _≤_, _<_}
 use mathlib.Core.Path.{_≡_}
@@ -16,21 +16,21 @@ use Rattle.tree.specs.Labels.{noCost, labelAt, stateOf}
 use Rattle.tree.specs.Trees.{Represents, Keyed, Represented, firstBack}
 
 -- For one graph and key that the lists stand for.
-pub record Tracked (g : Graph) (key : ℕ → ℕ) (n root : ℕ) (labels rows : List ℕ) : Type 0 where
-  pub kept : Kept g key root (stateOf n labels rows)
-  pub waits-or-not : (x : ℕ) → x < n → (labelAt labels x .waits ≡ noCost) ⊎ (labelAt labels x .waits ≡ labelAt labels x .far)
-  pub far-most : (x : ℕ) → x < n → labelAt labels x .far ≤ noCost
-  pub next-in : (x : ℕ) → x < n → labelAt labels x .far < noCost → labelAt labels x .next < n
+pub record Tracked (g : Graph) (key : ℕ → ℕ) (n root : ℕ) (labels path-ids : List ℕ) : Type 0 where
+  pub kept : Kept g key root (stateOf n labels path-ids)
+  pub waits-or-not : (x : ℕ) → x < n → (labelAt labels x .waits ≡ noCost) ⊎ (labelAt labels x .waits ≡ labelAt labels x .cost)
+  pub cost-at-most : (x : ℕ) → x < n → labelAt labels x .cost ≤ noCost
+  pub next-in : (x : ℕ) → x < n → labelAt labels x .cost < noCost → labelAt labels x .next < n
   pub root-next : labelAt labels root .next ≡ root
-  pub first-is : (v : ℕ) → v < n → T (stateOf n labels rows .settled v) → (p : List ℕ) → Chosen g key v root p → labelAt labels v .first ≡ firstBack p
+  pub first-is : (v : ℕ) → v < n → T (stateOf n labels path-ids .settled v) → (p : List ℕ) → Chosen g key v root p → labelAt labels v .first ≡ firstBack p
 
 -- A search under way: the lists stand for some graph and key, and what is kept is kept for every such graph and key.
-pub record Underway (n : ℕ) (starts neighbours costs keys : List ℕ) (root : ℕ) (labels rows : List ℕ) : Type 0 where
+pub record Underway (n : ℕ) (starts neighbours costs keys : List ℕ) (root : ℕ) (labels path-ids : List ℕ) : Type 0 where
   pub root-in : root < n
   pub has-labels : 320 ≤ length labels
-  pub has-rows : 4096 ≤ length rows
+  pub has-path-ids : 4096 ≤ length path-ids
   pub represented : Represented n starts neighbours costs keys
-  pub tracked : (g : Graph) (key : ℕ → ℕ) → Represents g n starts neighbours costs → Keyed g key keys → Tracked g key n root labels rows
+  pub tracked : (g : Graph) (key : ℕ → ℕ) → Represents g n starts neighbours costs → Keyed g key keys → Tracked g key n root labels path-ids
 
 -- How many of the first `n` bridges are not settled.
 abbrev pub openBridges : ℕ → List ℕ → ℕ

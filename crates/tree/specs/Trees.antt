@@ -55,8 +55,8 @@ firstBack (u ∷ v ∷ w ∷ t) = firstBack (v ∷ w ∷ t)
 
 -- What the label says of the chosen path of its bridge to the root. Where no path exists it has no cost.
 abbrev pub SaysPath : Graph → Option (List ℕ) → Label → Type 0
-SaysPath g none b = b .far ≡ noCost
-SaysPath g (some p) b = (b .far ≡ cost g p) × (b .steps ≡ hops p) × (b .next ≡ nextOf p) × (b .first ≡ firstBack p)
+SaysPath g none b = b .cost ≡ noCost
+SaysPath g (some p) b = (b .cost ≡ cost g p) × (b .hops ≡ hops p) × (b .next ≡ nextOf p) × (b .first ≡ firstBack p)
 
 -- The labels are the tree rooted at `root`.
 pub record TreeOf (g : Graph) (key : ℕ → ℕ) (root : ℕ) (labels : List ℕ) : Type 0 where

@@ -5,12 +5,16 @@ use crate::nearest::least_waiting;
 use crate::relax::relax_all;
 use crate::settle::begin;
 use crate::settle::settle;
+use rule::kinds::MOST_BRIDGES;
 use rule::measure::Cost;
 ghost use Prim.Native.Nat.{_≤_, _<_};
 ghost use lib.ListN.{length};
 ghost use Rattle.tree.specs.Labels.{noCost, LeastOf};
 ghost use Rattle.tree.specs.Trees.{Represented, IsTree};
 ghost use Rattle.tree.specs.Tracked.{Underway, openBridges};
+
+// The words of the list that the search keeps masked PATHIDs in: one for each bridge, with a place for each bridge.
+pub const PATH_IDS: usize = MOST_BRIDGES * MOST_BRIDGES;
 
 // Settles the first bridge that waits at the least cost, and offers its neighbours the way through it.
 fn advance(
@@ -19,17 +23,17 @@ fn advance(
     costs: &[u32],
     keys: &[u64],
     labels: &mut [u32],
-    rows: &mut [u64],
+    path_ids: &mut [u64],
     n: usize,
     root: usize,
     least: Cost,
 )
-    requires { ⌜ Underway n (now starts) (now neighbours) (now costs) (now keys) root (now labels) (now rows) × LeastOf (now labels) n (least .0) × (least .0 < noCost) ⌝ }
-    ensures { λ _. ⌜ Underway n (now (starts .entry)) (now (neighbours .entry)) (now (costs .entry)) (now (keys .entry)) root (now (labels .exit)) (now (rows .exit)) × (openBridges n (now (labels .exit)) < openBridges n (now (labels .entry))) ⌝ }
+    requires { ⌜ Underway n (now starts) (now neighbours) (now costs) (now keys) root (now labels) (now «path_ids») × LeastOf (now labels) n (least .0) × (least .0 < noCost) ⌝ }
+    ensures { λ _. ⌜ Underway n (now (starts .entry)) (now (neighbours .entry)) (now (costs .entry)) (now (keys .entry)) root (now (labels .exit)) (now («path_ids» .exit)) × (openBridges n (now (labels .exit)) < openBridges n (now (labels .entry))) ⌝ }
 {
     let u = first_waiting(&labels[..], n, least);
-    settle(labels, rows, keys, root, u);
-    relax_all(starts, neighbours, costs, &rows[..], labels, u);
+    settle(labels, path_ids, keys, root, u);
+    relax_all(starts, neighbours, costs, &path_ids[..], labels, u);
 }
 
 // For each of the `n` bridges the cost, the hops, the next hop towards the root and the first hop from the root of its chosen path to
@@ -40,15 +44,15 @@ pub fn tree(
     costs: &[u32],
     keys: &[u64],
     labels: &mut [u32],
-    rows: &mut [u64],
+    path_ids: &mut [u64],
     n: usize,
     root: usize,
 )
-    requires { ⌜ Represented n (now starts) (now neighbours) (now costs) (now keys) × (root < n) × (320 ≤ length (now labels)) × (4096 ≤ length (now rows)) ⌝ }
+    requires { ⌜ Represented n (now starts) (now neighbours) (now costs) (now keys) × (root < n) × (320 ≤ length (now labels)) × (4096 ≤ length (now «path_ids»)) ⌝ }
     ensures { λ _. ⌜ IsTree n (now (starts .entry)) (now (neighbours .entry)) (now (costs .entry)) (now (keys .entry)) root (now (labels .exit)) ⌝ }
 {
-    begin(labels, rows, keys, n, root);
-    relax_all(starts, neighbours, costs, &rows[..], labels, root);
+    begin(labels, path_ids, keys, n, root);
+    relax_all(starts, neighbours, costs, &path_ids[..], labels, root);
     let mut least = least_waiting(&labels[..], n);
     while least.is_below(Cost::NO_PATH) {
         advance(
@@ -57,7 +61,7 @@ pub fn tree(
             costs,
             keys,
             labels,
-            rows,
+            path_ids,
             n,
             root,
             least,

@@ -1,4 +1,8 @@
 // Settling: a bridge gets its row and its first hop from the root, and waits no more.
+use crate::label::COSTS;
+use crate::label::FIRST_HOPS;
+use crate::label::HOPS;
+use crate::label::NEXT_HOPS;
 use crate::label::hops_at;
 use crate::label::next_at;
 use ect::row::insert_row;
@@ -8,7 +12,7 @@ ghost use mathlib.Core.Bool.{cond};
 ghost use lib.Dec.{eqb};
 ghost use Prim.Native.Nat.{_≤_, _<_};
 ghost use lib.ListN.{length, getD};
-ghost use Rattle.tree.specs.Labels.{settledLabels, settledRows};
+ghost use Rattle.tree.specs.Labels.{settledLabels, settledPathIds};
 ghost use Rattle.tree.specs.Settling.{Settleable, Cleared, Begun};
 
 // The first hop from the root on the way to the bridge `u`: `u` itself, or that on the way to its next hop.
@@ -19,13 +23,13 @@ fn first_hop(u: u32, next: usize, root: usize, first: u32) -> u32
 }
 
 // Settles the bridge `u` with its label.
-pub fn settle(labels: &mut [u32], rows: &mut [u64], keys: &[u64], root: usize, u: usize)
-    requires { ⌜ Settleable (now labels) (now rows) (now keys) u ⌝ }
-    ensures { λ _. ⌜ (now (labels .exit) ≡ settledLabels (now (labels .entry)) root u) × (now (rows .exit) ≡ settledRows (now (labels .entry)) (now (rows .entry)) u (getD (now (keys .entry)) u 0)) ⌝ }
+pub fn settle(labels: &mut [u32], path_ids: &mut [u64], keys: &[u64], root: usize, u: usize)
+    requires { ⌜ Settleable (now labels) (now «path_ids») (now keys) u ⌝ }
+    ensures { λ _. ⌜ (now (labels .exit) ≡ settledLabels (now (labels .entry)) root u) × (now («path_ids» .exit) ≡ settledPathIds (now (labels .entry)) (now («path_ids» .entry)) u (getD (now (keys .entry)) u 0)) ⌝ }
 {
     let next = next_at(&labels[..], u);
-    insert_row(rows, next, u, hops_at(&labels[..], u).count(), keys[u]);
-    labels[256 + u] = first_hop(u as u32, next, root, labels[256 + next]);
+    insert_row(path_ids, next, u, hops_at(&labels[..], u).count(), keys[u]);
+    labels[FIRST_HOPS + u] = first_hop(u as u32, next, root, labels[FIRST_HOPS + next]);
     labels[u] = Cost::NO_PATH.0;
 }
 
@@ -37,20 +41,20 @@ fn clear(labels: &mut [u32], n: usize)
     let mut u = 0;
     while u < n {
         labels[u] = Cost::NO_PATH.0;
-        labels[64 + u] = Cost::NO_PATH.0;
+        labels[COSTS + u] = Cost::NO_PATH.0;
         u += 1;
     }
 }
 
 // The root alone is settled: "a path from a bridge to itself is that bridge, cost 0, hops 0".
-pub fn begin(labels: &mut [u32], rows: &mut [u64], keys: &[u64], n: usize, root: usize)
-    requires { ⌜ (n ≤ 64) × (root < n) × (320 ≤ length (now labels)) × (4096 ≤ length (now rows)) × (n ≤ length (now keys)) ⌝ }
-    ensures { λ _. ⌜ Begun n root (getD (now (keys .entry)) root 0) (now (labels .entry)) (now (rows .entry)) (now (labels .exit)) (now (rows .exit)) ⌝ }
+pub fn begin(labels: &mut [u32], path_ids: &mut [u64], keys: &[u64], n: usize, root: usize)
+    requires { ⌜ (n ≤ 64) × (root < n) × (320 ≤ length (now labels)) × (4096 ≤ length (now «path_ids»)) × (n ≤ length (now keys)) ⌝ }
+    ensures { λ _. ⌜ Begun n root (getD (now (keys .entry)) root 0) (now (labels .entry)) (now («path_ids» .entry)) (now (labels .exit)) (now («path_ids» .exit)) ⌝ }
 {
     clear(labels, n);
-    labels[64 + root] = 0;
-    labels[128 + root] = 0;
-    labels[192 + root] = root as u32;
-    labels[256 + root] = root as u32;
-    rows[root * 64] = keys[root];
+    labels[COSTS + root] = 0;
+    labels[HOPS + root] = 0;
+    labels[NEXT_HOPS + root] = root as u32;
+    labels[FIRST_HOPS + root] = root as u32;
+    path_ids[root * 64] = keys[root];
 }

@@ -1,13 +1,15 @@
--- What the examination of a table answers, and what is known then. Assumes nothing.
-use Prim.Native.Nat.{ℕ, _-_, _≤_}
+-- What the examination of a table answers, and what the layers above need of a table that it accepts. Assumes nothing.
+use Prim.Native.Nat.{ℕ}
 use mathlib.Core.Path.{_≡_}
 use mathlib.Core.List.{List}
-use lib.ListN.{length}
+use Rattle.rule.specs.Words.{wordsOf}
 use Rattle.rule.specs.Outcome.{Outcome, answered, refused}
 use Rattle.rule.specs.Answers.{kindNumber}
 use Rattle.rule.specs.Plan.{Plan}
+use Rattle.rule.specs.PlanLaws.{PlanLaws}
 use Rattle.table.specs.declared.shape.Shape.{Shape}
-use Rattle.table.specs.Positions.{halfLinksFrom, wordsRead, planAt}
+use Rattle.table.specs.Positions.{halfLinksFrom, planAt}
+use Rattle.table.specs.Whole.{Whole}
 use Rattle.faults.specs.HalfLinks.{numberKey, Keyed}
 use Rattle.verdict.specs.declared.examine.Examined.{Examined}
 
@@ -16,10 +18,15 @@ abbrev pub examinedValues : List ℕ → Examined → Outcome Plan
 examinedValues ws (Examined.Accepted s) = answered (planAt ws s)
 examinedValues ws (Examined.Refused number kind at) = refused number (kindNumber kind) at
 
--- What is known of an accepted table: its records are within its words, and the list is the index of its link numbers.
-pub record Shaped (ws links : List ℕ) (s : Shape) : Type 0 where
-  pub within : wordsRead s ≤ length ws
-  pub by-number : Keyed numberKey links ws (halfLinksFrom s) (s .«half_links»)
+-- A checked table: its records are those of the shape `s`, and none of the faults 1 to 10 applies to them.
+pub record Checked (t : List ℕ) (s : Shape) : Type 0 where
+  pub whole : Whole t s
+  pub laws : PlanLaws (planAt (wordsOf t) s)
 
-abbrev pub Known : List ℕ → List ℕ → Examined → Type 0
-Known ws links r = (s : Shape) → r ≡ Examined.Accepted s → Shaped ws links s
+-- The list is the index of the link numbers of its half-links.
+abbrev pub LinkIndex : List ℕ → List ℕ → Shape → Type 0
+LinkIndex index t s = Keyed numberKey index (wordsOf t) (halfLinksFrom s) (s .«half_links»)
+
+-- A table that is accepted is a checked one, and the list is its link index.
+abbrev pub Passed : List ℕ → List ℕ → Examined → Type 0
+Passed t index r = (s : Shape) → r ≡ Examined.Accepted s → Checked t s × LinkIndex index t s

@@ -2,3 +2,4 @@
 pub mod StepLaws
 pub mod KindLaws
 pub mod ExaminationLaws
+pub mod CheckedLaws

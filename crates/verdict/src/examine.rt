@@ -2,13 +2,15 @@
 // and the index of its link numbers.
 use crate::step::Step;
 use crate::step::read_record;
+use key_index::chain::INDEX;
 use rule::answer::RecordKind;
+use rule::kinds::LONGEST_TABLE;
 use table::shape::Shape;
 ghost use mathlib.Core.Path.{_≡_};
 ghost use Rattle.rule.specs.Words.{wordsOf};
 ghost use Rattle.rule.specs.Check.{badLength, verdict};
 ghost use Rattle.key_index.specs.Index.{Indexed};
-ghost use Rattle.verdict.specs.Examination.{examinedValues, Known};
+ghost use Rattle.verdict.specs.Examination.{examinedValues, Passed};
 
 pub enum Examined {
     Accepted(Shape),
@@ -26,17 +28,17 @@ fn has_bad_length(bytes: usize) -> bool
     if bytes == 0 {
         return true;
     }
-    if 7492 < bytes {
+    if LONGEST_TABLE < bytes {
         return true;
     }
     bytes % 4 != 0
 }
 
 // The lent list is an index of no key, and of the link numbers of an accepted table afterwards.
-pub fn examine(table: &[u8], links: &mut [u32]) -> Examined
-    requires { ⌜ Indexed (now links) 0 ⌝ }
+pub fn examine(table: &[u8], link_index: &mut [u32]) -> Examined
+    requires { ⌜ Indexed (now «link_index») 0 ⌝ }
     ensures { λ r. ⌜ examinedValues (wordsOf (now (table .entry))) r ≡ verdict (now (table .entry)) ⌝ }
-    ensures { λ r. ⌜ Known (wordsOf (now (table .entry))) (now (links .exit)) r ⌝ }
+    ensures { λ r. ⌜ Passed (now (table .entry)) (now («link_index» .exit)) r ⌝ }
 {
     if has_bad_length(table.len()) {
         return Examined::Refused {
@@ -45,7 +47,7 @@ pub fn examine(table: &[u8], links: &mut [u32]) -> Examined
             word: 0,
         };
     }
-    let mut ports = [0u32; 1536];
+    let mut port_index = [0u32; INDEX];
     let words = table.len() / 4;
     let mut s = Shape {
         bridges: 0,
@@ -55,7 +57,7 @@ pub fn examine(table: &[u8], links: &mut [u32]) -> Examined
     };
     let mut left = words;
     while 0 < left {
-        let read = read_record(table, s, &mut ports, links);
+        let read = read_record(table, s, &mut port_index, link_index);
         match read {
             Step::Next(t) => {
                 s = t;

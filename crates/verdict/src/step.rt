@@ -7,16 +7,21 @@ use faults::lowest::member_fault;
 use faults::lowest::vid_fault;
 use key_index::entry::enter;
 use rule::answer::RecordKind;
+use rule::kinds::BRIDGE;
+use rule::kinds::END;
+use rule::kinds::HALF_LINK;
+use rule::kinds::MEMBER;
+use rule::kinds::VID;
 use table::half_link::half_link_at;
 use table::shape::Shape;
 use table::words::word_at;
 ghost use mathlib.Core.Path.{_≡_};
-ghost use Prim.Native.Nat.{_*_, _≤_, _<_};
-ghost use lib.ListN.{length};
+ghost use Prim.Native.Nat.{_<_};
 ghost use Rattle.rule.specs.Words.{wordsOf};
 ghost use Rattle.rule.specs.Records.{bridgeLayout, halfLinkLayout, vidLayout, memberLayout, endLayout};
 ghost use Rattle.rule.specs.Check.{stepOf};
-ghost use Rattle.table.specs.Positions.{wordsRead, readingAt};
+ghost use Rattle.table.specs.Positions.{readingAt};
+ghost use Rattle.table.specs.Whole.{Whole};
 ghost use Rattle.verdict.specs.Steps.{concerned, Indexes, Stepped, stepAs, Still, Kept};
 ghost use Rattle.verdict.specs.declared.step.Step.{Step};
 
@@ -50,7 +55,7 @@ fn refusal(number: u32, kind: RecordKind, word: usize) -> Step
 }
 
 fn after_bridge(table: &[u8], s: Shape) -> Step
-    requires { ⌜ (4 * wordsRead s ≤ length (now table)) × (length (now table) ≤ 7492) ⌝ }
+    requires { ⌜ Whole (now table) s ⌝ }
     ensures { λ r. ⌜ Stepped (wordsOf (now (table .entry))) s (stepAs (wordsOf (now (table .entry))) s bridgeLayout) r × Still s r ⌝ }
 {
     let fault = bridge_fault(table, s);
@@ -65,20 +70,20 @@ fn after_bridge(table: &[u8], s: Shape) -> Step
     })
 }
 
-fn after_half_link(table: &[u8], s: Shape, ports: &mut [u32], links: &mut [u32]) -> Step
-    requires { ⌜ (4 * wordsRead s ≤ length (now table)) × (length (now table) ≤ 7492) ⌝ }
-    requires { ⌜ Indexes (now ports) (now links) (wordsOf (now table)) s ⌝ }
+fn after_half_link(table: &[u8], s: Shape, port_index: &mut [u32], link_index: &mut [u32]) -> Step
+    requires { ⌜ Whole (now table) s ⌝ }
+    requires { ⌜ Indexes (now «port_index») (now «link_index») (wordsOf (now table)) s ⌝ }
     ensures { λ r. ⌜ Stepped (wordsOf (now (table .entry))) s (stepAs (wordsOf (now (table .entry))) s halfLinkLayout) r ⌝ }
-    ensures { λ r. ⌜ Kept (wordsOf (now (table .entry))) (now (ports .exit)) (now (links .exit)) s r ⌝ }
+    ensures { λ r. ⌜ Kept (wordsOf (now (table .entry))) (now («port_index» .exit)) (now («link_index» .exit)) s r ⌝ }
 {
-    let fault = half_link_fault(table, s, &ports[..], &links[..]);
+    let fault = half_link_fault(table, s, &port_index[..], &link_index[..]);
     let at = s.words_read();
     if fault != 0 {
         return refusal(fault, RecordKind::HalfLink, at);
     }
     let h = half_link_at(table, at);
-    enter(ports, s.half_links, port_key(h.near, h.port));
-    enter(links, s.half_links, h.link);
+    enter(port_index, s.half_links, port_key(h.near, h.port));
+    enter(link_index, s.half_links, h.link);
     Step::Next(Shape {
         bridges: s.bridges,
         half_links: s.half_links + 1,
@@ -88,7 +93,7 @@ fn after_half_link(table: &[u8], s: Shape, ports: &mut [u32], links: &mut [u32])
 }
 
 fn after_vid(table: &[u8], s: Shape) -> Step
-    requires { ⌜ (4 * wordsRead s ≤ length (now table)) × (length (now table) ≤ 7492) ⌝ }
+    requires { ⌜ Whole (now table) s ⌝ }
     ensures { λ r. ⌜ Stepped (wordsOf (now (table .entry))) s (stepAs (wordsOf (now (table .entry))) s vidLayout) r × Still s r ⌝ }
 {
     let fault = vid_fault(table, s);
@@ -104,7 +109,7 @@ fn after_vid(table: &[u8], s: Shape) -> Step
 }
 
 fn after_member(table: &[u8], s: Shape) -> Step
-    requires { ⌜ (4 * wordsRead s ≤ length (now table)) × (length (now table) ≤ 7492) ⌝ }
+    requires { ⌜ Whole (now table) s ⌝ }
     ensures { λ r. ⌜ Stepped (wordsOf (now (table .entry))) s (stepAs (wordsOf (now (table .entry))) s memberLayout) r × Still s r ⌝ }
 {
     let fault = member_fault(table, s);
@@ -120,7 +125,7 @@ fn after_member(table: &[u8], s: Shape) -> Step
 }
 
 fn after_end(table: &[u8], s: Shape) -> Step
-    requires { ⌜ (4 * wordsRead s ≤ length (now table)) × (length (now table) ≤ 7492) ⌝ }
+    requires { ⌜ Whole (now table) s ⌝ }
     ensures { λ r. ⌜ Stepped (wordsOf (now (table .entry))) s (stepAs (wordsOf (now (table .entry))) s endLayout) r × Still s r ⌝ }
 {
     let fault = end_fault(table, s);
@@ -131,11 +136,11 @@ fn after_end(table: &[u8], s: Shape) -> Step
 }
 
 // The record after those of `s`, whatever its kind.
-pub fn read_record(table: &[u8], s: Shape, ports: &mut [u32], links: &mut [u32]) -> Step
-    requires { ⌜ (4 * wordsRead s ≤ length (now table)) × (length (now table) ≤ 7492) ⌝ }
-    requires { ⌜ Indexes (now ports) (now links) (wordsOf (now table)) s ⌝ }
+pub fn read_record(table: &[u8], s: Shape, port_index: &mut [u32], link_index: &mut [u32]) -> Step
+    requires { ⌜ Whole (now table) s ⌝ }
+    requires { ⌜ Indexes (now «port_index») (now «link_index») (wordsOf (now table)) s ⌝ }
     ensures { λ r. ⌜ Stepped (wordsOf (now (table .entry))) s (stepOf (wordsOf (now (table .entry))) (readingAt (wordsOf (now (table .entry))) s)) r ⌝ }
-    ensures { λ r. ⌜ Kept (wordsOf (now (table .entry))) (now (ports .exit)) (now (links .exit)) s r ⌝ }
+    ensures { λ r. ⌜ Kept (wordsOf (now (table .entry))) (now («port_index» .exit)) (now («link_index» .exit)) s r ⌝ }
 {
     let at = s.words_read();
     let words = table.len() / 4;
@@ -147,19 +152,19 @@ pub fn read_record(table: &[u8], s: Shape, ports: &mut [u32], links: &mut [u32])
         };
     }
     let kind = word_at(table, at) / 268435456;
-    if kind == 1 {
+    if kind == BRIDGE {
         return after_bridge(table, s);
     }
-    if kind == 2 {
-        return after_half_link(table, s, ports, links);
+    if kind == HALF_LINK {
+        return after_half_link(table, s, port_index, link_index);
     }
-    if kind == 3 {
+    if kind == VID {
         return after_vid(table, s);
     }
-    if kind == 4 {
+    if kind == MEMBER {
         return after_member(table, s);
     }
-    if kind == 15 {
+    if kind == END {
         return after_end(table, s);
     }
     Step::Refused {

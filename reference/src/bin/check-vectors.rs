@@ -1,4 +1,4 @@
-//! The stored case of the program `checking`: the worked example of document 01,
+//! The stored case of the program `probe_check`: the worked example of document 01,
 //! an empty table, the table of one word, and for each refusal number and kind
 //! one damaged table. Holds a folder's `stdin` and `stdout` to it, or
 //! writes them with `--write`.

@@ -1,7 +1,7 @@
-//! Questions to a table for the program `asking`: names that the table has and
+//! Questions to a table for the program `probe_calls`: names that the table has and
 //! names that it lacks, lists that hold the answer and lists that do not.
 
-use crate::asking::{Question, MOST_PLACES};
+use crate::call_lines::{Question, MOST_PLACES};
 use crate::checked::Checked;
 use crate::entries::{entry_words, LONGEST_LIST};
 use crate::path::named_path;
@@ -108,7 +108,7 @@ mod tests {
     use std::collections::BTreeMap;
 
     use super::*;
-    use crate::asking::answer_lines;
+    use crate::call_lines::answer_lines;
     use crate::generate::stream::case;
 
     /// How often each call is answered and how often refused with which number.

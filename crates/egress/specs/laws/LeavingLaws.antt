@@ -1,21 +1,20 @@
 -- The labels of a plan's tree give the ports by which the chosen paths from the root leave a bridge (01, "Entries"). Assumes nothing.
-use Prim.Native.Nat.{ℕ, suc, _+_, _*_, _≤_, _<_}
+use Prim.Native.Nat.{ℕ, _+_, _*_, _≤_, _<_}
 use native.Mathlib.Omega.{arith}
 use mathlib.Core.Path.{_≡_, refl, sym, ap, _∙_, subst}
 use mathlib.Core.List.{List, [], _∷_, _++_, reverse, reverse-cons, append-assoc}
-use mathlib.Core.Option.{Option, none, some, Option·map}
+use mathlib.Core.Option.{Option, none, some}
 use mathlib.Core.Logic.{_⊎_, inl, inr}
-use mathlib.Core.Bool.{Bool, true, false, cond}
+use mathlib.Core.Bool.{Bool, cond}
 use lib.Dec.{eqb}
 use lib.ListN.{length, getD}
 use borrow.Author.Tests.{eq-eqb, ne-eqb}
 use Rattle.lists.specs.Members.{In}
 use Rattle.lists.specs.laws.ListNotions.{Distinct}
 use Rattle.lists.specs.laws.NumberLaws.{same-or-not}
-use Rattle.lists.specs.laws.MemberLaws.{none-not-some, in-left, in-append}
+use Rattle.lists.specs.laws.MemberLaws.{none-not-some, in-append}
 use Rattle.graph.specs.Graph.{Graph, GraphLaws, KeyLaws, cost, hops}
 use Rattle.graph.specs.laws.Ranks.{cost-most}
-use Rattle.graph.specs.laws.Notions.{Least}
 use Rattle.graph.specs.laws.Paths.{entered-inside}
 use Rattle.graph.specs.Chosen.{Chosen, chosen}
 use Rattle.graph.specs.laws.Enumeration.{chosen-is, is-chosen}
@@ -23,7 +22,7 @@ use Rattle.graph.specs.laws.ChosenPaths.{chosen-first, chosen-distinct, chosen-
 use Rattle.graph.specs.laws.Forwarding.{chosen-after}
 use Rattle.rule.specs.Records.{HalfLink}
 use Rattle.rule.specs.Plan.{Plan}
-use Rattle.rule.specs.Links.{Link, hopLink, graphOf}
+use Rattle.rule.specs.Links.{graphOf}
 use Rattle.rule.specs.laws.LinkLaws.{graph-laws}
 use Rattle.rule.specs.Identifiers.{keyOf}
 use Rattle.rule.specs.laws.IdentifierLaws.{key-laws}
@@ -32,7 +31,8 @@ use Rattle.rule.specs.Entries.{firstPort, leavingPort}
 use Rattle.rule.specs.laws.Network.{chosen-is-path, path-is-chosen}
 use Rattle.tree.specs.Labels.{noCost, labelAt}
 use Rattle.tree.specs.Trees.{SaysPath}
-use Rattle.network.specs.PlanLists.{ListsOf, PlanTree}
+use Rattle.network.specs.Layout.{bridgesIn}
+use Rattle.network.specs.Networks.{NetworkOf, PlanTree}
 use Rattle.egress.specs.Leaving.{numberOf, portTo, PlanHops, portOn, walked, leavingBy, Walkable}
 
 -- On the way back
@@ -115,8 +115,10 @@ module _ (hs : List HalfLink) (b : ℕ) where
 
 -- By the labels
 
-module _ {p : Plan} {n : ℕ} {starts neighbours costs identifiers : List ℕ} (B : ListsOf p n starts neighbours costs identifiers)
-    (index a : ℕ) {labels : List ℕ} (R : PlanTree p index a labels) where
+module _ {p : Plan} {net : List ℕ} (B : NetworkOf p net) (index a : ℕ) {labels : List ℕ} (R : PlanTree p index a labels) where
+  abbrev n : ℕ
+  n = bridgesIn net
+
   abbrev g : Graph
   g = graphOf p
 
@@ -146,7 +148,7 @@ module _ {p : Plan} {n : ℕ} {starts neighbours costs identifiers : List ℕ} (
   said : (u : ℕ) (t : List ℕ) → u < n → Chosen g key u a (u ∷ t) → SaysPath g (some (u ∷ t)) (labelAt labels u)
   said u t l P = subst (λ (o : Option (List ℕ)). SaysPath g o (labelAt labels u)) (is-chosen g G key K u a (u ∷ t) P) (R .each u (inside u l))
 
-  reached : (u : ℕ) (t : List ℕ) → u < n → Chosen g key u a (u ∷ t) → labelAt labels u .far ≡ noCost → ⊥
+  reached : (u : ℕ) (t : List ℕ) → u < n → Chosen g key u a (u ∷ t) → labelAt labels u .cost ≡ noCost → ⊥
   reached u t l P e = omega (arith, said u t l P .0, costs-less u t P)
 
   next-inside : (u v : ℕ) (t : List ℕ) → Chosen g key u a (u ∷ v ∷ t) → v < n
@@ -155,8 +157,8 @@ module _ {p : Plan} {n : ℕ} {starts neighbours costs identifiers : List ℕ} (
   pub tree-walkable : Walkable labels n
   tree-walkable = record { most = B .represents .most; onward = λ u l f h. go u l f h (chosen g key u a) refl }
     where
-      along : (u : ℕ) (t : List ℕ) → u < n → 0 < labelAt labels u .steps → Chosen g key u a (u ∷ t)
-          → (labelAt labels u .next < n) × (labelAt labels (labelAt labels u .next) .far ≡ noCost → ⊥) × (labelAt labels u .steps ≡ labelAt labels (labelAt labels u .next) .steps + 1)
+      along : (u : ℕ) (t : List ℕ) → u < n → 0 < labelAt labels u .hops → Chosen g key u a (u ∷ t)
+          → (labelAt labels u .next < n) × (labelAt labels (labelAt labels u .next) .cost ≡ noCost → ⊥) × (labelAt labels u .hops ≡ labelAt labels (labelAt labels u .next) .hops + 1)
       along u [] l h P = absurd (omega (arith, said u [] l P .1))
       along u (v ∷ t) l h P =
           let S = said u (v ∷ t) l P
@@ -164,13 +166,16 @@ module _ {p : Plan} {n : ℕ} {starts neighbours costs identifiers : List ℕ} (
           in let Q = chosen-after g key u v a t P
           in rw (S .2) (m, reached v t m Q, omega (arith, S .1, said v t m Q .1))
 
-      go : (u : ℕ) → u < n → (labelAt labels u .far ≡ noCost → ⊥) → 0 < labelAt labels u .steps → (o : Option (List ℕ)) → chosen g key u a ≡ o
-          → (labelAt labels u .next < n) × (labelAt labels (labelAt labels u .next) .far ≡ noCost → ⊥) × (labelAt labels u .steps ≡ labelAt labels (labelAt labels u .next) .steps + 1)
+      go : (u : ℕ) → u < n → (labelAt labels u .cost ≡ noCost → ⊥) → 0 < labelAt labels u .hops → (o : Option (List ℕ)) → chosen g key u a ≡ o
+          → (labelAt labels u .next < n) × (labelAt labels (labelAt labels u .next) .cost ≡ noCost → ⊥) × (labelAt labels u .hops ≡ labelAt labels (labelAt labels u .next) .hops + 1)
       go u l f h none e = absurd (f (subst (λ (o : Option (List ℕ)). SaysPath g o (labelAt labels u)) e (R .each u (inside u l))))
       go u l f h (some q) e =
           let P = chosen-is g G key K u a q e
           in let (t, i, W) = chosen-first g key u a q P
           in along u t l h (subst (λ (z : List ℕ). Chosen g key u a z) i P)
+
+  pub walkable-by : (m : ℕ) → m ≡ bridgesIn net → Walkable labels m
+  walkable-by m e = subst (λ (x : ℕ). Walkable labels x) (sym e) tree-walkable
 
   module _ (b : ℕ) {hopPorts : List ℕ} (H : PlanHops p n b hopPorts) where
     walked-is : (d : ℕ) (t : List ℕ) → d < n → Chosen g key d a (d ∷ t) → walked labels hopPorts b (length t) d ≡ comesTo (portTo (p .halfLinks) b) b (d ∷ t)
@@ -192,19 +197,19 @@ module _ {p : Plan} {n : ℕ} {starts neighbours costs identifiers : List ℕ} (
 
         by-path : (t : List ℕ) → Chosen g key d a (d ∷ t) → leavingBy labels hopPorts b d ≡ portOn (p .halfLinks) b (chosenPath p index a d)
         by-path t P =
-            ap (λ (c : Bool). cond c 0 (walked labels hopPorts b (labelAt labels d .steps) d)) (ne-eqb (labelAt labels d .far) noCost (reached d t l P))
-            ∙ ap (λ (k : ℕ). walked labels hopPorts b k d) steps
+            ap (λ (c : Bool). cond c 0 (walked labels hopPorts b (labelAt labels d .hops) d)) (ne-eqb (labelAt labels d .cost) noCost (reached d t l P))
+            ∙ ap (λ (k : ℕ). walked labels hopPorts b k d) hop-count
             ∙ walked-is d t l P
             ∙ sym (leaves-reversed (p .halfLinks) b (d ∷ t) (chosen-distinct g key d a (d ∷ t) P))
             ∙ ap (portOn (p .halfLinks) b) (sym (chosen-is-path p (B .laws) index a d (reverse (d ∷ t)) (chosen-reverse g G key d a (d ∷ t) P)))
           where
-            steps : labelAt labels d .steps ≡ length t
-            steps = omega (arith, said d t l P .1)
+            hop-count : labelAt labels d .hops ≡ length t
+            hop-count = omega (arith, said d t l P .1)
 
         go : (o : Option (List ℕ)) → chosen g key d a ≡ o → leavingBy labels hopPorts b d ≡ portOn (p .halfLinks) b (chosenPath p index a d)
         go none e =
-            ap (λ (c : Bool). cond c 0 (walked labels hopPorts b (labelAt labels d .steps) d))
-            (eq-eqb (labelAt labels d .far) noCost (subst (λ (o : Option (List ℕ)). SaysPath g o (labelAt labels d)) e (R .each d (inside d l))))
+            ap (λ (c : Bool). cond c 0 (walked labels hopPorts b (labelAt labels d .hops) d))
+            (eq-eqb (labelAt labels d .cost) noCost (subst (λ (o : Option (List ℕ)). SaysPath g o (labelAt labels d)) e (R .each d (inside d l))))
             ∙ sym (ap (portOn (p .halfLinks) b) (no-path e (chosenPath p index a d) refl))
         go (some q) e =
             let P = chosen-is g G key K d a q e

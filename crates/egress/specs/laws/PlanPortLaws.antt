@@ -1,4 +1,4 @@
--- The ports of a bridge of an accepted plan: the neighbour lists of the plan give the port of each hop, and all of them rising.
+-- The ports of a bridge of an accepted plan: its network gives the port of each hop, and all of them rising.
 -- Assumes nothing.
 use Prim.Native.Nat.{ℕ, _≤_, _<_}
 use native.Mathlib.Omega.{arith}
@@ -12,9 +12,10 @@ use Rattle.rule.specs.Plan.{Plan}
 use Rattle.rule.specs.PlanLaws.{PlanLaws}
 use Rattle.rule.specs.Links.{Link, hopLink}
 use Rattle.rule.specs.laws.LinkLaws.{hop-takes}
-use Rattle.links.specs.Neighbours.{NeighboursOf}
-use Rattle.network.specs.PlanLists.{ListsOf}
-use Rattle.egress.specs.Hops.{PlaceOf, HopLists, HopPorts, InRange, RisingPorts}
+use Rattle.network.specs.Layout.{bridgesIn, neighboursIn, portsIn}
+use Rattle.network.specs.Networks.{NetworkOf}
+use Rattle.egress.specs.Hops.{PlaceOf, HopPorts, InRange, RisingPorts}
+use Rattle.egress.specs.laws.HopLaws.{HopLists}
 use Rattle.egress.specs.Leaving.{numberOf, portTo, PlanHops}
 
 -- The ports of a bridge of a plan, rising: those of its hops, all within their range.
@@ -40,39 +41,36 @@ module _ (p : Plan) (L : PlanLaws p) (b u : ℕ) where
     L .half-links .fits (l .here) (hop-takes (p .halfLinks) b u l e .link .here-listed) .least-port,
   )
 
-module _ {p : Plan} {n : ℕ} {starts neighbours costs ports identifiers : List ℕ} (B : ListsOf p n starts neighbours costs identifiers)
-    (N : NeighboursOf p n starts neighbours costs ports) (room : 512 ≤ length ports) (b : ℕ) (known : b < n) where
-  hop-at : (i : ℕ) → PlaceOf starts b i
-      → (l : Link) × (hopLink (p .halfLinks) b (getD neighbours i 0) ≡ some l) × (getD ports i 0 ≡ l .here .port)
-  hop-at i (h, k) = let (l, e, f, g) = N .joined b i known h k in (l, e, g)
+module _ {p : Plan} {net : List ℕ} (B : NetworkOf p net) (b : ℕ) (known : b < bridgesIn net) where
+  hop-at : (i : ℕ) → PlaceOf net b i
+      → (l : Link) × (hopLink (p .halfLinks) b (getD (neighboursIn net) i 0) ≡ some l) × (getD (portsIn net) i 0 ≡ l .here .port)
+  hop-at i (h, k) = let (l, e, f, g) = B .hops .joined b i known h k in (l, e, g)
 
-  pub hop-lists : HopLists n starts neighbours ports b
+  pub hop-lists : HopLists net b
   hop-lists = record {
-    has-starts = omega (arith, B .represents .has-starts);
-    in-order = N .in-order b known;
-    has-neighbours = B .represents .has-neighbours b known;
-    has-ports = omega (arith, N .few b known);
+    in-order = B .hops .in-order b known;
+    few = B .hops .few b known;
     inside = λ i k.
         let (l, e, f) = hop-at i k
-        in let K = hop-takes (p .halfLinks) b (getD neighbours i 0) l e
+        in let K = hop-takes (p .halfLinks) b (getD (neighboursIn net) i 0) l e
         in omega (arith, B .laws .half-links .fits (l .here) (K .link .here-listed) .far-known, K .far, B .represents .size-is);
     fits = λ i k.
         let (l, e, f) = hop-at i k
-        in omega (arith, B .laws .half-links .fits (l .here) (hop-takes (p .halfLinks) b (getD neighbours i 0) l e .link .here-listed) .greatest-port);
+        in omega (arith, B .laws .half-links .fits (l .here) (hop-takes (p .halfLinks) b (getD (neighboursIn net) i 0) l e .link .here-listed) .greatest-port);
     one-port = λ i j h k e.
         let (l, f, g) = hop-at i h
         in let (m, q, r) = hop-at j k
         in g ∙ ap (λ (x : Link). x .here .port) (some-one (sym f ∙ ap (hopLink (p .halfLinks) b) e ∙ q)) ∙ sym r;
   }
 
-  pub plan-hops : {hops : List ℕ} → HopPorts n starts neighbours ports b hops → PlanHops p n b hops
+  pub plan-hops : {hops : List ℕ} → HopPorts net b hops → PlanHops p (bridgesIn net) b hops
   plan-hops {hops} H = record { each = λ u l. go u l (hopLink (p .halfLinks) b u) refl }
     where
-      go : (u : ℕ) → u < n → (o : Option Link) → hopLink (p .halfLinks) b u ≡ o → getD hops u 0 ≡ numberOf (Option·map (λ l. l .here .port) o)
+      go : (u : ℕ) → u < bridgesIn net → (o : Option Link) → hopLink (p .halfLinks) b u ≡ o → getD hops u 0 ≡ numberOf (Option·map (λ l. l .here .port) o)
       go u l none e = H .no-hop u l (λ i k f.
           let (m, g, h) = hop-at i k in none-not-some (sym e ∙ ap (hopLink (p .halfLinks) b) (sym f) ∙ g))
       go u l (some m) e =
-          let (i, a, c, f) = N .listed b u known m e
+          let (i, a, c, f) = B .hops .listed b u known m e
           in let (k, g, h) = hop-at i (a, c)
           in ap (λ (x : ℕ). getD hops x 0) (sym f) ∙ H .at-hop i (a, c) ∙ h
           ∙ ap (λ (x : Link). x .here .port) (some-one (sym g ∙ ap (hopLink (p .halfLinks) b) f ∙ e))

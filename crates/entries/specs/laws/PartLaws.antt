@@ -24,14 +24,17 @@ use Rattle.table.specs.declared.shape.Shape.{Shape}
 use Rattle.table.specs.Positions.{recordsAt, planAt}
 use Rattle.table.specs.laws.WordLaws.{part-from}
 use Rattle.egress.specs.laws.PlanPortLaws.{PlanPorts}
-use Rattle.egress.specs.Rows.{rowAt}
-use Rattle.entry_words.specs.Words.{Readable, bridgeNumber, vidNumber, memberNumber, individualWords, portsBehind, groupWords}
-use Rattle.entries.specs.laws.PlanWords.{vidWords, memberWords, bridges-are, bridge-is, individual-words, group-words}
-use Rattle.entries.specs.Needed.{RowsInside, RowsReady}
+use Rattle.egress.specs.Rows.{egressRowAt}
+use Rattle.table.specs.Numbered.{bridgeNumber, vidNumber, memberNumber}
+use Rattle.verdict.specs.Examination.{Checked}
+use Rattle.verdict.specs.laws.CheckedLaws.{bridges-counted}
+use Rattle.entry_words.specs.Words.{individualWords, portsBehind, groupWords}
+use Rattle.entries.specs.laws.PlanWords.{vidWords, memberWords, bridge-is, individual-words, group-words}
+use Rattle.entries.specs.Needed.{EgressRowsInside, EgressRowsReady}
 use Rattle.entries.specs.laws.NeededLaws.{vid-fits, member-fits}
 use Rattle.entries.specs.Parts.{transmitterPart, memberPart, groupPart, vidPart, wholeList}
 
-module _ {t : List ℕ} {s : Shape} (R : Readable t s) {b : ℕ} {rows : List ℕ} (W : RowsReady t s b rows) {ports : List ℕ}
+module _ {t : List ℕ} {s : Shape} (R : Checked t s) {b : ℕ} {rows : List ℕ} (W : EgressRowsReady t s b rows) {ports : List ℕ}
     (P : PlanPorts (planAt (wordsOf t) s) b ports) (known : b < s .bridges) where
   abbrev p : Plan
   p = planAt (wordsOf t) s
@@ -44,8 +47,8 @@ module _ {t : List ℕ} {s : Shape} (R : Readable t s) {b : ℕ} {rows : List �
         → transmitterPart (wordsOf t) s rows ports v (memberNumber (wordsOf t) s j) ≡ memberWords p b v (memberNumber (wordsOf t) s j)
     unfolding transmitterPart
     transmitter-is j h e =
-        ap (λ (x : Bridge). groupWords ports (portsBehind (wordsOf t) s (drop (rowAt rows (v .index) (m .bridge)) rows) m) (v .vid) (groupAddress (x .spSourceId) (m .isid)))
-        (sym (bridge-is R (m .bridge) (omega (arith, member-fits R j h .bridge-known, bridges-are R))))
+        ap (λ (x : Bridge). groupWords ports (portsBehind (wordsOf t) s (drop (egressRowAt rows (v .index) (m .bridge)) rows) m) (v .vid) (groupAddress (x .spSourceId) (m .isid)))
+        (sym (bridge-is R (m .bridge) (omega (arith, member-fits R j h .bridge-known, bridges-counted R))))
         ∙ group-words R v b m
         (W .others k j l h (is-true (m .transmits) (first-of (m .transmits) (eqb (m .vid) (v .vid)) e)) (eqb→eq (m .vid) (v .vid) (last-of (m .transmits) (eqb (m .vid) (v .vid)) e))) P
       where
@@ -93,10 +96,10 @@ module _ {t : List ℕ} {s : Shape} (R : Readable t s) {b : ℕ} {rows : List �
       ∙ sym (flatMap-flatMap entryWords (λ v. individualEntries p v b ++ groupEntries p v b (p .members)) (p .vids))
 
 -- The bridge's SPsourceID fits its bits.
-pub source-fits : {t : List ℕ} {s : Shape} → Readable t s → (d : ℕ) → d < s .bridges → bridgeNumber (wordsOf t) d .spSourceId < 1048576
+pub source-fits : {t : List ℕ} {s : Shape} → Checked t s → (d : ℕ) → d < s .bridges → bridgeNumber (wordsOf t) d .spSourceId < 1048576
 source-fits {t} {s} R d l = omega (
   arith,
-  R .laws .bridges .fits (bridgeAt (planAt (wordsOf t) s) d) (listed-bridge (planAt (wordsOf t) s) (R .laws) d (omega (arith, bridges-are R))) .greatest-source,
+  R .laws .bridges .fits (bridgeAt (planAt (wordsOf t) s) d) (listed-bridge (planAt (wordsOf t) s) (R .laws) d (omega (arith, bridges-counted R))) .greatest-source,
   ap (λ (x : Bridge). x .spSourceId) (bridge-is R d l),
 )
 
@@ -105,8 +108,8 @@ pub row-lent : (rows : List ℕ) (place n : ℕ) → place + 64 ≤ length rows 
 row-lent rows place n h k = omega (arith, length-take (length rows - place) (drop place rows), length-drop place rows)
 
 -- The row of a bridge for a VID is inside the list.
-pub row-place-inside : {t : List ℕ} {s : Shape} {rows : List ℕ} → Readable t s → RowsInside (s .bridges) rows → (k : ℕ) → k < s .vids
-    → (b : ℕ) → b < s .bridges → (v : Vid) → v ≡ vidNumber (wordsOf t) s k → (place : ℕ) → place ≡ rowAt rows (v .index) b → place + 64 ≤ length rows
+pub row-place-inside : {t : List ℕ} {s : Shape} {rows : List ℕ} → Checked t s → EgressRowsInside (s .bridges) rows → (k : ℕ) → k < s .vids
+    → (b : ℕ) → b < s .bridges → (v : Vid) → v ≡ vidNumber (wordsOf t) s k → (place : ℕ) → place ≡ egressRowAt rows (v .index) b → place + 64 ≤ length rows
 row-place-inside R I k l b h v e place f =
     let g = vid-fits R k l
     in omega (
@@ -122,14 +125,14 @@ front-is {lent} {part} {written} {end} A =
     none : 0 + length part ≡ length part
     none = omega arith
 
-module _ (ws : List ℕ) (s : Shape) (rows ports : List ℕ) (v : Vid) (m : Member) (place : ℕ) (e : place ≡ rowAt rows (v .index) (m .bridge))
+module _ (ws : List ℕ) (s : Shape) (rows ports : List ℕ) (v : Vid) (m : Member) (place : ℕ) (e : place ≡ egressRowAt rows (v .index) (m .bridge))
     (lent behind : List ℕ) (count : ℕ) (A : Appended lent 0 (portsBehind ws s (take (length rows - place) (drop place rows)) m) behind count)
     (source : ℕ) (f : source ≡ bridgeNumber ws (m .bridge) .spSourceId) (addr : ℕ) (g : addr ≡ groupAddress source (m .isid)) where
   part-is : groupWords ports (take count behind) (v .vid) addr ≡ transmitterPart ws s rows ports v m
   unfolding transmitterPart
   part-is =
       ap (λ (x : List ℕ). groupWords ports x (v .vid) addr) (front-is A ∙ ap (λ (x : List ℕ). portsBehind ws s x m) (part-from place rows ∙ ap (λ (k : ℕ). drop k rows) e))
-      ∙ ap (groupWords ports (portsBehind ws s (drop (rowAt rows (v .index) (m .bridge)) rows) m) (v .vid)) (g ∙ ap (λ (x : ℕ). groupAddress x (m .isid)) f)
+      ∙ ap (groupWords ports (portsBehind ws s (drop (egressRowAt rows (v .index) (m .bridge)) rows) m) (v .vid)) (g ∙ ap (λ (x : ℕ). groupAddress x (m .isid)) f)
 
   pub transmitter-room : (words : List ℕ) (at : ℕ) → Room words at (transmitterPart ws s rows ports v m) → Room words at (groupWords ports (take count behind) (v .vid) addr)
   transmitter-room words at r = omega (arith, ap (λ (x : List ℕ). length x) part-is)
@@ -163,12 +166,12 @@ module _ (ws : List ℕ) (s : Shape) (rows ports : List ℕ) (v : Vid) (j : ℕ)
         → Appended words at (memberPart ws s rows ports v j) written end
     member-written {words} {written} {at} {end} B = subst (λ (x : List ℕ). Appended words at x written end) (sym own-part) B
 
-module _ (ws : List ℕ) (s : Shape) (rows ports : List ℕ) (b k : ℕ) (v : Vid) (e : v ≡ vidNumber ws s k) (place : ℕ) (f : place ≡ rowAt rows (v .index) b) where
+module _ (ws : List ℕ) (s : Shape) (rows ports : List ℕ) (b k : ℕ) (v : Vid) (e : v ≡ vidNumber ws s k) (place : ℕ) (f : place ≡ egressRowAt rows (v .index) b) where
   two-parts : individualWords ws s (take (length rows - place) (drop place rows)) (v .vid) ++ groupPart ws s rows ports v ≡ vidPart ws s rows ports b k
   unfolding vidPart
   two-parts =
       ap (λ (x : List ℕ). individualWords ws s x (v .vid) ++ groupPart ws s rows ports v) (part-from place rows ∙ ap (λ (i : ℕ). drop i rows) f)
-      ∙ ap (λ (w : Vid). individualWords ws s (drop (rowAt rows (w .index) b) rows) (w .vid) ++ groupPart ws s rows ports w) e
+      ∙ ap (λ (w : Vid). individualWords ws s (drop (egressRowAt rows (w .index) b) rows) (w .vid) ++ groupPart ws s rows ports w) e
 
   lengths : length (individualWords ws s (take (length rows - place) (drop place rows)) (v .vid)) + length (groupPart ws s rows ports v) ≡ length (vidPart ws s rows ports b k)
   lengths =

@@ -2,39 +2,41 @@
 use Prim.Native.Nat.{ℕ, _+_, _*_, _≤_, _<_}
 use native.Mathlib.Omega.{arith}
 use mathlib.Core.Path.{_≡_, refl, sym, ap, _∙_, subst}
-use mathlib.Core.List.{List, [], _∷_, _++_, map, flatMap, append-nil}
-use mathlib.Core.Option.{Option, none, some, Option·map}
+use mathlib.Core.List.{List, [], _∷_, _++_, map, flatMap}
+use mathlib.Core.Option.{Option, none, some}
 use mathlib.Core.Logic.{_⊎_, inl, inr}
 use mathlib.Core.Bool.{Bool, true, false, cond, not, _&&_}
-use lib.Dec.{T, eqb, eqb→eq, eqb-refl}
+use lib.Dec.{eqb, eqb→eq, eqb-refl}
 use lib.ListN.{length, getD}
 use borrow.Author.Tests.{eq-eqb, ne-eqb}
 use Rattle.lists.specs.Lists.{rising, selected, anyPasses}
 use Rattle.lists.specs.Members.{In, EveryTwo}
 use Rattle.lists.specs.laws.NumberLaws.{same-or-not}
-use Rattle.lists.specs.laws.MemberLaws.{none-not-some, flatMap-in, in-flatMap}
-use Rattle.lists.specs.laws.SelectedLaws.{selected-in, in-selected, any-in, in-any, in-rising, rising-in}
-use Rattle.lists.specs.laws.GivenLaws.{flatMap-map, flatMap-flatMap, flatMap-append, flatMap-selected, flatMap-same, by-places, every-two-selected, every-two-rising, rising-same}
+use Rattle.lists.specs.laws.MemberLaws.{flatMap-in, in-flatMap}
+use Rattle.lists.specs.laws.SelectedLaws.{selected-in, in-selected, any-in, in-any, rising-in}
+use Rattle.lists.specs.laws.GivenLaws.{flatMap-map, flatMap-flatMap, flatMap-selected, flatMap-same, by-places, every-two-selected, every-two-rising, rising-same}
 use Rattle.graph.specs.laws.ChosenPaths.{chosen-stay, chosen-first}
-use Rattle.lists.specs.Appending.{eachOf}
 use Rattle.rule.specs.Words.{wordsOf}
-use Rattle.rule.specs.Records.{HalfLink, Bridge, Vid, Member, bridgeOf, vidOf, memberOf, address, allWithin, portLimits}
+use Rattle.rule.specs.Records.{HalfLink, Bridge, Vid, Member, bridgeOf, memberOf, address, allWithin, portLimits}
 use Rattle.rule.specs.Plan.{Plan, bridgeAt}
-use Rattle.rule.specs.PlanLaws.{PlanLaws}
 use Rattle.rule.specs.Links.{Link, hopLink, graphOf}
 use Rattle.rule.specs.laws.LinkLaws.{hop-takes}
 use Rattle.rule.specs.Identifiers.{keyOf}
 use Rattle.rule.specs.Paths.{chosenPath}
 use Rattle.rule.specs.laws.Network.{chosen-is-path, path-is-chosen}
-use Rattle.rule.specs.Entries.{Entry, entryWords, listOf, firstPort, leavingPort, portsOf, individualEntry, individualEntries, groupAddress, receives, receiverPorts, listedPorts, groupEntry, groupEntries, entriesOf, entryListOf}
+use Rattle.rule.specs.Entries.{entryWords, listOf, firstPort, leavingPort, portsOf, individualEntry, individualEntries, groupAddress, receives, receiverPorts, listedPorts, groupEntry, groupEntries}
 use Rattle.rule.specs.laws.EntryLaws.{first-port-says, listed-port, port-listed}
 use Rattle.rule.specs.laws.ListedPorts.{leaving-says}
 use Rattle.table.specs.declared.shape.Shape.{Shape}
-use Rattle.table.specs.Positions.{vidsFrom, membersFrom, recordsAt, planAt}
-use Rattle.table.specs.laws.PositionLaws.{how-many, record-at, record-in}
-use Rattle.egress.specs.Leaving.{numberOf, portOn, LeavingRow}
+use Rattle.table.specs.Positions.{membersFrom, recordsAt, planAt}
+use Rattle.table.specs.laws.PositionLaws.{record-at, record-in}
+use Rattle.egress.specs.Leaving.{numberOf, portOn, EgressRow}
 use Rattle.egress.specs.laws.PlanPortLaws.{PlanPorts}
-use Rattle.entry_words.specs.Words.{Readable, bridgeNumber, vidNumber, memberNumber, entryWith, individualTo, individualWords, behindAt, portsBehind, groupAt, groupWords}
+use Rattle.entry_codec.specs.Codec.{entryWith}
+use Rattle.table.specs.Numbered.{bridgeNumber, memberNumber}
+use Rattle.verdict.specs.Examination.{Checked}
+use Rattle.verdict.specs.laws.CheckedLaws.{bridges-counted}
+use Rattle.entry_words.specs.Words.{individualTo, individualWords, behindAt, portsBehind, groupAt, groupWords}
 
 -- The words of a VID's part of a bridge's list, and of the group entries for one transmitter.
 abbrev pub vidWords : Plan → ℕ → Vid → List ℕ
@@ -56,15 +58,12 @@ number-zero : (o : Option ℕ) → ((q : ℕ) → o ≡ some q → 0 < q) → nu
 number-zero none f e = refl
 number-zero (some q) f e = absurd (omega (arith, f q refl))
 
-module _ {t : List ℕ} {s : Shape} (R : Readable t s) where
+module _ {t : List ℕ} {s : Shape} (R : Checked t s) where
   abbrev p : Plan
   p = planAt (wordsOf t) s
 
   abbrev hs : List HalfLink
   hs = p .halfLinks
-
-  pub bridges-are : length (p .bridges) ≡ s .bridges
-  bridges-are = how-many bridgeOf 3 0 (wordsOf t) (s .bridges)
 
   pub bridge-is : (d : ℕ) → d < s .bridges → bridgeAt p d ≡ bridgeNumber (wordsOf t) d
   bridge-is d l = record-at bridgeOf 3 0 (wordsOf t) (s .bridges) d (record { spSourceId = 0; identifier = 0 }) l
@@ -74,14 +73,14 @@ module _ {t : List ℕ} {s : Shape} (R : Readable t s) where
 
   -- Individual entries
 
-  module _ (v : Vid) (b : ℕ) {row : List ℕ} (W : LeavingRow p (v .index) b b row) where
+  module _ (v : Vid) (b : ℕ) {row : List ℕ} (W : EgressRow p (v .index) b b row) where
     -- What the definition gives for the bridge `d`.
     abbrev givenTo : ℕ → List ℕ
     givenTo d = flatMap entryWords (map (individualEntry p v d) (portsOf (firstPort hs) (chosenPath p (v .index) b d)))
 
     row-self : b < s .bridges → getD row b 0 ≡ 0
     row-self l =
-        W .each b (omega (arith, bridges-are))
+        W .each b (omega (arith, bridges-counted R))
         ∙ ap (portOn hs b) (chosen-is-path p (R .laws) (v .index) b b (b ∷ []) (chosen-stay (graphOf p) (keyOf p (v .index)) b))
         ∙ ap numberOf (leaves-start hs b [])
 
@@ -112,11 +111,11 @@ module _ {t : List ℕ} {s : Shape} (R : Readable t s) where
 
         by-path : (o : Option (List ℕ)) → chosenPath p (v .index) b d ≡ o
             → individualTo (wordsOf t) row (v .vid) d ≡ flatMap entryWords (map (individualEntry p v d) (portsOf (firstPort hs) o))
-        by-path none e = to-none d (W .each d (omega (arith, bridges-are)) ∙ ap (portOn hs b) e)
+        by-path none e = to-none d (W .each d (omega (arith, bridges-counted R)) ∙ ap (portOn hs b) e)
         by-path (some q) e =
             let (z, f, g) = chosen-first (graphOf p) (keyOf p (v .index)) b d q (path-is-chosen p (R .laws) (v .index) b d q e)
             in by-port q (firstPort hs q) refl
-            (W .each d (omega (arith, bridges-are)) ∙ ap (portOn hs b) e ∙ ap (λ (x : List ℕ). numberOf (leavingPort hs b x)) f
+            (W .each d (omega (arith, bridges-counted R)) ∙ ap (portOn hs b) e ∙ ap (λ (x : List ℕ). numberOf (leavingPort hs b x)) f
             ∙ ap numberOf (leaves-start hs b z) ∙ ap (λ (x : List ℕ). numberOf (firstPort hs x)) (sym f))
 
     pub individual-words : b < s .bridges → individualWords (wordsOf t) s row (v .vid) ≡ flatMap entryWords (individualEntries p v b)
@@ -124,7 +123,7 @@ module _ {t : List ℕ} {s : Shape} (R : Readable t s) where
     individual-words known =
         flatMap-same (individualTo (wordsOf t) row (v .vid)) (λ d. cond (not (eqb d b)) (givenTo d) []) (rising 0 (s .bridges))
         (λ d i. each d (omega (arith, rising-in 0 (s .bridges) d i .1)) (same-or-not d b))
-        ∙ ap (λ (n : ℕ). flatMap (λ d. cond (not (eqb d b)) (givenTo d) []) (rising 0 n)) (sym bridges-are)
+        ∙ ap (λ (n : ℕ). flatMap (λ d. cond (not (eqb d b)) (givenTo d) []) (rising 0 n)) (sym (bridges-counted R))
         ∙ sym (flatMap-selected givenTo (λ d. not (eqb d b)) (rising 0 (length (p .bridges))))
         ∙ sym (flatMap-flatMap entryWords (λ d. map (individualEntry p v d) (portsOf (firstPort hs) (chosenPath p (v .index) b d)))
         (selected (λ d. not (eqb d b)) (rising 0 (length (p .bridges)))))
@@ -137,7 +136,7 @@ module _ {t : List ℕ} {s : Shape} (R : Readable t s) where
 
   -- Group entries
 
-  module _ (v : Vid) (b : ℕ) (m : Member) {row : List ℕ} (W : LeavingRow p (v .index) (m .bridge) b row) where
+  module _ (v : Vid) (b : ℕ) (m : Member) {row : List ℕ} (W : EgressRow p (v .index) (m .bridge) b row) where
     abbrev passing : Member → List ℕ
     passing r = portsOf (leavingPort hs b) (chosenPath p (v .index) (m .bridge) (r .bridge))
 

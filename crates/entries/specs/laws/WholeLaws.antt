@@ -1,4 +1,4 @@
--- The whole list of a bridge, from the lists of a plan: what each step gives the next. And lists copied to where they are lent.
+-- The whole list of a bridge, from the network of its table: what each step gives the next. And lists copied to where they are lent.
 -- Assumes nothing.
 use Prim.Native.Nat.{ℕ, _+_, _≤_, _<_}
 use native.Mathlib.Omega.{arith}
@@ -19,73 +19,51 @@ use Rattle.rule.specs.Entries.{entryListOf}
 use Rattle.rule.specs.laws.ListBound.{few-words}
 use Rattle.table.specs.declared.shape.Shape.{Shape}
 use Rattle.table.specs.Positions.{planAt}
-use Rattle.links.specs.Neighbours.{NeighboursOf}
-use Rattle.links.specs.Mates.{Checked}
-use Rattle.network.specs.PlanLists.{IdentifiersOf}
-use Rattle.network.specs.laws.PlanListLaws.{lists-of-table}
-use Rattle.egress.specs.Hops.{HopLists, HopPorts, InRange, RisingPorts}
+use Rattle.verdict.specs.Examination.{Checked}
+use Rattle.network.specs.Layout.{bridgesIn}
+use Rattle.network.specs.Networks.{TableNetwork}
+use Rattle.network.specs.laws.NetworkLaws.{bridges-in-table}
+use Rattle.egress.specs.Hops.{HopPorts, InRange, RisingPorts}
 use Rattle.egress.specs.Leaving.{PlanHops}
-use Rattle.egress.specs.laws.PlanPortLaws.{hop-lists, plan-hops, hops-in-range, plan-ports}
-use Rattle.entries.specs.laws.PlanWords.{bridges-are}
-use Rattle.entries.specs.Needed.{Lists, RowsReady}
-use Rattle.entries.specs.laws.NeededLaws.{few-bridges}
+use Rattle.egress.specs.laws.PlanPortLaws.{plan-hops, hops-in-range, plan-ports}
+use Rattle.verdict.specs.laws.CheckedLaws.{bridges-counted}
+use Rattle.entries.specs.Needed.{HopsReady, EgressRowsReady}
 use Rattle.entries.specs.Parts.{wholeList}
 use Rattle.entries.specs.laws.PartLaws.{whole-is, front-is}
-use Rattle.entries.specs.Whole.{listAnswer, PlanOf}
+use Rattle.entries.specs.Whole.{listAnswer}
 
-module _ {t : List ℕ} {s : Shape} {starts neighbours costs ports identifiers : List ℕ} (P : PlanOf t s starts neighbours costs ports identifiers)
-    (b : ℕ) (known : b < s .bridges) where
-  pub hop-lists-of : HopLists (s .bridges) starts neighbours ports b
-  hop-lists-of = hop-lists (P .lists) (P .hops) (P .has-ports) b known
+module _ {t : List ℕ} {s : Shape} {net : List ℕ} (N : TableNetwork t s net) (b : ℕ) (known : b < s .bridges) where
+  pub in-network : b < bridgesIn net
+  in-network = omega (arith, bridges-in-table N)
 
-  module _ {hops : List ℕ} (H : HopPorts (s .bridges) starts neighbours ports b hops) where
-    hops-of : PlanHops (planAt (wordsOf t) s) (s .bridges) b hops
-    hops-of = plan-hops (P .lists) (P .hops) (P .has-ports) b known H
+  module _ {hops : List ℕ} (H : HopPorts net b hops) where
+    hops-of : PlanHops (planAt (wordsOf t) s) (bridgesIn net) b hops
+    hops-of = plan-hops (N .network) b in-network H
+
+    table-hops : PlanHops (planAt (wordsOf t) s) (s .bridges) b hops
+    table-hops = subst (λ (n : ℕ). PlanHops (planAt (wordsOf t) s) n b hops) (bridges-in-table N) hops-of
 
     pub in-range : InRange hops (s .bridges)
-    in-range = hops-in-range (P .readable .laws) hops-of
+    in-range = hops-in-range (N .checked .laws) table-hops
 
-    pub lists-of : 64 ≤ length hops → Lists t s starts neighbours costs identifiers hops b
-    lists-of l = record {
-      readable = P .readable;
-      lists = P .lists;
-      hop-ports = hops-of;
-      few-identifiers = P .few-identifiers;
-      has-hops = l;
-      known = known;
-    }
+    pub hops-ready : 64 ≤ length hops → HopsReady t s net hops b
+    hops-ready l = record { table-network = N; hop-ports = hops-of; has-hops = l; known = known }
 
-    module _ {rises : List ℕ} (G : RisingPorts hops (s .bridges) rises) {rows : List ℕ} (W : RowsReady t s b rows) where
+    module _ {rises : List ℕ} (G : RisingPorts hops (s .bridges) rises) {rows : List ℕ} (W : EgressRowsReady t s b rows) where
       list-is : wholeList (wordsOf t) s rows rises b ≡ entryListOf (planAt (wordsOf t) s) b
-      list-is = whole-is (P .readable) W (plan-ports (P .readable .laws) hops-of (bridges-are (P .readable)) G) known
+      list-is = whole-is (N .checked) W (plan-ports (N .checked .laws) table-hops (bridges-counted (N .checked)) G) known
 
       -- "No bridge's list exceeds 14,931 words."
       pub whole-room : (words : List ℕ) → 14931 ≤ length words → Room words 0 (wholeList (wordsOf t) s rows rises b)
       whole-room words l = omega (
         arith,
         ap (λ (x : List ℕ). length x) list-is,
-        few-words (planAt (wordsOf t) s) (P .readable .laws) b (omega (arith, bridges-are (P .readable))),
+        few-words (planAt (wordsOf t) s) (N .checked .laws) b (omega (arith, bridges-counted (N .checked))),
       )
 
       pub whole-written : {words written : List ℕ} {end : ℕ} → Appended words 0 (wholeList (wordsOf t) s rows rises b) written end
           → Appended words 0 (entryListOf (planAt (wordsOf t) s) b) written end
       whole-written {words} {written} {end} A = subst (λ (x : List ℕ). Appended words 0 x written end) list-is A
-
--- The lists made of a table that passed the check are those of its plan.
-pub plan-of : {t links : List ℕ} {s : Shape} → Checked t links s → {starts neighbours costs ports identifiers : List ℕ}
-    → NeighboursOf (planAt (wordsOf t) s) (s .bridges) starts neighbours costs ports → IdentifiersOf (planAt (wordsOf t) s) (s .bridges) identifiers
-    → s .bridges < length starts → 512 ≤ length neighbours → 512 ≤ length costs → 512 ≤ length ports → s .bridges ≤ length identifiers → length identifiers ≤ 64
-    → PlanOf t s starts neighbours costs ports identifiers
-plan-of C N I a c d e f g = record {
-  readable = record { whole = C .whole; bounded = C .bounded; laws = C .laws };
-  lists = lists-of-table C N I a c d f;
-  hops = N;
-  few-identifiers = g;
-  has-ports = e;
-}
-
-pub few-in-table : {t links : List ℕ} {s : Shape} → Checked t links s → s .bridges ≤ 64
-few-in-table C = few-bridges (record { whole = C .whole; bounded = C .bounded; laws = C .laws })
 
 -- A list copied place by place.
 abbrev pub placesOf : List ℕ → ℕ → List ℕ
@@ -128,19 +106,19 @@ module _ (words list : List ℕ) where
           zero : 0 + length words ≡ length words
           zero = omega arith
 
-module _ {t links : List ℕ} {s : Shape} (C : Checked t links s) (bridge : ℕ) where
+module _ {t : List ℕ} {s : Shape} (C : Checked t s) (bridge : ℕ) where
   pub lacks-bridge : s .bridges ≤ bridge → (list : List ℕ) → _≡_ {A = Outcome ℕ × List ℕ} (refusedAs 11, list) (lentTo list (planEntries (planAt (wordsOf t) s) bridge))
-  lacks-bridge l list = rw (le-ltb bridge (length (planAt (wordsOf t) s .bridges)) (omega (arith, bridges-are (record { whole = C .whole; bounded = C .bounded; laws = C .laws }))))
+  lacks-bridge l list = rw (le-ltb bridge (length (planAt (wordsOf t) s .bridges)) (omega (arith, bridges-counted C)))
 
   pub has-bridge : bridge < s .bridges → planEntries (planAt (wordsOf t) s) bridge ≡ listAnswer (entryListOf (planAt (wordsOf t) s) bridge)
-  has-bridge l = rw (lt-ltb bridge (length (planAt (wordsOf t) s .bridges)) (omega (arith, bridges-are (record { whole = C .whole; bounded = C .bounded; laws = C .laws }))))
+  has-bridge l = rw (lt-ltb bridge (length (planAt (wordsOf t) s .bridges)) (omega (arith, bridges-counted C)))
 
   -- The list made has at most 14,931 words.
   pub few-made : bridge < s .bridges → {lent written : List ℕ} {count : ℕ} → Appended lent 0 (entryListOf (planAt (wordsOf t) s) bridge) written count → count ≤ 14931
   few-made l A = omega (
     arith,
     A .end-is,
-    few-words (planAt (wordsOf t) s) (C .laws) bridge (omega (arith, bridges-are (record { whole = C .whole; bounded = C .bounded; laws = C .laws }))),
+    few-words (planAt (wordsOf t) s) (C .laws) bridge (omega (arith, bridges-counted C)),
   )
 
   pub answer-made : bridge < s .bridges → {lent written : List ℕ} {count : ℕ} → Appended lent 0 (entryListOf (planAt (wordsOf t) s) bridge) written count

@@ -2,9 +2,9 @@
 -- Assumes nothing.
 use Prim.Native.Nat.{ℕ, _+_, _*_, _≤_, _<_}
 use native.Mathlib.Omega.{arith}
-use mathlib.Core.Path.{_≡_, sym, ap, _∙_, subst}
+use mathlib.Core.Path.{_≡_, sym, ap, _∙_}
 use mathlib.Core.List.{List, [], _∷_}
-use mathlib.Core.Bool.{Bool, true, false, cond, not, _&&_, and-false}
+use mathlib.Core.Bool.{Bool, true, false, cond, not, _&&_}
 use lib.Dec.{eqb}
 use lib.ListN.{length, getD, set}
 use borrow.Author.Tests.{eq-eqb, ne-eqb}
@@ -19,7 +19,9 @@ use Rattle.rule.specs.Entries.{receives}
 use Rattle.table.specs.declared.shape.Shape.{Shape}
 use Rattle.table.specs.Positions.{membersFrom, planAt}
 use Rattle.table.specs.laws.PositionLaws.{how-many, record-in}
-use Rattle.entry_words.specs.Words.{Readable, memberNumber, behindAt, portsBehind}
+use Rattle.table.specs.Numbered.{memberNumber}
+use Rattle.verdict.specs.Examination.{Checked}
+use Rattle.entry_words.specs.Words.{behindAt, portsBehind}
 
 -- "another bridge with R in the same I-SID and VID", test by test.
 module _ (m r : Member) where
@@ -35,7 +37,7 @@ module _ (m r : Member) where
   pub same-service : r .receives ≡ true → r .isid ≡ m .isid → r .vid ≡ m .vid → receives m r ≡ not (eqb (r .bridge) (m .bridge))
   same-service e i v = rw (e, eq-eqb (r .isid) (m .isid) i, eq-eqb (r .vid) (m .vid) v)
 
-module _ {t : List ℕ} {s : Shape} (R : Readable t s) where
+module _ {t : List ℕ} {s : Shape} (R : Checked t s) where
   bridges-are : length (planAt (wordsOf t) s .bridges) ≡ s .bridges
   bridges-are = how-many bridgeOf 3 0 (wordsOf t) (s .bridges)
 

@@ -4,14 +4,14 @@ use Prim.Native.Nat.{ℕ, _+_, _*_, _/_}
 use mathlib.Core.Path.{_≡_, refl}
 use mathlib.Core.List.{List, [], _∷_, map, flatMap}
 use mathlib.Core.Option.{Option, none, some}
-use mathlib.Core.Bool.{Bool, true, false, not, cond}
+use mathlib.Core.Bool.{Bool, true, not, cond}
 use lib.Dec.{eqb, ltb}
 use lib.ListN.{getD}
 use Rattle.lists.specs.Lists.{rising, selected, anyPasses, lowestBy, spliced}
 use Rattle.lists.specs.Members.{sumOver, occurrences}
 use Rattle.lists.specs.Appending.{eachOf}
 use Rattle.graph.specs.Order.{insertUpward, sorted, isLower}
-use Rattle.graph.specs.Graph.{Graph, costOnward, cost, hops, pathId, rank}
+use Rattle.graph.specs.Graph.{Graph, costOnward, cost, hops, rank}
 use Rattle.graph.specs.Chosen.{neighbours, goesOn, onward, paths, chosen}
 use Rattle.graph.specs.Lookups.{State, offer, label}
 

@@ -20,7 +20,8 @@ use Rattle.rule.specs.PlanLaws.{PlanLaws}
 use Rattle.table.specs.declared.shape.Shape.{Shape}
 use Rattle.table.specs.Positions.{recordsAt, halfLinksFrom, planAt}
 use Rattle.table.specs.laws.PositionLaws.{no-records, one-more}
-use Rattle.links.specs.Mates.{halfLinkAt, metricWith, linkMetric, counted}
+use Rattle.table.specs.Numbered.{halfLinkNumber}
+use Rattle.links.specs.Mates.{metricWith, linkMetric, counted}
 use Rattle.links.specs.laws.MateLaws.{mates-at-most-one}
 
 pub counted-most : (hs : List HalfLink) (h : HalfLink) → counted hs h ≤ 1
@@ -111,16 +112,16 @@ module _ (ws : List ℕ) (s : Shape) where
       }
 
   module _ {i count : ℕ} (C : Counting i count) where
-    pub counting-goes-on : (one : ℕ) → i < s .«half_links» → one ≡ counted (planAt ws s .halfLinks) (halfLinkAt ws s i) → Counting (i + 1) (count + one)
+    pub counting-goes-on : (one : ℕ) → i < s .«half_links» → one ≡ counted (planAt ws s .halfLinks) (halfLinkNumber ws s i) → Counting (i + 1) (count + one)
     counting-goes-on one l e =
         record {
           within = omega arith;
-          most = omega (arith, C .most, counted-most (planAt ws s .halfLinks) (halfLinkAt ws s i));
+          most = omega (arith, C .most, counted-most (planAt ws s .halfLinks) (halfLinkNumber ws s i));
           so-far =
               omega (
                 arith,
                 C .so-far,
-                sum-append (counted (planAt ws s .halfLinks)) (recordsAt halfLinkOf 3 (halfLinksFrom s) ws i) (halfLinkAt ws s i ∷ []),
+                sum-append (counted (planAt ws s .halfLinks)) (recordsAt halfLinkOf 3 (halfLinksFrom s) ws i) (halfLinkNumber ws s i ∷ []),
               )
               ∙ ap (λ (t : List HalfLink). sumOver (counted (planAt ws s .halfLinks)) t) (sym (one-more halfLinkOf 3 (halfLinksFrom s) ws i));
         }

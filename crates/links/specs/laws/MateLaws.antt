@@ -25,7 +25,9 @@ use Rattle.key_index.specs.Index.{keyAt, holds, otherPlace}
 use Rattle.table.specs.declared.shape.Shape.{Shape}
 use Rattle.table.specs.Positions.{halfLinksFrom, planAt}
 use Rattle.table.specs.laws.PositionLaws.{record-in, in-records, every-two-records}
-use Rattle.links.specs.Mates.{Checked, halfLinkAt, metricWith, linkMetric}
+use Rattle.table.specs.Numbered.{halfLinkNumber}
+use Rattle.verdict.specs.Examination.{Checked, LinkIndex}
+use Rattle.links.specs.Mates.{metricWith, linkMetric}
 
 -- "A link is two half-links": a half-link has one mate, where it has any.
 pub one-mate :
@@ -64,7 +66,7 @@ mates-at-most-one p L h = go (selected (mates h) (p .halfLinks)) refl
         in inr (m, one-mate p L h m (r .0) (r .1))
 
 -- By the index: the other place of the link number.
-module _ {t links : List ℕ} {s : Shape} (C : Checked t links s) where
+module _ {t links : List ℕ} {s : Shape} (C : Checked t s) (K : LinkIndex links t s) where
   abbrev ws : List ℕ
   ws = wordsOf t
 
@@ -72,7 +74,7 @@ module _ {t links : List ℕ} {s : Shape} (C : Checked t links s) where
   n = s .«half_links»
 
   abbrev at : ℕ → HalfLink
-  at = halfLinkAt ws s
+  at = halfLinkNumber ws s
 
   abbrev hs : List HalfLink
   hs = planAt ws s .halfLinks
@@ -105,15 +107,15 @@ module _ {t links : List ℕ} {s : Shape} (C : Checked t links s) where
         let u = true-test (other k) e
         in (
           λ d. subst (λ (b : Bool). T (not b)) (eq-eqb k i d) (last-of (holds links (keyAt links i) k) (not (eqb k i)) u),
-          sym (C .by-number .keys k l)
+          sym (K .keys k l)
               ∙ eqb-true (keyAt links k) (keyAt links i)
               (is-true (holds links (keyAt links i) k) (first-of (holds links (keyAt links i) k) (not (eqb k i)) u))
-              ∙ C .by-number .keys i h,
+              ∙ K .keys i h,
         )
 
     says-other : (k : ℕ) → k < n → (k ≡ i → ⊥) → at k .link ≡ at i .link → other k ≡ true
     says-other k l d e =
-        rw (eq-eqb (keyAt links k) (keyAt links i) (C .by-number .keys k l ∙ e ∙ sym (C .by-number .keys i h)), ne-eqb k i d) refl
+        rw (eq-eqb (keyAt links k) (keyAt links i) (K .keys k l ∙ e ∙ sym (K .keys i h)), ne-eqb k i d) refl
 
     pub has-mate : (j : ℕ) → otherPlace links n (suc i) ≡ suc j → selected (mates (at i)) hs ≡ at j ∷ []
     has-mate j e =

@@ -7,7 +7,7 @@ use mathlib.Core.List.{List, [], _∷_, _++_}
 use mathlib.Core.Option.{Option, none, some}
 use mathlib.Core.Logic.{_⊎_, inl, inr}
 use mathlib.Core.Bool.{Bool, true, false, cond}
-use lib.Dec.{T, ltb, ltb→lt, lt→ltb}
+use lib.Dec.{T, ltb→lt, lt→ltb}
 use lib.ListN.{length, getD, set, length-set}
 use lib.Seq.{getD-set-same, getD-set-other}
 use Rattle.lists.specs.Lists.{selected}
@@ -16,15 +16,18 @@ use Rattle.lists.specs.laws.NumberLaws.{le-or-gt, compared, same-or-not, true-t
 use Rattle.lists.specs.laws.MemberLaws.{in-append, in-left, in-here}
 use Rattle.lists.specs.laws.SelectedLaws.{selected-in}
 use Rattle.rule.specs.Words.{wordsOf}
-use Rattle.rule.specs.Records.{HalfLink, halfLinkOf, bridgeOf, unusableMetric}
+use Rattle.rule.specs.Records.{HalfLink, halfLinkOf, unusableMetric}
 use Rattle.rule.specs.Plan.{Plan}
 use Rattle.rule.specs.Links.{Link, mates, number, from, to, linkCost, usableMetric, hopLink}
 use Rattle.rule.specs.PlanLaws.{PlanLaws}
 use Rattle.rule.specs.laws.LinkLaws.{Usable, Takes, hop-takes, no-hop, one-link}
 use Rattle.table.specs.declared.shape.Shape.{Shape}
 use Rattle.table.specs.Positions.{recordsAt, halfLinksFrom, planAt}
-use Rattle.table.specs.laws.PositionLaws.{how-many, no-records, one-more, record-in, in-records}
-use Rattle.links.specs.Mates.{Checked, halfLinkAt, metricWith, linkMetric}
+use Rattle.table.specs.laws.PositionLaws.{no-records, one-more, record-in, in-records}
+use Rattle.table.specs.Numbered.{halfLinkNumber}
+use Rattle.verdict.specs.Examination.{Checked}
+use Rattle.verdict.specs.laws.CheckedLaws.{bridges-counted, few-bridges}
+use Rattle.links.specs.Mates.{metricWith, linkMetric}
 use Rattle.links.specs.laws.MateLaws.{one-mate, mates-at-most-one}
 use Rattle.links.specs.Pairs.{noHop, Cleared, pairPlace, placeOf, hopNumber, hopBy, offered, Lowest}
 
@@ -32,34 +35,6 @@ use Rattle.links.specs.Pairs.{noHop, Cleared, pairPlace, placeOf, hopNum
 pub no-hops :
     (hs : List HalfLink) (n : ℕ) (pairs : List ℕ) → Cleared pairs (64 * n) → Lowest hs [] n pairs
 no-hops hs n pairs C = record { size = C .size; none-lower = λ h i u. absurd i; one-has = λ k m. inl (C .empty k m) }
-
--- One place more holds none.
-cleared-more : {pairs : List ℕ} {k : ℕ} → Cleared pairs k → k < 4096 → Cleared (set pairs k noHop) (k + 1)
-cleared-more {pairs} {k} C l =
-    record { size = omega (arith, C .size, length-set pairs k noHop); empty = λ j m. at j m (same-or-not j k) }
-  where
-    at : (j : ℕ) → j < k + 1 → (j ≡ k) ⊎ (j ≡ k → ⊥) → getD (set pairs k noHop) j 0 ≡ noHop
-    at j m (inl e) =
-        ap (λ (i : ℕ). getD (set pairs k noHop) i 0) e ∙ getD-set-same pairs k noHop 0 (omega (arith, C .size))
-    at j m (inr d) = getD-set-other pairs k j noHop 0 d ∙ C .empty j (omega arith)
-
--- The first `k` of `m` places are cleared.
-pub record Clearing (before pairs : List ℕ) (m k : ℕ) : Type 0 where
-  pub same : length pairs ≡ length before
-  pub within : k ≤ m
-  pub so-far : Cleared pairs k
-
-pub clearing-starts : (pairs : List ℕ) (m : ℕ) → 4096 ≤ length pairs → Clearing pairs pairs m 0
-clearing-starts pairs m l =
-    record { same = refl; within = omega arith; so-far = record { size = l; empty = λ k h. absurd (omega arith) } }
-
-module _ {before pairs : List ℕ} {m k : ℕ} (C : Clearing before pairs m k) where
-  pub clearing-goes-on : m ≤ 4096 → k < m → Clearing before (set pairs k noHop) m (k + 1)
-  clearing-goes-on l h =
-      record { same = length-set pairs k noHop ∙ C .same; within = omega arith; so-far = cleared-more (C .so-far) (omega arith) }
-
-  pub clearing-ends : m ≤ k → Cleared pairs m
-  clearing-ends l = let e : k ≡ m = omega (arith, C .within) in subst (λ (j : ℕ). Cleared pairs j) e (C .so-far)
 
 -- One half-link more.
 module _ {hs done : List HalfLink} {n : ℕ} {pairs : List ℕ} (B : Lowest hs done n pairs) (h : HalfLink) (inside : placeOf h < 4096) where
@@ -180,36 +155,30 @@ pub record Offering (t : List ℕ) (s : Shape) (before pairs : List ℕ) (i : �
       Lowest (planAt (wordsOf t) s .halfLinks) (recordsAt halfLinkOf 3 (halfLinksFrom s) (wordsOf t) i) (s .bridges) pairs
 
 -- Every half-link of a table that passed the check names two of its bridges, and its place is one of theirs.
-module _ {t links : List ℕ} {s : Shape} (C : Checked t links s) where
+module _ {t : List ℕ} {s : Shape} (C : Checked t s) where
   abbrev plan : Plan
   plan = planAt (wordsOf t) s
 
-  pub bridges-counted : length (plan .bridges) ≡ s .bridges
-  bridges-counted = how-many bridgeOf 3 0 (wordsOf t) (s .bridges)
-
-  pub few-bridges : s .bridges ≤ 64
-  few-bridges = omega (arith, bridges-counted, C .laws .bridges .few)
-
   pub near-inside : (h : HalfLink) → In h (plan .halfLinks) → h .near < s .bridges
-  near-inside h i = omega (arith, bridges-counted, C .laws .half-links .fits h i .near-known)
+  near-inside h i = omega (arith, bridges-counted C, C .laws .half-links .fits h i .near-known)
 
   pub far-inside : (h : HalfLink) → In h (plan .halfLinks) → h .far < s .bridges
-  far-inside h i = omega (arith, bridges-counted, C .laws .half-links .fits h i .far-known)
+  far-inside h i = omega (arith, bridges-counted C, C .laws .half-links .fits h i .far-known)
 
   pub place-inside : (h : HalfLink) → In h (plan .halfLinks) → placeOf h < 4096
-  place-inside h i = omega (arith, near-inside h i, far-inside h i, few-bridges)
+  place-inside h i = omega (arith, near-inside h i, far-inside h i, few-bridges C)
 
   pub narrow : (h : HalfLink) → In h (plan .halfLinks) → h .link < 65536
   narrow h i =
       let (j, l, e) = in-records halfLinkOf 3 (halfLinksFrom s) (wordsOf t) (s .«half_links») h i
       in subst (λ (x : HalfLink). x .link < 65536) (sym e) (omega arith)
 
-  pub listed-there : (j : ℕ) → j < s .«half_links» → (h : HalfLink) → h ≡ halfLinkAt (wordsOf t) s j → In h (plan .halfLinks)
+  pub listed-there : (j : ℕ) → j < s .«half_links» → (h : HalfLink) → h ≡ halfLinkNumber (wordsOf t) s j → In h (plan .halfLinks)
   listed-there j l h e =
       subst (λ (x : HalfLink). In x (plan .halfLinks)) (sym e) (record-in halfLinkOf 3 (halfLinksFrom s) (wordsOf t) (s .«half_links») j l)
 
   -- The half-link `j`, where `h` was read, has a place, and its hop a number.
-  module _ (j : ℕ) (l : j < s .«half_links») (h : HalfLink) (e : h ≡ halfLinkAt (wordsOf t) s j) where
+  module _ (j : ℕ) (l : j < s .«half_links») (h : HalfLink) (e : h ≡ halfLinkNumber (wordsOf t) s j) where
     pub place-there : placeOf h < 4096
     place-there = place-inside h (listed-there j l h e)
 
@@ -234,15 +203,15 @@ module _ {t links : List ℕ} {s : Shape} (C : Checked t links s) where
     pub offering-goes-on :
         i < s .«half_links» →
         (pairs′ : List ℕ) →
-        pairs′ ≡ offered (plan .halfLinks) pairs (halfLinkAt (wordsOf t) s i) →
+        pairs′ ≡ offered (plan .halfLinks) pairs (halfLinkNumber (wordsOf t) s i) →
         Offering t s before pairs′ (i + 1)
     offering-goes-on l pairs′ e =
         record {
-          same = ap length e ∙ offered-length (plan .halfLinks) pairs (halfLinkAt (wordsOf t) s i) ∙ O .same;
+          same = ap length e ∙ offered-length (plan .halfLinks) pairs (halfLinkNumber (wordsOf t) s i) ∙ O .same;
           within = omega arith;
           so-far =
               rw (e, one-more halfLinkOf 3 (halfLinksFrom s) (wordsOf t) i)
-              (lowest-more (O .so-far) (halfLinkAt (wordsOf t) s i) (place-there i l (halfLinkAt (wordsOf t) s i) refl));
+              (lowest-more (O .so-far) (halfLinkNumber (wordsOf t) s i) (place-there i l (halfLinkNumber (wordsOf t) s i) refl));
         }
 
     pub offering-ends : s .«half_links» ≤ i → Lowest (plan .halfLinks) (plan .halfLinks) (s .bridges) pairs

@@ -9,117 +9,89 @@ use Rattle.listing.proofs.print_parts.Statement.{statement}
 use Rattle.listing.proofs.print_parts.Tie as tie
 
 abbrev Inv-loop : tie.InvT-loop
-Inv-loop table starts neighbours costs ports identifiers path-ids₀ marks₀ trees₀ words₀ out₀ progress₀ path-ids marks trees words out progress =
-    Underway table progress starts neighbours costs ports identifiers marks trees
-    × (length path-ids ≡ length path-ids₀)
-    × (length marks ≡ length marks₀)
-    × (length trees ≡ length trees₀)
-    × (length words ≡ length words₀)
-    × (length out ≡ length out₀)
+Inv-loop table network path-ids₀ store₀ words₀ out₀ progress₀ path-ids store words out progress =
+    Underway table progress network store × (length path-ids ≡ length path-ids₀) × (length store ≡ length store₀)
+    × (length words ≡ length words₀) × (length out ≡ length out₀)
 
 abbrev μ-loop : tie.MeasureT-loop
-μ-loop table starts neighbours costs ports identifiers path-ids₀ marks₀ trees₀ words₀ out₀ progress₀ path-ids marks trees words out progress = partsLeft table progress
+μ-loop table network path-ids₀ store₀ words₀ out₀ progress₀ path-ids store words out progress = partsLeft table progress
 
+-- src/main.rt:44:5
 loop-holds : tie.Need-loop-holds Inv-loop μ-loop
-loop-holds c =
-    let at-start = c .before .before .before .before .before .before .before .before .before .before .before in
-    (at-start .pre .0, refl, refl, refl, refl, refl)
+loop-holds c = (c .before .before .before .before .before .before .pre .0, refl, refl, refl, refl)
 
+-- src/main.rt:45:13
 next-part-requires : tie.Need-next-part-requires Inv-loop μ-loop
-next-part-requires c κs =
-    let at-loop = c .before .before .before .before .before in
-    let at-start = at-loop .before .before .before .before .before .before .before .before .before .before .before .before in (
-      at-loop .loop .inv .0,
-      (
-        omega (arith, at-loop .loop .inv .1, at-start .pre .1 .0),
-        omega (arith, at-loop .loop .inv .4, at-start .pre .1 .1),
-        omega (arith, at-loop .loop .inv .5, at-start .pre .1 .2),
-      ),
-    )
+next-part-requires c κs = (
+  c .before .before .before .before .loop .inv .0,
+  (omega (arith, c .before .before .before .before .loop .inv .1, c .before .before .before .before .before .before .before .before .before .before .before .pre .1 .0), omega (arith, c .before .before .before .before .loop .inv .3, c .before .before .before .before .before .before .before .before .before .before .before .pre .1 .1), omega (arith, c .before .before .before .before .loop .inv .4, c .before .before .before .before .before .before .before .before .before .before .before .pre .1 .2)),
+)
 
+-- src/main.rt:47:30
 enum-known-next : tie.Need-enum-known-next Inv-loop μ-loop
 enum-known-next c = search needs
 
+-- src/main.rt:48:27
 slice-reshare-prefix-print : tie.Need-slice-reshare-prefix-print Inv-loop μ-loop
-slice-reshare-prefix-print c =
-    let at-next = c .before .before .before .before .before .before .before .before .before .before .before .before .before in
-    let at-loop = at-next .before .before .before .before .before .before in
-    let at-start = at-loop .before .before .before .before .before .before .before .before .before .before .before .before in
-    part-fits (at-start .args .table .now) (at-loop .loop .progress) (c .before .next .given .1) _ (at-next .next-part .ensures .0)
+slice-reshare-prefix-print c = part-fits (c .before .before .before .before .before .before .before .before .before .before .before .before .before .before .before .before .before .before .before .before .before .before .before .args .table .now) (c .before .before .before .before .before .before .before .before .before .before .before .before .before .before .before .before .loop .progress) (c .before .next .given .1) _ (c .before .before .before .before .before .before .before .before .before .before .before .next-part .ensures .0)
 
+-- src/main.rt:48:27
 slice-aggregate-print : tie.Need-slice-aggregate-print Inv-loop μ-loop
-slice-aggregate-print c =
-    let at-next = c .before .before .before .before .before .before .before .before .before .before .before .before .before .before in
-    let at-loop = at-next .before .before .before .before .before .before in
-    let at-start = at-loop .before .before .before .before .before .before .before .before .before .before .before .before in
-    let fits = part-fits (at-start .args .table .now) (at-loop .loop .progress) (c .before .before .next .given .1) _ (at-next .next-part .ensures .0) in
-    simp length-take (omega (arith, fits))
+slice-aggregate-print c = simp length-take (omega (arith, part-fits (c .before .before .before .before .before .before .before .before .before .before .before .before .before .before .before .before .before .before .before .before .before .before .before .before .args .table .now) (c .before .before .before .before .before .before .before .before .before .before .before .before .before .before .before .before .before .loop .progress) (c .before .before .next .given .1) _ (c .before .before .before .before .before .before .before .before .before .before .before .before .next-part .ensures .0)))
 
+-- src/main.rt:48:21
 print-requires : tie.Need-print-requires Inv-loop μ-loop
 print-requires c κs = search needs
 
+-- src/main.rt:49:21
 same-length : tie.Need-same-length Inv-loop μ-loop
 same-length c = search needs
 
+-- src/main.rt:49:21
 same-length-2 : tie.Need-same-length-2 Inv-loop μ-loop
 same-length-2 c = search needs
 
+-- src/main.rt:49:21
 same-length-3 : tie.Need-same-length-3 Inv-loop μ-loop
 same-length-3 c = search needs
 
+-- src/main.rt:49:21
 same-length-4 : tie.Need-same-length-4 Inv-loop μ-loop
 same-length-4 c = search needs
 
-same-length-5 : tie.Need-same-length-5 Inv-loop μ-loop
-same-length-5 c = search needs
-
+-- src/main.rt:49:21
 returns : tie.Need-returns Inv-loop μ-loop
 returns c = search needs
 
+-- src/main.rt:44:5
 loop-less : tie.Need-loop-less Inv-loop μ-loop
-loop-less c =
-    let at-part = c .before .before .before .before in
-    let at-next = at-part .before .before .before .before .before .before .before .before .before .before .before .before in
-    let at-loop = at-next .before .before .before .before .before .before in
-    let at-start = at-loop .before .before .before .before .before .before .before .before .before .before .before .before in
-    let goes-on = part-goes-on (at-start .args .table .now) (at-loop .loop .progress) (at-part .next .given .1) _ _ _ _ _ _ _ (at-next .next-part .ensures .1) in
-    goes-on .1
+loop-less c = (part-goes-on (c .before .before .before .before .before .before .before .before .before .before .before .before .before .before .before .before .before .before .before .before .before .before .before .before .before .before .args .table .now) (c .before .before .before .before .before .before .before .before .before .before .before .before .before .before .before .before .before .before .before .loop .progress) (c .before .before .before .before .next .given .1) _ _ (c .before .before .before .before .before .before .before .before .before .before .before .before .before .before .next-part .ensures .1)) .1
 
+-- src/main.rt:44:5
 loop-again : tie.Need-loop-again Inv-loop μ-loop
-loop-again c = (
-  (
-      let at-part = c .before .before .before .before in
-      let at-next = at-part .before .before .before .before .before .before .before .before .before .before .before .before in
-      let at-loop = at-next .before .before .before .before .before .before in
-      let at-start = at-loop .before .before .before .before .before .before .before .before .before .before .before .before in
-      let goes-on = part-goes-on (at-start .args .table .now) (at-loop .loop .progress) (at-part .next .given .1) _ _ _ _ _ _ _ (at-next .next-part .ensures .1) in
-      goes-on .0
-      ),
-  search needs,
-  search needs,
-  search needs,
-  search needs,
-  search needs,
-)
+loop-again c = ((part-goes-on (c .before .before .before .before .before .before .before .before .before .before .before .before .before .before .before .before .before .before .before .before .before .before .before .before .before .before .args .table .now) (c .before .before .before .before .before .before .before .before .before .before .before .before .before .before .before .before .before .before .before .loop .progress) (c .before .before .before .before .next .given .1) _ _ (c .before .before .before .before .before .before .before .before .before .before .before .before .before .before .next-part .ensures .1)) .0, search needs, search needs, search needs, search needs)
 
+-- src/main.rt:54:17
 enum-told : tie.Need-enum-told Inv-loop μ-loop
 enum-told c = search needs
 
+-- src/main.rt:54:17
+same-length-5 : tie.Need-same-length-5 Inv-loop μ-loop
+same-length-5 c = search needs
+
+-- src/main.rt:54:17
 same-length-6 : tie.Need-same-length-6 Inv-loop μ-loop
 same-length-6 c = search needs
 
+-- src/main.rt:54:17
 same-length-7 : tie.Need-same-length-7 Inv-loop μ-loop
 same-length-7 c = search needs
 
+-- src/main.rt:54:17
 same-length-8 : tie.Need-same-length-8 Inv-loop μ-loop
 same-length-8 c = search needs
 
-same-length-9 : tie.Need-same-length-9 Inv-loop μ-loop
-same-length-9 c = search needs
-
-same-length-10 : tie.Need-same-length-10 Inv-loop μ-loop
-same-length-10 c = search needs
-
+-- src/main.rt:54:17
 returns-2 : tie.Need-returns-2 Inv-loop μ-loop
 returns-2 c = search needs
 
@@ -139,14 +111,12 @@ print-parts-spec =
     same-length-2
     same-length-3
     same-length-4
-    same-length-5
     returns
     loop-less
     loop-again
     enum-told
+    same-length-5
     same-length-6
     same-length-7
     same-length-8
-    same-length-9
-    same-length-10
     returns-2)

@@ -7,7 +7,7 @@ use lib.ListN.{length, drop, length-drop}
 use Rattle.lists.specs.laws.AppendingLaws.{appended-nothing}
 use Rattle.rule.specs.Entries.{Entry}
 use Rattle.rule.specs.Lookup.{entriesIn}
-use Rattle.lookup.specs.laws.EntryListLaws.{entryAt, three-words}
+use Rattle.entry_codec.specs.laws.EntryAtLaws.{entryAt, three-words}
 use Rattle.text.specs.Text.{WrittenAt}
 use Rattle.text.specs.laws.TextLaws.{written-length, written-on, written-as}
 use Rattle.listing_lines.specs.Listing.{entryLine}

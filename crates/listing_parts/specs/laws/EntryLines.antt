@@ -13,19 +13,19 @@ use Rattle.rule.specs.Entries.{entryListOf}
 use Rattle.rule.specs.Calls.{planEntries}
 use Rattle.table.specs.declared.shape.Shape.{Shape}
 use Rattle.table.specs.Positions.{planAt}
-use Rattle.entry_words.specs.Words.{Readable}
-use Rattle.entries.specs.laws.PlanWords.{bridges-are}
+use Rattle.verdict.specs.Examination.{Checked}
+use Rattle.verdict.specs.laws.CheckedLaws.{bridges-counted}
 use Rattle.entries.specs.laws.PartLaws.{front-is}
 use Rattle.listing_lines.specs.Listing.{entryLine, entryLines}
 
-module _ {t : List ℕ} {s : Shape} (R : Readable t s) (b : ℕ) (known : b < s .bridges) {lent written : List ℕ} {count : ℕ}
+module _ {t : List ℕ} {s : Shape} (R : Checked t s) (b : ℕ) (known : b < s .bridges) {lent written : List ℕ} {count : ℕ}
     (A : Appended lent 0 (entryListOf (planAt (wordsOf t) s) b) written count) where
   -- "No bridge's list exceeds 14,931 words."
   pub few-listed : count ≤ 14931
   few-listed = omega (
     arith,
     A .end-is,
-    few-words (planAt (wordsOf t) s) (R .laws) b (omega (arith, bridges-are R)),
+    few-words (planAt (wordsOf t) s) (R .laws) b (omega (arith, bridges-counted R)),
   )
 
   -- So a line of at most 52 bytes for each 3 words has room in 258,804 bytes.
@@ -40,4 +40,4 @@ module _ {t : List ℕ} {s : Shape} (R : Readable t s) (b : ℕ) (known : b < s 
       same : flatMap (entryLine b) (entriesIn (take count written)) ≡ entryLines b (planEntries (planAt (wordsOf t) s) b)
       same =
           ap (λ (ws : List ℕ). flatMap (entryLine b) (entriesIn ws)) (front-is A)
-          ∙ rw (lt-ltb b (length (planAt (wordsOf t) s .bridges)) (omega (arith, bridges-are R))) refl
+          ∙ rw (lt-ltb b (length (planAt (wordsOf t) s .bridges)) (omega (arith, bridges-counted R))) refl

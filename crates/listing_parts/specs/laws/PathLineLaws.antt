@@ -1,4 +1,4 @@
--- The path lines of one VID and from (01, "Listing program"), pair by pair, by the trees over the lists of a table's plan.
+-- The path lines of one VID and from (01, "Listing program"), pair by pair, by the trees of its network.
 -- Assumes nothing.
 use Prim.Native.Nat.{ℕ, _*_, _≤_, _<_}
 use native.Mathlib.Omega.{arith}
@@ -20,14 +20,14 @@ use Rattle.rule.specs.Calls.{planPath}
 use Rattle.rule.specs.laws.CallLaws.{named-asked, vid-found}
 use Rattle.table.specs.declared.shape.Shape.{Shape}
 use Rattle.table.specs.Positions.{planAt}
-use Rattle.network.specs.PlanLists.{Listed, TreeOfLists}
+use Rattle.network.specs.Networks.{TableNetwork, TreeIn}
 use Rattle.path.specs.Labelled.{labelledPath, Followable}
 use Rattle.path.specs.laws.LabelledLaws.{labelled-path, tree-followable}
-use Rattle.entry_words.specs.Words.{vidNumber}
-use Rattle.entries.specs.laws.PlanWords.{bridges-are}
+use Rattle.table.specs.Numbered.{vidNumber}
+use Rattle.verdict.specs.laws.CheckedLaws.{bridges-counted}
 use Rattle.entries.specs.laws.NeededLaws.{vid-listed}
 use Rattle.listing_lines.specs.Listing.{pathLine, pathLines}
-use Rattle.listing_parts.specs.PathLines.{TableLists, pairLine}
+use Rattle.listing_parts.specs.laws.PairLines.{pairLine}
 
 module _ (p : Plan) (vid a : ℕ) where
   pub one-bridge : (b : ℕ) → b ≡ a → (lent : List ℕ) (at : ℕ) → Appended lent at (pairLine p vid a b) lent at
@@ -42,30 +42,27 @@ module _ (p : Plan) (vid a : ℕ) where
   unfolding pairLine pathLines
   all-pairs = sym (flatMap-selected (λ b. pathLine vid a b (planPath p vid a b)) (λ b. not (eqb b a)) (rising 0 (length (p .bridges))))
 
-module _ {t : List ℕ} {s : Shape} {starts neighbours costs identifiers : List ℕ} (L : TableLists t s starts neighbours costs identifiers) where
-  pub lists-listed : Listed (s .bridges) starts neighbours costs identifiers
-  lists-listed = record { plan = planAt (wordsOf t) s; lists = L .lists }
-
+module _ {t : List ℕ} {s : Shape} {net : List ℕ} (L : TableNetwork t s net) where
   module _ (k : ℕ) (known-vid : k < s .vids) (v : Vid) (e : v ≡ vidNumber (wordsOf t) s k) where
     vid-in : In v (planAt (wordsOf t) s .vids)
-    vid-in = subst (λ (w : Vid). In w (planAt (wordsOf t) s .vids)) (sym e) (vid-listed (L .readable) k known-vid)
+    vid-in = subst (λ (w : Vid). In w (planAt (wordsOf t) s .vids)) (sym e) (vid-listed (L .checked) k known-vid)
 
     pub index-fits : (1 ≤ v .index) × (v .index ≤ 16)
-    index-fits = let F = L .readable .laws .vids .fits v vid-in in (F .least-index, F .greatest-index)
+    index-fits = let F = L .checked .laws .vids .fits v vid-in in (F .least-index, F .greatest-index)
 
     module _ (a b : ℕ) (known-a : a < s .bridges) (known-b : b < s .bridges) {labels : List ℕ}
-        (T : TreeOfLists (s .bridges) starts neighbours costs identifiers (v .index) b labels) where
+        (T : TreeIn net (v .index) b labels) where
       abbrev plan : Plan
       plan = planAt (wordsOf t) s
 
       pub pair-followable : Followable labels a
-      pair-followable = tree-followable plan (L .readable .laws) (v .index) b labels (T .of-plan plan (L .lists)) a (omega (arith, bridges-are (L .readable)))
+      pair-followable = tree-followable plan (L .checked .laws) (v .index) b labels (T .of-plan plan (L .network)) a (omega (arith, bridges-counted (L .checked)))
 
       -- The labels answer what the path call answers.
       pub pair-answer : labelledPath labels a ≡ planPath plan (v .vid) a b
       pair-answer =
-          labelled-path plan (L .readable .laws) (v .index) b labels (T .of-plan plan (L .lists)) a (omega (arith, bridges-are (L .readable)))
-          ∙ sym (named-asked plan (v .vid) v (vid-found plan (L .readable .laws) v vid-in) a b (omega (arith, bridges-are (L .readable))) (omega (arith, bridges-are (L .readable))))
+          labelled-path plan (L .checked .laws) (v .index) b labels (T .of-plan plan (L .network)) a (omega (arith, bridges-counted (L .checked)))
+          ∙ sym (named-asked plan (v .vid) v (vid-found plan (L .checked .laws) v vid-in) a b (omega (arith, bridges-counted (L .checked))) (omega (arith, bridges-counted (L .checked))))
 
       pub pair-written : (b ≡ a → ⊥) → {at next : ℕ} {before after : List ℕ}
           → Appended before at (pathLine (v .vid) a b (labelledPath labels a)) after next
@@ -79,4 +76,4 @@ module _ {t : List ℕ} {s : Shape} {starts neighbours costs identifiers : List 
       → 764 * s .bridges ≤ length before → s .bridges ≤ to → Appended before 0 (pathLines (planAt (wordsOf t) s) vid a) after next × (next ≤ 764 * s .bridges)
   pairs-written vid a {to} {next} {before} {after} A room l =
       let E = few-ends A (omega arith) l
-      in (rw (sym (all-pairs (planAt (wordsOf t) s) vid a), bridges-are (L .readable)) (E .0), omega (arith, E .1))
+      in (rw (sym (all-pairs (planAt (wordsOf t) s) vid a), bridges-counted (L .checked)) (E .0), omega (arith, E .1))

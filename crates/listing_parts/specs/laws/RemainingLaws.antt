@@ -4,7 +4,7 @@ use Prim.Native.Nat.{ℕ, suc, _+_, _-_, _≤_, _<_}
 use native.Mathlib.Omega.{arith}
 use native.Mathlib.Nat.{zero-add}
 use mathlib.Core.Path.{_≡_, refl, sym, ap, subst, _∙_}
-use mathlib.Core.List.{List, [], _∷_, _++_, map, flatMap, append-nil}
+use mathlib.Core.List.{List, [], _∷_, _++_, flatMap, append-nil}
 use lib.ListN.{length, getD, take, drop, length-map, drop-of-length-le}
 use lib.Seq.{drop-cons}
 use Rattle.lists.specs.Lists.{rising}
@@ -24,8 +24,8 @@ use Rattle.table.specs.declared.shape.Shape.{Shape}
 use Rattle.table.specs.Positions.{planAt}
 use Rattle.verdict.specs.declared.examine.Examined.{Examined}
 use Rattle.verdict.specs.Examination.{examinedValues}
-use Rattle.network.specs.KeptTrees.{TreesHeld}
-use Rattle.entries.specs.Whole.{PlanOf}
+use Rattle.network.specs.Networks.{TableNetwork}
+use Rattle.network.specs.Store.{TreesKept}
 use Rattle.entries.specs.laws.PartLaws.{front-is}
 use Rattle.text.specs.Text.{line}
 use Rattle.text.specs.CheckText.{refusedWord}
@@ -61,25 +61,25 @@ abbrev begun : Shape → Counts → Progress
 begun s c = record { examined = Examined.Accepted s; counts = c; given = 0 }
 
 -- A listing that was begun: the verdict is that on the table, and nothing was given.
-module _ (t : List ℕ) (r : Examined) (e : examinedValues (wordsOf t) r ≡ verdict t) {starts neighbours costs ports identifiers marks trees : List ℕ} where
-  pub begun-accepted : (s : Shape) → r ≡ Examined.Accepted s → PlanOf t s starts neighbours costs ports identifiers
-      → TreesHeld (s .bridges) starts neighbours costs identifiers marks trees → (c : Counts) → c ≡ countsOf (planAt (wordsOf t) s)
+module _ (t : List ℕ) (r : Examined) (e : examinedValues (wordsOf t) r ≡ verdict t) {net store : List ℕ} where
+  pub begun-accepted : (s : Shape) → r ≡ Examined.Accepted s → TableNetwork t s net
+      → TreesKept net store → (c : Counts) → c ≡ countsOf (planAt (wordsOf t) s)
       → (remaining t (begun s c) ≡ listing t)
-      × Underway t (begun s c) starts neighbours costs ports identifiers marks trees
+      × Underway t (begun s c) net store
   begun-accepted s f P T c g = (
     whole-left t (begun s c) refl,
     record { of-table = sym (ap (examinedValues (wordsOf t)) f) ∙ e; accepted = ready },
   )
     where
-      ready : (s′ : Shape) → Examined.Accepted s ≡ Examined.Accepted s′ → PartsReady t (begun s c) s′ starts neighbours costs ports identifiers marks trees
+      ready : (s′ : Shape) → Examined.Accepted s ≡ Examined.Accepted s′ → PartsReady t (begun s c) s′ net store
       ready s′ h =
           let z : s ≡ s′ = cc
-          in subst (λ (x : Shape). PartsReady t (begun s c) x starts neighbours costs ports identifiers marks trees) z
-          (record { lists = P; trees-held = T; counted = g })
+          in subst (λ (x : Shape). PartsReady t (begun s c) x net store) z
+          (record { table-network = P; trees-kept = T; counted = g })
 
   pub begun-refused : (number at : ℕ) (kind : RecordKind) → r ≡ Examined.Refused number kind at → (c : Counts)
       → (remaining t (record { examined = Examined.Refused number kind at; counts = c; given = 0 }) ≡ listing t)
-      × Underway t (record { examined = Examined.Refused number kind at; counts = c; given = 0 }) starts neighbours costs ports identifiers marks trees
+      × Underway t (record { examined = Examined.Refused number kind at; counts = c; given = 0 }) net store
   begun-refused number at kind f c = (
     whole-left t (record { examined = Examined.Refused number kind at; counts = c; given = 0 }) refl,
     record {
@@ -162,41 +162,38 @@ module _ (t : List ℕ) (b : Progress) where
       refused-ended l = nothing-left (omega (arith, one-part))
 
 -- The answer to "the next part?", and that the listing is underway after it.
-abbrev Answered :
-    List ℕ → Progress → List ℕ → List ℕ → List ℕ → List ℕ → List ℕ → List ℕ → List ℕ → List ℕ → NextPart → Type 0
-Answered t b starts neighbours costs ports identifiers marks trees out r =
-    NextOf t b out r × GoesOn t b starts neighbours costs ports identifiers marks trees r
+abbrev Answered : List ℕ → Progress → List ℕ → List ℕ → List ℕ → NextPart → Type 0
+Answered t b net store out r = NextOf t b out r × GoesOn t b net store r
 
 -- One part more was given.
 abbrev more : Progress → Examined → Progress
 more b r = record { examined = r; counts = b .counts; given = b .given + 1 }
 
-module _ {t : List ℕ} {b : Progress} {starts neighbours costs ports identifiers marks trees : List ℕ}
-    (U : Underway t b starts neighbours costs ports identifiers marks trees) where
+module _ {t : List ℕ} {b : Progress} {net store : List ℕ} (U : Underway t b net store) where
   pub next-accepted : (s : Shape) → b .examined ≡ Examined.Accepted s → b .given < partCount (planAt (wordsOf t) s)
       → {out out′ : List ℕ} {written : ℕ} → Appended out 0 (listingPart (planAt (wordsOf t) s) (b .given)) out′ written → written ≤ length out′
-      → {marks′ trees′ : List ℕ} → TreesHeld (s .bridges) starts neighbours costs identifiers marks′ trees′
+      → {store′ : List ℕ} → TreesKept net store′
       → (r : NextPart) → r ≡ NextPart.Part written (more b (Examined.Accepted s))
-      → Answered t b starts neighbours costs ports identifiers marks′ trees′ out′ r
-  next-accepted s f l {out} {out′} A m {marks′} {trees′} T r e =
+      → Answered t b net store′ out′ r
+  next-accepted s f l {out} {out′} A m {store′} T r e =
       let P = accepted-part t b (U .of-table) s f l A (more b (Examined.Accepted s)) refl
-      in subst (Answered t b starts neighbours costs ports identifiers marks′ trees′ out′) (sym e)
+      in subst (Answered t b net store′ out′) (sym e)
       ((m, P .0), (record { of-table = sym (ap (examinedValues (wordsOf t)) f) ∙ U .of-table; accepted = ready }, P .1))
     where
       ready : (s′ : Shape) → Examined.Accepted s ≡ Examined.Accepted s′
-          → PartsReady t (more b (Examined.Accepted s)) s′ starts neighbours costs ports identifiers marks′ trees′
+          → PartsReady t (more b (Examined.Accepted s)) s′ net store′
       ready s′ h =
           let z : s ≡ s′ = cc
-          in subst (λ (x : Shape). PartsReady t (more b (Examined.Accepted s)) x starts neighbours costs ports identifiers marks′ trees′) z
-          (record { lists = U .accepted s f .lists; trees-held = T; counted = U .accepted s f .counted })
+          in subst (λ (x : Shape). PartsReady t (more b (Examined.Accepted s)) x net store′) z
+          (record { table-network = U .accepted s f .table-network; trees-kept = T; counted = U .accepted s f .counted })
 
   pub next-refused : (number at : ℕ) (kind : RecordKind) → b .examined ≡ Examined.Refused number kind at → b .given ≡ 0
       → {out out′ : List ℕ} {written : ℕ} → Appended out 0 (line refusedWord (number ∷ at ∷ [])) out′ written → written ≤ length out′
       → (r : NextPart) → r ≡ NextPart.Part written (more b (Examined.Refused number kind at))
-      → Answered t b starts neighbours costs ports identifiers marks trees out′ r
+      → Answered t b net store out′ r
   next-refused number at kind f l {out} {out′} A m r e =
       let P = refused-part t b (U .of-table) number at kind f l A (more b (Examined.Refused number kind at)) refl
-      in subst (Answered t b starts neighbours costs ports identifiers marks trees out′) (sym e) (
+      in subst (Answered t b net store out′) (sym e) (
         (m, P .0),
         (
           record {
@@ -212,7 +209,7 @@ module _ (t : List ℕ) (b : Progress) {r : NextPart} {written : ℕ} {after : P
   pub part-fits : (out : List ℕ) → NextOf t b out r → written ≤ length out
   part-fits out N = subst (NextOf t b out) e N .0
 
-  pub part-goes-on : (starts neighbours costs ports identifiers marks trees : List ℕ) → GoesOn t b starts neighbours costs ports identifiers marks trees r
-      → Underway t after starts neighbours costs ports identifiers marks trees × (partsLeft t after < partsLeft t b)
-  part-goes-on starts neighbours costs ports identifiers marks trees G =
-      subst (GoesOn t b starts neighbours costs ports identifiers marks trees) e G
+  pub part-goes-on : (net store : List ℕ) → GoesOn t b net store r
+      → Underway t after net store × (partsLeft t after < partsLeft t b)
+  part-goes-on net store G =
+      subst (GoesOn t b net store) e G

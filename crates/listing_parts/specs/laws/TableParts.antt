@@ -15,21 +15,14 @@ use Rattle.table.specs.Positions.{vidsFrom, planAt}
 use Rattle.table.specs.laws.PositionLaws.{how-many, record-at}
 use Rattle.text.specs.Text.{line}
 use Rattle.text.specs.CheckText.{countsWord, countsFields}
-use Rattle.entry_words.specs.Words.{vidNumber}
-use Rattle.entries.specs.Whole.{PlanOf}
+use Rattle.table.specs.Numbered.{vidNumber}
 use Rattle.listing_lines.specs.Listing.{pathLines, entryLines}
-use Rattle.listing_parts.specs.PathLines.{TableLists}
 use Rattle.listing_parts.specs.Parts.{pairCount, partCount, listingPart}
 use Rattle.listing_parts.specs.laws.PartLaws.{path-part, entry-part}
 
 -- A plan has at most 16 VIDs and 64 bridges.
 pub few-pairs : (vids bridges : ℕ) → vids ≤ 16 → bridges ≤ 64 → vids * bridges ≤ 1024
 few-pairs vids bridges h l = omega (arith, mul-le-mul-left vids l, mul-le-mul-right 64 h)
-
--- What the path lines need of the lists of the table's plan.
-pub table-lists : {t : List ℕ} {s : Shape} {starts neighbours costs ports identifiers : List ℕ} → PlanOf t s starts neighbours costs ports identifiers
-    → TableLists t s starts neighbours costs identifiers
-table-lists P = record { readable = P .readable; lists = P .lists; few-identifiers = P .few-identifiers }
 
 module _ (ws : List ℕ) (s : Shape) where
   abbrev plan : Plan

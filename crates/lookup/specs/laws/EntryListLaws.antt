@@ -12,27 +12,16 @@ use lib.ListN.{length, drop, getElem?, length-drop}
 use borrow.Author.Tests.{lt-ltb, le-ltb}
 use Rattle.lists.specs.Lists.{consIf, selected}
 use Rattle.lists.specs.laws.NumberLaws.{le-or-gt}
-use Rattle.lists.specs.laws.MemberLaws.{drop-next}
 use Rattle.rule.specs.Words.{word, bits}
 use Rattle.rule.specs.Entries.{Entry}
-use Rattle.rule.specs.Lookup.{entryOf, entriesIn, faultyEntry, faultyList, matchingPorts}
-
--- The entry that begins with the word `at`.
-abbrev pub entryAt : List ℕ → ℕ → Entry
-entryAt ws at = entryOf (word ws at) (word ws (at + 1)) (word ws (at + 2))
+use Rattle.rule.specs.Lookup.{entriesIn, faultyEntry, faultyList, matchingPorts}
+use Rattle.entry_codec.specs.laws.EntryAtLaws.{entryAt, three-words}
 
 abbrev pub faultyAt : List ℕ → ℕ → Bool
 faultyAt ws at = faultyEntry (entryAt ws at) (bits (word ws (at + 1)) 31 16)
 
 abbrev pub matchesAt : List ℕ → ℕ → ℕ → ℕ → Bool
 matchesAt ws vid address at = eqb (entryAt ws at .vid) vid && eqb (entryAt ws at .address) address
-
-pub three-words : (ws : List ℕ) (at : ℕ) → 3 ≤ length ws - at
-    → drop at ws ≡ word ws at ∷ word ws (at + 1) ∷ word ws (at + 2) ∷ drop (at + 3) ws
-three-words ws at h =
-    drop-next ws at (at + 1) 0 (omega arith) (omega arith)
-    ∙ ap (λ (t : List ℕ). word ws at ∷ t) (drop-next ws (at + 1) (at + 2) 0 (omega arith) (omega arith)
-    ∙ ap (λ (t : List ℕ). word ws (at + 1) ∷ t) (drop-next ws (at + 2) (at + 3) 0 (omega arith) (omega arith)))
 
 -- Faults
 

@@ -28,8 +28,8 @@ use Rattle.rule.specs.Paths.{chosenPath}
 use Rattle.rule.specs.Calls.{pathFound}
 use Rattle.tree.specs.Labels.{noCost, labelAt}
 use Rattle.tree.specs.Trees.{SaysPath, TreeOf}
-use Rattle.network.specs.PlanLists.{PlanTree}
-use Rattle.network.specs.laws.PlanListLaws.{hop-usable}
+use Rattle.network.specs.Networks.{PlanTree}
+use Rattle.network.specs.laws.NetworkLaws.{hop-usable}
 use Rattle.path.specs.Followed.{followed, Inside}
 use Rattle.path.specs.laws.FollowedLaws.{followed-length}
 use Rattle.path.specs.Labelled.{labelledPath, Followable}
@@ -80,16 +80,16 @@ module _ (p : Plan) (L : PlanLaws p) (index root : ℕ) (labels : List ℕ) (T :
     where
       go : (o : Option (List ℕ)) → chosen (graphOf p) (keyOf p index) u root ≡ o → SaysPath (graphOf p) o (labelAt labels u)
           → labelledPath labels u ≡ pathFound p o
-      go none e f = rw (eq-eqb (labelAt labels u .far) noCost f) refl
+      go none e f = rw (eq-eqb (labelAt labels u .cost) noCost f) refl
       go (some q) e (c, s, n, f) =
-          let d : (labelAt labels u .far ≡ noCost → ⊥) = λ z. omega (arith, path-cheaper q (chosen-says q e) .0, c)
-          in rw (ne-eqb (labelAt labels u .far) noCost d) (made (labelAt labels u .far) (labelAt labels u .steps) c s (along q e))
+          let d : (labelAt labels u .cost ≡ noCost → ⊥) = λ z. omega (arith, path-cheaper q (chosen-says q e) .0, c)
+          in rw (ne-eqb (labelAt labels u .cost) noCost d) (made (labelAt labels u .cost) (labelAt labels u .hops) c s (along q e))
         where
-          made : (far steps : ℕ) → far ≡ cost (graphOf p) q → steps ≡ hops q → followed labels u (hops q + 1) ≡ q
+          made : (label-cost label-hops : ℕ) → label-cost ≡ cost (graphOf p) q → label-hops ≡ hops q → followed labels u (hops q + 1) ≡ q
               → _≡_ {A = Outcome (Written CostAndHops)}
-              (answered (record { values = record { cost = far; hops = steps }; words = followed labels u (steps + 1) }))
+              (answered (record { values = record { cost = label-cost; hops = label-hops }; words = followed labels u (label-hops + 1) }))
               (pathFound p (some q))
-          made far steps c s f = λ i. answered (record {
+          made label-cost label-hops c s f = λ i. answered (record {
             values = record { cost = c i; hops = s i };
             words = (ap (λ (k : ℕ). followed labels u (k + 1)) s ∙ f) i;
           })
@@ -101,27 +101,27 @@ module _ (p : Plan) (L : PlanLaws p) (index root : ℕ) (labels : List ℕ) (T :
     inside = λ d. go d (chosen (graphOf p) (keyOf p index) u root) refl (T .each u h) .1;
   }
     where
-      go : (labelAt labels u .far ≡ noCost → ⊥) → (o : Option (List ℕ)) → chosen (graphOf p) (keyOf p index) u root ≡ o
-          → SaysPath (graphOf p) o (labelAt labels u) → (labelAt labels u .steps < 64) × Inside labels u (labelAt labels u .steps + 1)
+      go : (labelAt labels u .cost ≡ noCost → ⊥) → (o : Option (List ℕ)) → chosen (graphOf p) (keyOf p index) u root ≡ o
+          → SaysPath (graphOf p) o (labelAt labels u) → (labelAt labels u .hops < 64) × Inside labels u (labelAt labels u .hops + 1)
       go d none e f = absurd (d f)
       go d (some q) e (c, s, n, f) =
           let P = chosen-says q e
-          in let m : labelAt labels u .steps < 64 = omega (arith, path-cheaper q P .1)
-          in let w : followed labels u (labelAt labels u .steps + 1) ≡ q = ap (λ (k : ℕ). followed labels u (k + 1)) s ∙ along q e
+          in let m : labelAt labels u .hops < 64 = omega (arith, path-cheaper q P .1)
+          in let w : followed labels u (labelAt labels u .hops + 1) ≡ q = ap (λ (k : ℕ). followed labels u (k + 1)) s ∙ along q e
           in (m, λ x i. omega (arith, L .bridges .few, stays-inside (graphOf p) (graph-laws p L) u root q h (P .path) x (subst (λ (z : List ℕ). In x z) w i)))
 
 module _ (labels : List ℕ) (u : ℕ) (old : List ℕ) where
-  pub no-path-labelled : (o : Outcome CostAndHops) → o ≡ refusedAs 12 → labelAt labels u .far ≡ noCost
+  pub no-path-labelled : (o : Outcome CostAndHops) → o ≡ refusedAs 12 → labelAt labels u .cost ≡ noCost
       → _≡_ {A = Outcome CostAndHops × List ℕ} (o, old) (lentTo old (labelledPath labels u))
-  no-path-labelled o f e = rw (f, eq-eqb (labelAt labels u .far) noCost e) refl
+  no-path-labelled o f e = rw (f, eq-eqb (labelAt labels u .cost) noCost e) refl
 
   -- A path, of which `hops` was read, and how many bridges it has.
-  module _ (d : labelAt labels u .far ≡ noCost → ⊥) {hops count : ℕ} (read-hops : hops ≡ labelAt labels u .steps) (counted : count ≡ hops + 1) where
-    count-is : count ≡ labelAt labels u .steps + 1
+  module _ (d : labelAt labels u .cost ≡ noCost → ⊥) {hops count : ℕ} (read-hops : hops ≡ labelAt labels u .hops) (counted : count ≡ hops + 1) where
+    count-is : count ≡ labelAt labels u .hops + 1
     count-is = omega arith
 
-    bridges-labelled : length (followed labels u (labelAt labels u .steps + 1)) ≡ labelAt labels u .steps + 1
-    bridges-labelled = followed-length labels u (labelAt labels u .steps + 1)
+    bridges-labelled : length (followed labels u (labelAt labels u .hops + 1)) ≡ labelAt labels u .hops + 1
+    bridges-labelled = followed-length labels u (labelAt labels u .hops + 1)
 
     pub bridges-inside : Followable labels u → Inside labels u count
     bridges-inside F = rw count-is (F .inside d)
@@ -129,19 +129,19 @@ module _ (labels : List ℕ) (u : ℕ) (old : List ℕ) where
     pub list-too-short : (o : Outcome CostAndHops) → o ≡ refusedAs 13 → length old < count
         → _≡_ {A = Outcome CostAndHops × List ℕ} (o, old) (lentTo old (labelledPath labels u))
     list-too-short o f h =
-        rw (f, ne-eqb (labelAt labels u .far) noCost d, bridges-labelled, lt-leb (labelAt labels u .steps + 1) (length old) (omega arith)) refl
+        rw (f, ne-eqb (labelAt labels u .cost) noCost d, bridges-labelled, lt-leb (labelAt labels u .hops + 1) (length old) (omega arith)) refl
 
-    pub path-written : {cost : ℕ} → cost ≡ labelAt labels u .far → (new : List ℕ) → count ≤ length old
+    pub path-written : {cost : ℕ} → cost ≡ labelAt labels u .cost → (new : List ℕ) → count ≤ length old
         → new ≡ spliced old 0 (followed labels u count)
         → _≡_ {A = Outcome CostAndHops × List ℕ}
         (answered (record { cost = cost; hops = hops }), new)
         (lentTo old (labelledPath labels u))
     path-written read-cost new h e =
-        rw (ne-eqb (labelAt labels u .far) noCost d, le-leb (length (followed labels u (labelAt labels u .steps + 1))) (length old) (omega (arith, bridges-labelled)))
+        rw (ne-eqb (labelAt labels u .cost) noCost d, le-leb (length (followed labels u (labelAt labels u .hops + 1))) (length old) (omega (arith, bridges-labelled)))
         (λ i. (answered (record { cost = read-cost i; hops = read-hops i }), (e ∙ ap (λ (k : ℕ). spliced old 0 (followed labels u k)) count-is ∙ front) i))
       where
-        front : spliced old 0 (followed labels u (labelAt labels u .steps + 1)) ≡ overwritten (followed labels u (labelAt labels u .steps + 1)) old
+        front : spliced old 0 (followed labels u (labelAt labels u .hops + 1)) ≡ overwritten (followed labels u (labelAt labels u .hops + 1)) old
         front =
-            ap (λ (k : ℕ). followed labels u (labelAt labels u .steps + 1) ++ drop k old)
-            {x = 0 + length (followed labels u (labelAt labels u .steps + 1))} {y = length (followed labels u (labelAt labels u .steps + 1))}
+            ap (λ (k : ℕ). followed labels u (labelAt labels u .hops + 1) ++ drop k old)
+            {x = 0 + length (followed labels u (labelAt labels u .hops + 1))} {y = length (followed labels u (labelAt labels u .hops + 1))}
             (omega arith)

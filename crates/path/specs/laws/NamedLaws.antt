@@ -17,7 +17,8 @@ use Rattle.rule.specs.Outcome.{Outcome, refusedAs}
 use Rattle.rule.specs.Plan.{Plan, hasVid, vidRecord}
 use Rattle.rule.specs.PlanLaws.{PlanLaws}
 use Rattle.rule.specs.Calls.{named}
-use Rattle.network.specs.PlanLists.{PlanTree, indexOf}
+use Rattle.table.specs.Numbered.{indexOf}
+use Rattle.network.specs.Networks.{PlanTree}
 use Rattle.path.specs.Named.{namedIndex, NamedTree}
 
 module _ (p : Plan) (L : PlanLaws p) (vid : ℕ) where

@@ -18,11 +18,11 @@ slice-aggregate-read-bytes c = search needs
 read-bytes-requires : tie.Need-read-bytes-requires Inv-loop μ-loop
 read-bytes-requires c κs = search needs
 
-slice-aggregate-write-all : tie.Need-slice-aggregate-write-all Inv-loop μ-loop
-slice-aggregate-write-all c = search needs
+slice-aggregate-refuse : tie.Need-slice-aggregate-refuse Inv-loop μ-loop
+slice-aggregate-refuse c = search needs
 
-write-all-requires : tie.Need-write-all-requires Inv-loop μ-loop
-write-all-requires c κs = search needs
+refuse-requires : tie.Need-refuse-requires Inv-loop μ-loop
+refuse-requires c = search needs
 
 returns : tie.Need-returns Inv-loop μ-loop
 returns c = search needs
@@ -57,8 +57,8 @@ answer-questions-spec =
     loop-holds
     slice-aggregate-read-bytes
     read-bytes-requires
-    slice-aggregate-write-all
-    write-all-requires
+    slice-aggregate-refuse
+    refuse-requires
     returns
     slice-aggregate-answer-words
     answer-words-requires

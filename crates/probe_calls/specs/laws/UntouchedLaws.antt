@@ -1,14 +1,14 @@
 -- A lent list whose every place was set, and its front. Assumes nothing.
-use Prim.Native.Nat.{ℕ, zero, suc, _+_, _≤_}
+use Prim.Native.Nat.{ℕ, _+_, _≤_}
 use native.Mathlib.Omega.{arith}
-use mathlib.Core.Path.{_≡_, refl, ap, _∙_}
-use mathlib.Core.List.{List, _∷_, _++_, map, append-nil}
-use lib.ListN.{length, take, drop, drop-of-length-le, length-map}
+use mathlib.Core.Path.{_≡_, ap, _∙_}
+use mathlib.Core.List.{List, _∷_, _++_, append-nil}
+use lib.ListN.{length, take, drop-of-length-le, length-map}
 use Rattle.lists.specs.Lists.{rising}
 use Rattle.lists.specs.laws.SelectedLaws.{length-rising}
 use Rattle.lists.specs.laws.GivenLaws.{front-of-rising}
 use Rattle.rule.specs.Calls.{treeOutcome}
-use Rattle.path.specs.laws.PlaceLaws.{Filling, filling-ends}
+use Rattle.path.specs.laws.BranchLaws.{Filling, filling-ends}
 use Rattle.probe_calls.specs.AnswerText.{untouchedPlace, untouched, treeText}
 
 pub all-untouched : {before now : List ℕ} {i : ℕ} → Filling untouchedPlace before now (length before) i → length before ≤ i

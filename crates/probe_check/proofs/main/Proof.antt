@@ -1,5 +1,4 @@
 -- `probe_check::main` ends: the measure is the number of turns that are left. Assumes nothing.
-use native.Mathlib.Omega.{arith}
 use borrow.Author.Needs.{needs}
 use Rattle.probe_check.proofs.main.Statement.{statement}
 use Rattle.probe_check.proofs.main.Tie as tie

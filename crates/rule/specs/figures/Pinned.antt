@@ -17,7 +17,7 @@ use Rattle.rule.specs.figures.Tables.{table}
 use Rattle.rule.specs.Records.{Record, bridge, halfLink, vid, member, end, bridgeOf, halfLinkOf, vidOf, memberOf, allWithin, leastMetric, greatestUsableMetric, unusableMetric, layouts, layoutOf}
 use Rattle.rule.specs.Outcome.{Outcome, answered, refused}
 use Rattle.rule.specs.Plan.{Plan, withRecord, alike, bridgeAt, vidAt}
-use Rattle.rule.specs.Check.{lowestFault, readOn, verdict}
+use Rattle.rule.specs.Check.{longestTable, lowestFault, readOn, verdict}
 use Rattle.rule.specs.Links.{Link, number, linksOf, usableLinks, countUsable, linksBetween, joined, hopLink, graphOf}
 use Rattle.rule.specs.Identifiers.{maskOf, maskedBytes, maskedIdentifier}
 use Rattle.rule.specs.Paths.{chosenPath}
@@ -375,7 +375,7 @@ pins =
     ∷ (4 ∷ 2 ∷ 64 ∷ [])
     ∷ (15 ∷ 1 ∷ 1 ∷ [])
     ∷ []))
-    ∷ pin (numbers (4 * sumOver (λ l. l .words * l .limit) layouts ∷ [])) (numbers (7492 ∷ []))
+    ∷ pin (numbers (4 * sumOver (λ l. l .words * l .limit) layouts ∷ longestTable ∷ [])) (numbers (7492 ∷ 7492 ∷ []))
     -- "Ranges: SPsourceID 1 to 1,048,575; address neither zero nor a group address; metric 1 to 16,777,215; port 1 to 4,095; link number
     -- 1 to 65,535; VID 1 to 4,094; ECT index 1 to 16; I-SID 256 to 16,777,214": the least and the greatest values, row by row.
     ∷ pin (rows (map (λ l. flatMap (λ g. g .limits .least ∷ g .limits .greatest ∷ []) (l .ranges)) layouts))

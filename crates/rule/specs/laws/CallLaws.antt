@@ -16,7 +16,7 @@ use Rattle.lists.specs.laws.SelectedLaws.{selected-in, in-selected}
 use Rattle.lists.specs.laws.DistinctLaws.{distinct-selected, only-one}
 use Rattle.rule.specs.Records.{Vid}
 use Rattle.rule.specs.Outcome.{Outcome, answered, refused, andThen, refusedAs, Written, overwritten, lentTo}
-use Rattle.rule.specs.Plan.{Plan, knownBridge, vidRecord}
+use Rattle.rule.specs.Plan.{Plan, knownBridge, vidRecord, planOfVid}
 use Rattle.rule.specs.Check.{verdict}
 use Rattle.rule.specs.Paths.{chosenPath}
 use Rattle.rule.specs.Entries.{entryListOf}
@@ -67,11 +67,11 @@ module _ {A : Type 0} where
 module _ (p : Plan) where
   -- What the path call answers for a VID with a record and two bridges that the plan has.
   pub named-asked : (vid : ℕ) (v : Vid) → vidRecord p vid ≡ some v → (a b : ℕ) → a < length (p .bridges) → b < length (p .bridges)
-      → planPath p vid a b ≡ pathFound p (chosenPath p (v .index) a b)
+      → planPath p vid a b ≡ pathFound (planOfVid p v) (chosenPath (planOfVid p v) (v .index) a b)
   named-asked vid v e a b h l =
       (λ i. named (is-true (knownBridge p a && knownBridge p b)
       (both (knownBridge p a) (knownBridge p b) (lt→ltb a (length (p .bridges)) h) (lt→ltb b (length (p .bridges)) l)) i)
-      (e i) λ w. pathFound p (chosenPath p (w .index) a b))
+      (e i) λ w. pathFound (planOfVid p w) (chosenPath (planOfVid p w) (w .index) a b))
 
   -- The record of a VID of the plan.
   pub vid-found : PlanLaws p → (v : Vid) → In v (p .vids) → vidRecord p (v .vid) ≡ some v
@@ -82,7 +82,7 @@ module _ (p : Plan) where
 
 module _ (t : List ℕ) (p : Plan) (accepted : verdict t ≡ answered p) (L : PlanLaws p) where
   pub path-asked : (v : Vid) → In v (p .vids) → (a b : ℕ) → a < length (p .bridges) → b < length (p .bridges)
-      → pathAnswer t (v .vid) a b ≡ pathFound p (chosenPath p (v .index) a b)
+      → pathAnswer t (v .vid) a b ≡ pathFound (planOfVid p v) (chosenPath (planOfVid p v) (v .index) a b)
   unfolding pathAnswer
   path-asked v k a b h l =
       (λ i. andThen (accepted i) λ q. planPath q (v .vid) a b) ∙ named-asked p (v .vid) v (vid-found p L v k) a b h l

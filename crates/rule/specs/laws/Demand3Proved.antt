@@ -18,11 +18,11 @@ use Rattle.rule.specs.Outcome.{Outcome, refusedAs, lentTo}
 use Rattle.rule.specs.Paths.{chosenPath}
 use Rattle.rule.specs.Answers.{CostAndHops}
 use Rattle.rule.specs.Calls.{measured, pathFound, pathOutcome}
-use Rattle.rule.specs.Demand3.{Setting, Apart, portsFor, costIn, maskedPathId, Refusal12, NoEntry, Arrival, Least, SameLinks, Parts, ArrivalPort, Receivers, NoBridgeTwice, CopyArrivalPort, Values, Demand3}
+use Rattle.rule.specs.Demand3.{Setting, vidPlan, Apart, portsFor, costIn, maskedPathId, Refusal12, NoEntry, Arrival, Least, SameLinks, Parts, ArrivalPort, Receivers, NoBridgeTwice, CopyArrivalPort, Values, Demand3}
 use Rattle.rule.specs.laws.LinkLaws.{joined-hop}
 use Rattle.rule.specs.laws.CallLaws.{lent-not-12}
 use Rattle.rule.specs.laws.EntryLaws.{says-receives}
-use Rattle.rule.specs.laws.Network.{chosen-is-path, no-path-is-none, graph, key, graph-meets, ChosenFor}
+use Rattle.rule.specs.laws.Network.{chosen-is-path, no-path-is-none, vid-laws, graph, key, graph-meets, ChosenFor}
 use Rattle.rule.specs.laws.FrameLaws.{no-path-no-port, port-of-hop, stands-on-path, same-links, frame-arrival}
 use Rattle.rule.specs.laws.ListBound.{few-words}
 use Rattle.rule.specs.laws.GroupLaws.{reached-once, no-copy-stays, reached-at-most-once, sender-not-reached, copy-arrives}
@@ -32,24 +32,24 @@ module _ (s : Setting) where
   -- "Whatever list is lent, the path call refuses with 12 exactly when no chain of usable links joins a and b".
   pub refused-12 : Refusal12 s
   refused-12 a b B lent = (
-    λ e. go (chosenPath (s .plan) (s .vid .index) a b) refl
+    λ e. go (chosenPath (vidPlan s) (s .vid .index) a b) refl
         (sym (ap (λ (z : Outcome CostAndHops × List ℕ). z .0) call) ∙ e),
     back,
   )
     where
-      call : pathOutcome (s .table) (s .vid .vid) a b lent ≡ lentTo lent (pathFound (s .plan) (chosenPath (s .plan) (s .vid .index) a b))
+      call : pathOutcome (s .table) (s .vid .vid) a b lent ≡ lentTo lent (pathFound (vidPlan s) (chosenPath (vidPlan s) (s .vid .index) a b))
       call = path-call s a b (B .first) (B .second) lent
 
-      go : (o : Option (List ℕ)) → chosenPath (s .plan) (s .vid .index) a b ≡ o → lentTo lent (pathFound (s .plan) o) .0 ≡ refusedAs 12
+      go : (o : Option (List ℕ)) → chosenPath (vidPlan s) (s .vid .index) a b ≡ o → lentTo lent (pathFound (vidPlan s) o) .0 ≡ refusedAs 12
           → Apart s a b
       go none e f = λ q c. let (path, P) = chain-chosen s a b q c in
-          none-not-some (sym e ∙ chosen-is-path (s .plan) (laws s) (s .vid .index) a b path P)
-      go (some q) e f = absurd (lent-not-12 lent (record { values = measured (s .plan) q; words = q }) f)
+          none-not-some (sym e ∙ chosen-is-path (vidPlan s) (vid-laws (net s)) (s .vid .index) a b path P)
+      go (some q) e f = absurd (lent-not-12 lent (record { values = measured (vidPlan s) q; words = q }) f)
 
       back : Apart s a b → pathOutcome (s .table) (s .vid .vid) a b lent .0 ≡ refusedAs 12
       back f = ap (λ (z : Outcome CostAndHops × List ℕ). z .0) (call
-          ∙ ap (λ (o : Option (List ℕ)). lentTo lent (pathFound (s .plan) o))
-          (no-path-is-none (s .plan) (laws s) (s .vid .index) a b (λ q o. f q (path-chain s a b q o))))
+          ∙ ap (λ (o : Option (List ℕ)). lentTo lent (pathFound (vidPlan s) o))
+          (no-path-is-none (vidPlan s) (vid-laws (net s)) (s .vid .index) a b (λ q o. f q (path-chain s a b q o))))
 
   -- "and exactly then a has no entry for b".
   pub no-entry : NoEntry s
@@ -63,13 +63,13 @@ module _ (s : Setting) where
       entry e path P ([], f, W) = B .different (W .way)
       entry e path P (w ∷ t, f, W) =
           let Q : ChosenFor (net s) a b (a ∷ w ∷ t) = rw f at P in
-          let (l, h) = joined-hop (s .plan) (laws s) a w (Q .path .1 .0) in
+          let (l, h) = joined-hop (vidPlan s) (vid-laws (net s)) a w (Q .path .1 .0) in
           nil-not-cons (sym e ∙ port-of-hop (net s) a w b t l Q h)
 
   -- "Otherwise a frame from a, moved by the entries for b, reaches b along the path given".
   pub arrives : Arrival s
   arrives = (
-    λ a b B q c. let (path, P) = chain-chosen s a b q c in (path, measured (s .plan) path, chosen-given s a b (B .first) (B .second) path P),
+    λ a b B q c. let (path, P) = chain-chosen s a b q c in (path, measured (vidPlan s) path, chosen-given s a b (B .first) (B .second) path P),
     λ a b B path values G n l. let (P, e) = given-chosen s a b (B .first) (B .second) path values G in
         stands-on-path (net s) b n a path P (omega (arith, ap (λ (z : CostAndHops). z .hops) e)),
   )
@@ -108,8 +108,8 @@ module _ (s : Setting) where
       (chosen-part (graph (net s)) (key (net s)) a b front c (between ++ (d ∷ [])) back Q) in
       let again : ChosenFor (net s) d c (d ∷ reverse between ++ (c ∷ [])) = subst (λ (z : List ℕ). ChosenFor (net s) d c z) turned
       (chosen-reverse (graph (net s)) (graph-meets (net s)) (key (net s)) c d (c ∷ between ++ (d ∷ [])) there) in (
-        (measured (s .plan) (c ∷ between ++ (d ∷ [])), chosen-given s c d h k (c ∷ between ++ (d ∷ [])) there),
-        (measured (s .plan) (d ∷ reverse between ++ (c ∷ [])), chosen-given s d c k h (d ∷ reverse between ++ (c ∷ [])) again),
+        (measured (vidPlan s) (c ∷ between ++ (d ∷ [])), chosen-given s c d h k (c ∷ between ++ (d ∷ [])) there),
+        (measured (vidPlan s) (d ∷ reverse between ++ (c ∷ [])), chosen-given s d c k h (d ∷ reverse between ++ (c ∷ [])) again),
       )
     where
       whole : front ++ (c ∷ between ++ (d ∷ back)) ≡ front ++ ((c ∷ between ++ (d ∷ [])) ++ back)

@@ -18,13 +18,14 @@ use Rattle.lists.specs.laws.SelectedLaws.{selected-in, in-selected, any-in, in-
 use Rattle.lists.specs.laws.DistinctLaws.{distinct-selected, distinct-rising, selected-none, selected-append}
 use Rattle.lists.specs.laws.GivenLaws.{selected-flatMap, selected-flatMap-only, flatMap-only, map-back}
 use Rattle.rule.specs.Records.{HalfLink, Vid, Member, address, groupBit}
-use Rattle.rule.specs.Plan.{Plan, bridgeAt}
+use Rattle.rule.specs.Plan.{Plan, bridgeAt, planOfVid}
 use Rattle.rule.specs.Links.{Link, hopLink}
 use Rattle.rule.specs.Paths.{chosenPath}
 use Rattle.rule.specs.Entries.{Entry, entryWords, listOf, firstPort, portsOf, individualEntry, individualEntries, groupAddress, receives, receiverPorts, listedPorts, groupEntry, groupEntries, entriesOf, entryListOf}
 use Rattle.rule.specs.Lookup.{entryOf, entriesIn}
 use Rattle.rule.specs.Frames.{entryPorts}
 use Rattle.rule.specs.PlanLaws.{VidFits, PlanLaws}
+use Rattle.rule.specs.laws.VidPlan.{vid-plan-laws}
 use Rattle.rule.specs.laws.OneRecord.{listed-bridge, one-address, one-source, distinct-vids, one-vid, distinct-members, one-member}
 use Rattle.rule.specs.laws.LinkLaws.{hop-takes}
 
@@ -216,14 +217,15 @@ module _ (p : Plan) (L : PlanLaws p) where
         address = omega (arith, M .isid);
       })
 
+module _ (p : Plan) (L : PlanLaws p) where
   pub entry-fits : (b : ℕ) (e : Entry) → In e (entriesOf p b) → EntryFits e
   unfolding entriesOf
-  entry-fits b e k = let (v, i, j) = flatMap-in (λ v. individualEntries p v b ++ groupEntries p v b (p .members)) e (p .vids) k in
-      go v (L .vids .fits v i) (in-append e (individualEntries p v b) (groupEntries p v b (p .members)) j)
+  entry-fits b e k = let (v, i, j) = flatMap-in (λ v. individualEntries (planOfVid p v) v b ++ groupEntries (planOfVid p v) v b (p .members)) e (p .vids) k in
+      go v (L .vids .fits v i) (in-append e (individualEntries (planOfVid p v) v b) (groupEntries (planOfVid p v) v b (p .members)) j)
     where
-      go : (v : Vid) → VidFits v → In e (individualEntries p v b) ⊎ In e (groupEntries p v b (p .members)) → EntryFits e
-      go v l (inl k) = individual-fits v b l e k
-      go v l (inr k) = group-fits v b l e k
+      go : (v : Vid) → VidFits v → In e (individualEntries (planOfVid p v) v b) ⊎ In e (groupEntries (planOfVid p v) v b (p .members)) → EntryFits e
+      go v l (inl k) = individual-fits (planOfVid p v) (vid-plan-laws p L v) v b l e k
+      go v l (inr k) = group-fits (planOfVid p v) (vid-plan-laws p L v) v b l e k
 
   -- What is read from the words of a bridge.
   entries-read : (kind vid addr b : ℕ)
@@ -235,70 +237,70 @@ module _ (p : Plan) (L : PlanLaws p) where
   -- With a VID of the plan the entries are those of that VID.
   entries-of-vid : (kind addr b : ℕ) (v : Vid) → In v (p .vids)
       → selected (matches kind (v .vid) addr) (entriesOf p b)
-      ≡ selected (matches kind (v .vid) addr) (individualEntries p v b) ++ selected (matches kind (v .vid) addr) (groupEntries p v b (p .members))
+      ≡ selected (matches kind (v .vid) addr) (individualEntries (planOfVid p v) v b) ++ selected (matches kind (v .vid) addr) (groupEntries (planOfVid p v) v b (p .members))
   unfolding entriesOf
   entries-of-vid kind addr b v k =
       selected-flatMap (matches kind (v .vid) addr) entriesFor (p .vids)
       ∙ flatMap-only (λ w. selected (matches kind (v .vid) addr) (entriesFor w)) v (p .vids) (distinct-vids p L) k other
-      ∙ selected-append (matches kind (v .vid) addr) (individualEntries p v b) (groupEntries p v b (p .members))
+      ∙ selected-append (matches kind (v .vid) addr) (individualEntries (planOfVid p v) v b) (groupEntries (planOfVid p v) v b (p .members))
     where
       entriesFor : Vid → List Entry
-      entriesFor w = individualEntries p w b ++ groupEntries p w b (p .members)
+      entriesFor w = individualEntries (planOfVid p w) w b ++ groupEntries (planOfVid p w) w b (p .members)
 
-      vid-of : (w : Vid) (e : Entry) → In e (individualEntries p w b) ⊎ In e (groupEntries p w b (p .members)) → e .vid ≡ w .vid
-      vid-of w e (inl k) = let (d, port, i, j, f) = individual-says p w b e k in ap (λ (z : Entry). z .vid) f
-      vid-of w e (inr k) = let (m, port, i, t, j, f) = group-says p w b e k in ap (λ (z : Entry). z .vid) f
+      vid-of : (w : Vid) (e : Entry) → In e (individualEntries (planOfVid p w) w b) ⊎ In e (groupEntries (planOfVid p w) w b (p .members)) → e .vid ≡ w .vid
+      vid-of w e (inl k) = let (d, port, i, j, f) = individual-says (planOfVid p w) w b e k in ap (λ (z : Entry). z .vid) f
+      vid-of w e (inr k) = let (m, port, i, t, j, f) = group-says (planOfVid p w) w b e k in ap (λ (z : Entry). z .vid) f
 
       other : (w : Vid) → In w (p .vids) → (w ≡ v → ⊥) → selected (matches kind (v .vid) addr) (entriesFor w) ≡ []
       other w i n = selected-none (matches kind (v .vid) addr) (entriesFor w) (λ e j t.
-          n (one-vid p L w v i k (sym (vid-of w e (in-append e (individualEntries p w b) (groupEntries p w b (p .members)) j))
+          n (one-vid p L w v i k (sym (vid-of w e (in-append e (individualEntries (planOfVid p w) w b) (groupEntries (planOfVid p w) w b (p .members)) j))
           ∙ matches-says kind (v .vid) addr e t .1)))
 
   -- "one entry with that bridge's address and the port of the first hop's link": the entries of kind 8 with the VID and the address of
   -- another bridge have the first port of the chosen path to it, and there is none where no path leads there.
   pub individual-ports : (v : Vid) (b d : ℕ) → In v (p .vids) → d < length (p .bridges) → (d ≡ b → ⊥)
-      → entryPorts 8 (v .vid) (address (bridgeAt p d)) (entryListOf p b) ≡ portsTo p v b d
+      → entryPorts 8 (v .vid) (address (bridgeAt p d)) (entryListOf p b) ≡ portsTo (planOfVid p v) v b d
   unfolding individualEntries
   individual-ports v b d k l n =
       entries-read 8 (v .vid) (address (bridgeAt p d)) b
       ∙ ap (map (λ e. e .port)) (entries-of-vid 8 (address (bridgeAt p d)) b v k ∙ joined)
-      ∙ map-back (individualEntry p v d) (λ e. e .port) (λ port. refl) (portsTo p v b d)
+      ∙ map-back (individualEntry p v d) (λ e. e .port) (λ port. refl) (portsTo (planOfVid p v) v b d)
     where
       test : Entry → Bool
       test = matches 8 (v .vid) (address (bridgeAt p d))
 
-      no-group : selected test (groupEntries p v b (p .members)) ≡ []
-      no-group = selected-none test (groupEntries p v b (p .members)) (λ e i t. let (m, port, j, s, h, f) = group-says p v b e i in
+      no-group : selected test (groupEntries (planOfVid p v) v b (p .members)) ≡ []
+      no-group = selected-none test (groupEntries (planOfVid p v) v b (p .members)) (λ e i t. let (m, port, j, s, h, f) = group-says (planOfVid p v) v b e i in
           omega (arith, ap (λ (z : Entry). z .kind) f, matches-says 8 (v .vid) (address (bridgeAt p d)) e t .0))
 
       below : (c : ℕ) → In c (others p v b) → c < length (p .bridges)
       below c i = omega (arith, rising-in 0 (length (p .bridges)) c (selected-in (λ c. not (eqb c b)) c (rising 0 (length (p .bridges))) i .0) .1)
 
-      individual : selected test (individualEntries p v b) ≡ map (individualEntry p v d) (portsTo p v b d)
-      individual = selected-flatMap-only test (λ c. map (individualEntry p v c) (portsTo p v b c)) d (others p v b)
+      individual : selected test (individualEntries (planOfVid p v) v b) ≡ map (individualEntry p v d) (portsTo (planOfVid p v) v b d)
+      individual = selected-flatMap-only test (λ c. map (individualEntry p v c) (portsTo (planOfVid p v) v b c)) d (others p v b)
           (distinct-selected (λ c. not (eqb c b)) (rising 0 (length (p .bridges))) (distinct-rising 0 (length (p .bridges))))
           (in-selected (λ c. not (eqb c b)) d (rising 0 (length (p .bridges))) (in-rising 0 (length (p .bridges)) d (omega arith) (omega arith))
           (not-T (eqb d b) (λ t. n (eqb→eq d b t))))
-          (λ e i. let (port, j, f) = map-in (individualEntry p v d) e (portsTo p v b d) i in
+          (λ e i. let (port, j, f) = map-in (individualEntry p v d) e (portsTo (planOfVid p v) v b d) i in
           says-matches 8 (v .vid) (address (bridgeAt p d)) e (ap (λ (z : Entry). z .kind) f) (ap (λ (z : Entry). z .vid) f)
           (ap (λ (z : Entry). z .address) f))
-          (λ c i m e j t. let (port, h, f) = map-in (individualEntry p v c) e (portsTo p v b c) j in
+          (λ c i m e j t. let (port, h, f) = map-in (individualEntry p v c) e (portsTo (planOfVid p v) v b c) j in
           m (one-address p L c d (below c i) l
           (sym (ap (λ (z : Entry). z .address) f) ∙ matches-says 8 (v .vid) (address (bridgeAt p d)) e t .2)))
 
-      joined : selected test (individualEntries p v b) ++ selected test (groupEntries p v b (p .members)) ≡ map (individualEntry p v d) (portsTo p v b d)
-      joined = ap (λ (es : List Entry). selected test (individualEntries p v b) ++ es) no-group
-          ∙ append-nil (selected test (individualEntries p v b)) ∙ individual
+      joined : selected test (individualEntries (planOfVid p v) v b) ++ selected test (groupEntries (planOfVid p v) v b (p .members)) ≡ map (individualEntry p v d) (portsTo (planOfVid p v) v b d)
+      joined = ap (λ (es : List Entry). selected test (individualEntries (planOfVid p v) v b) ++ es) no-group
+          ∙ append-nil (selected test (individualEntries (planOfVid p v) v b)) ∙ individual
 
   -- The entries of kind 9 with the VID and the group address of a transmitting member have the ports listed for it.
   pub group-ports : (v : Vid) (b : ℕ) (m : Member) → In v (p .vids) → In m (p .members) → m .transmits ≡ true → m .vid ≡ v .vid
-      → entryPorts 9 (v .vid) (groupAddress (bridgeAt p (m .bridge) .spSourceId) (m .isid)) (entryListOf p b) ≡ portsBehind p v b m
+      → entryPorts 9 (v .vid) (groupAddress (bridgeAt p (m .bridge) .spSourceId) (m .isid)) (entryListOf p b) ≡ portsBehind (planOfVid p v) v b m
   unfolding groupEntries
   group-ports v b m k i t e =
       entries-read 9 (v .vid) addr b
       ∙ ap (map (λ e. e .port)) (entries-of-vid 9 addr b v k
-      ∙ ap (λ (es : List Entry). es ++ selected test (groupEntries p v b (p .members))) no-individual ∙ group)
-      ∙ map-back (groupEntry p v m) (λ e. e .port) (λ port. refl) (portsBehind p v b m)
+      ∙ ap (λ (es : List Entry). es ++ selected test (groupEntries (planOfVid p v) v b (p .members))) no-individual ∙ group)
+      ∙ map-back (groupEntry p v m) (λ e. e .port) (λ port. refl) (portsBehind (planOfVid p v) v b m)
     where
       addr : ℕ
       addr = groupAddress (bridgeAt p (m .bridge) .spSourceId) (m .isid)
@@ -306,8 +308,8 @@ module _ (p : Plan) (L : PlanLaws p) where
       test : Entry → Bool
       test = matches 9 (v .vid) addr
 
-      no-individual : selected test (individualEntries p v b) ≡ []
-      no-individual = selected-none test (individualEntries p v b) (λ e i t. let (d, port, j, h, f) = individual-says p v b e i in
+      no-individual : selected test (individualEntries (planOfVid p v) v b) ≡ []
+      no-individual = selected-none test (individualEntries (planOfVid p v) v b) (λ e i t. let (d, port, j, h, f) = individual-says (planOfVid p v) v b e i in
           omega (arith, ap (λ (z : Entry). z .kind) f, matches-says 9 (v .vid) addr e t .0))
 
       source : (c : Member) → In c (p .members) → bridgeAt p (c .bridge) .spSourceId ≤ 1048575
@@ -325,14 +327,14 @@ module _ (p : Plan) (L : PlanLaws p) where
       transmitters : List Member
       transmitters = selected (transmits p v b) (p .members)
 
-      group : selected test (groupEntries p v b (p .members)) ≡ map (groupEntry p v m) (portsBehind p v b m)
-      group = selected-flatMap-only test (λ c. map (groupEntry p v c) (portsBehind p v b c)) m transmitters
+      group : selected test (groupEntries (planOfVid p v) v b (p .members)) ≡ map (groupEntry p v m) (portsBehind (planOfVid p v) v b m)
+      group = selected-flatMap-only test (λ c. map (groupEntry p v c) (portsBehind (planOfVid p v) v b c)) m transmitters
           (distinct-selected (transmits p v b) (p .members) (distinct-members p L))
           (in-selected (transmits p v b) m (p .members) i
           (both (m .transmits) (eqb (m .vid) (v .vid)) (true-test (m .transmits) t) (eq-eqb (m .vid) (v .vid) e)))
-          (λ e i. let (port, j, f) = map-in (groupEntry p v m) e (portsBehind p v b m) i in
+          (λ e i. let (port, j, f) = map-in (groupEntry p v m) e (portsBehind (planOfVid p v) v b m) i in
           says-matches 9 (v .vid) addr e (ap (λ (z : Entry). z .kind) f) (ap (λ (z : Entry). z .vid) f) (ap (λ (z : Entry). z .address) f))
-          (λ c j n e h t. let (port, k, f) = map-in (groupEntry p v c) e (portsBehind p v b c) h in
+          (λ c j n e h t. let (port, k, f) = map-in (groupEntry p v c) e (portsBehind (planOfVid p v) v b c) h in
           let r = selected-in (transmits p v b) c (p .members) j in
           n (one-address-one-member c (r .0) (eqb→eq (c .vid) (v .vid) (last-of (c .transmits) (eqb (c .vid) (v .vid)) (r .1)))
           (sym (ap (λ (z : Entry). z .address) f) ∙ matches-says 9 (v .vid) addr e t .2)))

@@ -26,7 +26,7 @@ use Rattle.rule.specs.Links.{Link, to, turned, hopLink}
 use Rattle.rule.specs.Entries.{listOf, firstPort, portsOf}
 use Rattle.rule.specs.Frames.{only, arrivalPort, entryPorts, crossedBy, leaves, thenOn, crossings, stood}
 use Rattle.rule.specs.laws.LinkLaws.{hop-takes, hop-crosses, hop-turned, joined-hop}
-use Rattle.rule.specs.laws.Network.{chosen-is-path, no-path-is-none, Network, size, links, graph, key, graph-meets, key-meets, ChosenFor}
+use Rattle.rule.specs.laws.Network.{chosen-is-path, no-path-is-none, Network, size, vidPlan, vid-laws, links, graph, key, graph-meets, key-meets, ChosenFor}
 use Rattle.rule.specs.laws.EntryLaws.{portsTo, individual-ports}
 
 -- Links along a path
@@ -52,7 +52,7 @@ module _ (N : Network) where
   leave b u = leaves (links N) (N .lists) (N .vid .vid) (address (bridgeAt (N .plan) b)) u
 
   -- What a bridge's words hold for another bridge.
-  ports-read : (u b : ℕ) → u < size N → b < size N → (b ≡ u → ⊥) → portsAt u b ≡ portsTo (N .plan) (N .vid) u b
+  ports-read : (u b : ℕ) → u < size N → b < size N → (b ≡ u → ⊥) → portsAt u b ≡ portsTo (vidPlan N) (N .vid) u b
   ports-read u b l k n = ap (entryPorts 8 (N .vid .vid) (address (bridgeAt (N .plan) b))) (N .written u l)
       ∙ individual-ports (N .plan) (N .laws) (N .vid) u b (N .of-plan) k n
 
@@ -60,7 +60,7 @@ module _ (N : Network) where
   pub no-path-no-port : (u b : ℕ) → u < size N → b < size N → (b ≡ u → ⊥)
       → ((q : List ℕ) → IsPath (graph N) u b q → ⊥) → portsAt u b ≡ []
   no-path-no-port u b l k n f = ports-read u b l k n
-      ∙ ap (portsOf (firstPort (links N))) (no-path-is-none (N .plan) (N .laws) (N .vid .index) u b f)
+      ∙ ap (portsOf (firstPort (links N))) (no-path-is-none (vidPlan N) (vid-laws N) (N .vid .index) u b f)
 
   -- Where a path is chosen the one entry has the port of the link that its first hop takes.
   pub port-of-hop : (u w b : ℕ) (t : List ℕ) (l : Link) → ChosenFor N u b (u ∷ w ∷ t) → hopLink (links N) u w ≡ some l
@@ -68,14 +68,14 @@ module _ (N : Network) where
   port-of-hop u w b t l P e =
       ports-read u b (graph-meets N .inside u w (P .path .1 .0)) (end-inside (graph N) (graph-meets N) u w t b (P .path .1))
       (λ f. chosen-other (graph N) (key N) u w b t P (sym f))
-      ∙ ap (portsOf (firstPort (links N))) (chosen-is-path (N .plan) (N .laws) (N .vid .index) u b (u ∷ w ∷ t) P)
+      ∙ ap (portsOf (firstPort (links N))) (chosen-is-path (vidPlan N) (vid-laws N) (N .vid .index) u b (u ∷ w ∷ t) P)
       ∙ ap (λ (o : Option Link). listOf (Option·map (λ l. l .here .port) o)) e
 
   -- The frame leaves by that link.
   leaves-by-hop : (u w b : ℕ) (t : List ℕ) (l : Link) → ChosenFor N u b (u ∷ w ∷ t) → hopLink (links N) u w ≡ some l → leave b u ≡ some l
   unfolding leaves
   leaves-by-hop u w b t l P e =
-      ap (λ (ports : List ℕ). crossedBy (links N) u (only ports)) (port-of-hop u w b t l P e) ∙ hop-crosses (N .plan) (N .laws) u w l e
+      ap (λ (ports : List ℕ). crossedBy (links N) u (only ports)) (port-of-hop u w b t l P e) ∙ hop-crosses (vidPlan N) (vid-laws N) u w l e
 
   -- "stops at b".
   stops-there : (b n a : ℕ) → a ≡ b → crossings (leave b) b (suc n) a ≡ []
@@ -100,7 +100,7 @@ module _ (N : Network) where
   crosses-onward b zero a (w ∷ t) P l = absurd (omega arith)
   crosses-onward b (suc n) a [] P l = ap (map some) (stops-there b n a (P .path .1))
   crosses-onward b (suc n) a (w ∷ t) P l =
-      let (k, e) = joined-hop (N .plan) (N .laws) a w (P .path .1 .0) in
+      let (k, e) = joined-hop (vidPlan N) (vid-laws N) a w (P .path .1 .0) in
       ap (map some) (moves-on b n a w t k P e)
       ∙ (λ i. sym e i ∷ crosses-onward b n w t (chosen-after (graph N) (key N) a w b t P) (omega arith) i)
 
@@ -124,7 +124,7 @@ module _ (N : Network) where
   same-links a b n q P l = map-injective some (λ k m e. Option·some-injective k m e) (crossings (leave a) a n b)
       (reverse (map turned (crossings (leave b) b n a)))
       (crosses-path a n b (reverse q) (chosen-reverse (graph N) (graph-meets N) (key N) a b q P) (omega (arith, length-reverse q))
-      ∙ along-reverse (hopLink (links N)) (Option·map turned) (hop-turned (N .plan) (N .laws)) q
+      ∙ along-reverse (hopLink (links N)) (Option·map turned) (hop-turned (vidPlan N) (vid-laws N)) q
       ∙ ap (λ (os : List (Option Link)). reverse (map (Option·map turned) os)) (sym (crosses-path b n a q P l))
       ∙ ap (λ (os : List (Option Link)). reverse os) (turned-all (crossings (leave b) b n a))
       ∙ sym (map-reverse some (map turned (crossings (leave b) b n a))))
@@ -140,7 +140,7 @@ module _ (N : Network) where
   crossed-is-hop b zero a t P l k = absurd k
   crossed-is-hop b (suc n) a [] P l k = absurd (subst (λ (ls : List Link). In l ls) (stops-there b n a (P .path .1)) k)
   crossed-is-hop b (suc n) a (w ∷ t) P l k =
-      let (m, e) = joined-hop (N .plan) (N .laws) a w (P .path .1 .0) in
+      let (m, e) = joined-hop (vidPlan N) (vid-laws N) a w (P .path .1 .0) in
       go m e (subst (λ (ls : List Link). In l ls) (moves-on b n a w t m P e) k)
       (crossed-is-hop b n w t (chosen-after (graph N) (key N) a w b t P) l)
     where
@@ -155,7 +155,7 @@ module _ (N : Network) where
   pub arrival-named : (a c w : ℕ) (t : List ℕ) (l : Link) → ChosenFor N w a (w ∷ c ∷ t) → hopLink (links N) c w ≡ some l
       → portsAt (to l) a ≡ arrivalPort l ∷ []
   arrival-named a c w t l P e = subst (λ (z : ℕ). portsAt z a ≡ arrivalPort l ∷ []) (sym (hop-takes (links N) c w l e .far))
-      (port-of-hop w c a t (turned l) P (hop-turned (N .plan) (N .laws) c w ∙ ap (Option·map turned) e))
+      (port-of-hop w c a t (turned l) P (hop-turned (vidPlan N) (vid-laws N) c w ∙ ap (Option·map turned) e))
 
   -- Without a path the frame is lost where it starts.
   lost : (a b n : ℕ) → a < size N → b < size N → (a ≡ b → ⊥) → ((q : List ℕ) → IsPath (graph N) a b q → ⊥)

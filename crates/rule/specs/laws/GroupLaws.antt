@@ -21,7 +21,7 @@ use Rattle.rule.specs.Entries.{listOf, groupAddress, receives}
 use Rattle.rule.specs.Frames.{crossed, arrivalPort, entryPorts, copiesLeave, copies, copiesCross, reached}
 use Rattle.rule.specs.laws.LinkLaws.{hop-takes, joined-hop}
 use Rattle.rule.specs.laws.EntryLaws.{group-ports}
-use Rattle.rule.specs.laws.Network.{Network, size, links, graph, key, graph-meets, ChosenFor}
+use Rattle.rule.specs.laws.Network.{Network, size, vidPlan, vid-laws, links, graph, key, graph-meets, ChosenFor}
 use Rattle.rule.specs.laws.FrameLaws.{portsAt, arrival-named}
 use Rattle.rule.specs.laws.ListedPorts.{ReceivesAt, Led, ledFrom, led-says, says-led, led-once, led-enters}
 
@@ -90,7 +90,7 @@ module _ (N : Network) (m : Member) (of-table : In m (N .plan .members)) (transm
       feeds : (u w : ℕ) → u < size N → Feeds (graph N) (key N) (m .bridge) Wanted u w → In w (next u)
       feeds u w l (r, (k, i, t, e), q, P, h) =
           let (s, D) = departure (graph N) (key N) (m .bridge) r q u w P h in
-          let (x, f) = joined-hop (N .plan) (N .laws) u w (D .path .1 .0) in
+          let (x, f) = joined-hop (vidPlan N) (vid-laws N) u w (D .path .1 .0) in
           let led : Led N m u x = record {
             receiver = k;
             of-table = i;

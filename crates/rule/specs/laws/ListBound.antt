@@ -22,7 +22,7 @@ use Rattle.lists.specs.laws.DistinctLaws.{at-most, distinct-selected, distinct-
 use Rattle.lists.specs.laws.GivenLaws.{length-flatMap-each}
 use Rattle.lists.specs.laws.SumLaws.{sum-add, sum-most, sum-bounded, sum-parts, sum-flatMap, length-flatMap, length-flatMap-most}
 use Rattle.rule.specs.Records.{Vid, Member}
-use Rattle.rule.specs.Plan.{Plan}
+use Rattle.rule.specs.Plan.{Plan, planOfVid}
 use Rattle.rule.specs.Paths.{chosenPath}
 use Rattle.rule.specs.Entries.{entryWords, listOf, firstPort, leavingPort, portsOf, individualEntry, individualEntries, receives, receiverPorts, groupEntry, groupEntries, entriesOf, entryListOf}
 use Rattle.rule.specs.PlanLaws.{PlanLaws}
@@ -41,16 +41,16 @@ at-most-one port (some path) = go (port path)
 
 module _ (p : Plan) (L : PlanLaws p) (b : ℕ) (known : b < length (p .bridges)) where
   -- An individual entry for each other bridge at most.
-  few-individual : (v : Vid) → length (individualEntries p v b) ≤ 63
+  few-individual : (v : Vid) → length (individualEntries (planOfVid p v) v b) ≤ 63
   unfolding individualEntries
   few-individual v = omega (
     arith,
     L .bridges .few,
-    length-flatMap-most (λ d. map (individualEntry p v d) (portsTo p v b d)) 1 (others p v b) (λ d k.
+    length-flatMap-most (λ d. map (individualEntry p v d) (portsTo (planOfVid p v) v b d)) 1 (others p v b) (λ d k.
         omega (
           arith,
-          length-map (portsTo p v b d) (individualEntry p v d),
-          at-most-one (firstPort (p .halfLinks)) (chosenPath p (v .index) b d),
+          length-map (portsTo (planOfVid p v) v b d) (individualEntry p v d),
+          at-most-one (firstPort (planOfVid p v .halfLinks)) (chosenPath (planOfVid p v) (v .index) b d),
         )),
     at-most (length (p .bridges)) (b ∷ others p v b)
         (not-self, distinct-selected (λ d. not (eqb d b)) (rising 0 (length (p .bridges))) (distinct-rising 0 (length (p .bridges)))) below,
@@ -87,19 +87,19 @@ module _ (p : Plan) (L : PlanLaws p) (b : ℕ) (known : b < length (p .bridges))
   abbrev net : (v : Vid) → In v (p .vids) → Network
   net v k = record { plan = p; laws = L; vid = v; of-plan = k; lists = entryListOf p; written = λ u l. refl }
 
-  few-listed : (v : Vid) → In v (p .vids) → (m : Member) → In m (p .members) → length (portsBehind p v b m) ≤ most m
+  few-listed : (v : Vid) → In v (p .vids) → (m : Member) → In m (p .members) → length (portsBehind (planOfVid p v) v b m) ≤ most m
   unfolding receiverPorts
   few-listed v i m k = go (same-or-not (m .bridge) b)
     where
-      go : (m .bridge ≡ b) ⊎ (m .bridge ≡ b → ⊥) → length (portsBehind p v b m) ≤ most m
+      go : (m .bridge ≡ b) ⊎ (m .bridge ≡ b → ⊥) → length (portsBehind (planOfVid p v) v b m) ≤ most m
       go (inl e) = omega (
         arith,
         most-here m e,
-        distinct-within (portsBehind p v b m) (receiverPorts p v b (p .members) m) (distinct-ports (receiverPorts p v b (p .members) m))
-            (λ port i. listed-port (receiverPorts p v b (p .members) m) port i .2),
-        length-flatMap-most (λ r. portsOf (leavingPort (p .halfLinks) b) (chosenPath p (v .index) (m .bridge) (r .bridge))) 1
+        distinct-within (portsBehind (planOfVid p v) v b m) (receiverPorts (planOfVid p v) v b (p .members) m) (distinct-ports (receiverPorts (planOfVid p v) v b (p .members) m))
+            (λ port i. listed-port (receiverPorts (planOfVid p v) v b (p .members) m) port i .2),
+        length-flatMap-most (λ r. portsOf (leavingPort (planOfVid p v .halfLinks) b) (chosenPath (planOfVid p v) (v .index) (m .bridge) (r .bridge))) 1
             (selected (receives m) (p .members))
-            (λ r i. at-most-one (leavingPort (p .halfLinks) b) (chosenPath p (v .index) (m .bridge) (r .bridge))),
+            (λ r i. at-most-one (leavingPort (planOfVid p v .halfLinks) b) (chosenPath (planOfVid p v) (v .index) (m .bridge) (r .bridge))),
       )
       go (inr f) = omega (arith, most-there m f, few-ports (net v i) m k b known (λ e. f (sym e)), L .bridges .few)
 
@@ -200,13 +200,13 @@ module _ (p : Plan) (L : PlanLaws p) (b : ℕ) (known : b < length (p .bridges))
             length-append xs (m ∷ ys),
           )
 
-  group-entries : (v : Vid) → In v (p .vids) → length (groupEntries p v b (p .members)) ≤ sumOver most (selected (transmits p v b) (p .members))
+  group-entries : (v : Vid) → In v (p .vids) → length (groupEntries (planOfVid p v) v b (p .members)) ≤ sumOver most (selected (transmits p v b) (p .members))
   unfolding groupEntries
   group-entries v i = omega (
     arith,
-    length-flatMap (λ m. map (groupEntry p v m) (portsBehind p v b m)) (selected (transmits p v b) (p .members)),
-    sum-most (λ m. length (map (groupEntry p v m) (portsBehind p v b m))) most (selected (transmits p v b) (p .members))
-        (λ m k. omega (arith, length-map (portsBehind p v b m) (groupEntry p v m), few-listed v i m (transmitter-vid v m k .0))),
+    length-flatMap (λ m. map (groupEntry p v m) (portsBehind (planOfVid p v) v b m)) (selected (transmits p v b) (p .members)),
+    sum-most (λ m. length (map (groupEntry p v m) (portsBehind (planOfVid p v) v b m))) most (selected (transmits p v b) (p .members))
+        (λ m k. omega (arith, length-map (portsBehind (planOfVid p v) v b m) (groupEntry p v m), few-listed v i m (transmitter-vid v m k .0))),
   )
 
   -- "No bridge's list exceeds 14,931 words."
@@ -215,10 +215,10 @@ module _ (p : Plan) (L : PlanLaws p) (b : ℕ) (known : b < length (p .bridges))
   few-words = omega (
     arith,
     length-flatMap-each entryWords 3 (entriesOf p b) (λ e k. refl),
-    length-flatMap (λ v. individualEntries p v b ++ groupEntries p v b (p .members)) (p .vids),
-    sum-most (λ v. length (individualEntries p v b ++ groupEntries p v b (p .members)))
+    length-flatMap (λ v. individualEntries (planOfVid p v) v b ++ groupEntries (planOfVid p v) v b (p .members)) (p .vids),
+    sum-most (λ v. length (individualEntries (planOfVid p v) v b ++ groupEntries (planOfVid p v) v b (p .members)))
         (λ v. 63 + sumOver most (selected (transmits p v b) (p .members))) (p .vids)
-        (λ v k. omega (arith, length-append (individualEntries p v b) (groupEntries p v b (p .members)), few-individual v, group-entries v k)),
+        (λ v k. omega (arith, length-append (individualEntries (planOfVid p v) v b) (groupEntries (planOfVid p v) v b (p .members)), few-individual v, group-entries v k)),
     sum-add (λ v. 63) (λ v. sumOver most (selected (transmits p v b) (p .members))) (p .vids),
     sum-bounded (λ v. 63) 63 (p .vids) (λ v k. omega arith),
     sum-flatMap most (λ v. selected (transmits p v b) (p .members)) (p .vids),

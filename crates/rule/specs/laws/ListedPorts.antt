@@ -28,7 +28,7 @@ use Rattle.rule.specs.Frames.{only, crossed}
 use Rattle.rule.specs.PlanLaws.{HalfLinkFits}
 use Rattle.rule.specs.laws.LinkLaws.{hop-takes, hop-crosses, hop-joined}
 use Rattle.rule.specs.laws.EntryLaws.{first-port-says, portsBehind, port-listed, listed-port, distinct-ports}
-use Rattle.rule.specs.laws.Network.{chosen-is-path, path-is-chosen, Network, size, links, graph, key, graph-meets, ChosenFor}
+use Rattle.rule.specs.laws.Network.{chosen-is-path, path-is-chosen, Network, size, vidPlan, vid-laws, links, graph, key, graph-meets, ChosenFor}
 
 module _ {A : Type 0} where
   listed-is : (o : Option A) (a : A) → In a (listOf o) → o ≡ some a
@@ -110,13 +110,13 @@ module _ (hs : List HalfLink) where
 module _ (N : Network) (m : Member) where
   -- The ports of the bridge `u` behind which a receiver is, those of them that are listed, and the path to a receiver.
   abbrev behind : ℕ → List ℕ
-  behind u = receiverPorts (N .plan) (N .vid) u (N .plan .members) m
+  behind u = receiverPorts (vidPlan N) (N .vid) u (N .plan .members) m
 
   abbrev pub listed : ℕ → List ℕ
-  listed u = portsBehind (N .plan) (N .vid) u m
+  listed u = portsBehind (vidPlan N) (N .vid) u m
 
   abbrev pathTo : Member → Option (List ℕ)
-  pathTo r = chosenPath (N .plan) (N .vid .index) (m .bridge) (r .bridge)
+  pathTo r = chosenPath (vidPlan N) (N .vid .index) (m .bridge) (r .bridge)
 
   -- "every other receiving member of its service": a bridge that is one.
   abbrev pub ReceivesAt : ℕ → Type 0
@@ -148,13 +148,13 @@ module _ (N : Network) (m : Member) where
       go r i t (some q) e j =
           let (w, l, h, f, g) = leaving-says (links N) u port q (listed-is (leavingPort (links N) u q) port j) in (
             l,
-            ap (crossed (links N) u) g ∙ hop-crosses (N .plan) (N .laws) u w l f,
+            ap (crossed (links N) u) g ∙ hop-crosses (vidPlan N) (vid-laws N) u w l f,
             record {
               receiver = r;
               of-table = i;
               receives = t;
               path = q;
-              chosen = path-is-chosen (N .plan) (N .laws) (N .vid .index) (m .bridge) (r .bridge) q e;
+              chosen = path-is-chosen (vidPlan N) (vid-laws N) (N .vid .index) (m .bridge) (r .bridge) q e;
               next = w;
               leaves = h;
               hop = f;
@@ -166,14 +166,14 @@ module _ (N : Network) (m : Member) where
   leads-port u l D = port-listed (behind u) (l .here .port) (F .least-port) (F .greatest-port) found
     where
       F : HalfLinkFits (size N) (l .here)
-      F = N .laws .half-links .fits (l .here) (hop-takes (links N) u (D .next) l (D .hop) .link .here-listed)
+      F = vid-laws N .half-links .fits (l .here) (hop-takes (links N) u (D .next) l (D .hop) .link .here-listed)
 
       found : In (l .here .port) (behind u)
       found = in-flatMap (λ r. portsOf (leavingPort (links N) u) (pathTo r)) (l .here .port) (D .receiver)
           (selected (receives m) (N .plan .members))
           (in-selected (receives m) (D .receiver) (N .plan .members) (D .of-table) (D .receives))
           (subst (λ (o : Option (List ℕ)). In (l .here .port) (portsOf (leavingPort (links N) u) o))
-          (sym (chosen-is-path (N .plan) (N .laws) (N .vid .index) (m .bridge) (D .receiver .bridge) (D .path) (D .chosen)))
+          (sym (chosen-is-path (vidPlan N) (vid-laws N) (N .vid .index) (m .bridge) (D .receiver .bridge) (D .path) (D .chosen)))
           (is-listed (leavingPort (links N) u (D .path)) (l .here .port)
           (says-leaving (links N) u (D .next) (D .path)
           (chosen-distinct (graph N) (key N) (m .bridge) (D .receiver .bridge) (D .path) (D .chosen)) (D .leaves) l (D .hop))))
@@ -194,7 +194,7 @@ module _ (N : Network) (m : Member) where
 
   pub says-led : (u : ℕ) (l : Link) → Led u l → In l (ledFrom u)
   says-led u l D = in-flatMap (λ port. listOf (crossed (links N) u port)) l (l .here .port) (listed u) (leads-port u l D)
-      (is-listed (crossed (links N) u (l .here .port)) l (hop-crosses (N .plan) (N .laws) u (D .next) l (D .hop)))
+      (is-listed (crossed (links N) u (l .here .port)) l (hop-crosses (vidPlan N) (vid-laws N) u (D .next) l (D .hop)))
 
   -- Each port leads to another bridge.
   pub led-once : (u : ℕ) → Distinct (map to (ledFrom u))
@@ -250,4 +250,4 @@ module _ (N : Network) (m : Member) where
       below w (inr (inl e)) = rw e (N .laws .members .fits m of-table .bridge-known)
       below w (inr (inr k)) = let (l, D, e) = led-to w k in
           subst (λ (z : ℕ). z < size N) (sym (e ∙ led-enters u l D))
-          (entered-inside (graph N) (graph-meets N) u (D .next) (hop-joined (N .plan) (N .laws) u (D .next) l (D .hop)))
+          (entered-inside (graph N) (graph-meets N) u (D .next) (hop-joined (vidPlan N) (vid-laws N) u (D .next) l (D .hop)))

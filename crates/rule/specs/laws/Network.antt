@@ -10,12 +10,13 @@ use Rattle.graph.specs.Chosen.{Chosen}
 use Rattle.lists.specs.Members.{In}
 use Rattle.graph.specs.laws.Enumeration.{chosen-is, is-chosen, no-path-none}
 use Rattle.rule.specs.Records.{HalfLink, Vid}
-use Rattle.rule.specs.Plan.{Plan}
+use Rattle.rule.specs.Plan.{Plan, planOfVid}
 use Rattle.rule.specs.Links.{graphOf}
 use Rattle.rule.specs.Identifiers.{keyOf}
 use Rattle.rule.specs.Paths.{chosenPath}
 use Rattle.rule.specs.Entries.{entryListOf}
 use Rattle.rule.specs.PlanLaws.{PlanLaws}
+use Rattle.rule.specs.laws.VidPlan.{vid-plan-laws}
 use Rattle.rule.specs.laws.LinkLaws.{graph-laws}
 use Rattle.rule.specs.laws.IdentifierLaws.{key-laws}
 
@@ -45,21 +46,28 @@ module _ (N : Network) where
   abbrev pub size : ℕ
   size = length (N .plan .bridges)
 
-  abbrev pub links : List HalfLink
-  links = N .plan .halfLinks
+  -- The plan that the paths of the VID are chosen in, and its laws.
+  abbrev pub vidPlan : Plan
+  vidPlan = planOfVid (N .plan) (N .vid)
 
-  -- The graph of the plan, and the keys of its bridges for the VID's index.
+  pub vid-laws : PlanLaws vidPlan
+  vid-laws = vid-plan-laws (N .plan) (N .laws) (N .vid)
+
+  abbrev pub links : List HalfLink
+  links = vidPlan .halfLinks
+
+  -- The graph of that plan, and the keys of its bridges for the VID's index.
   abbrev pub graph : Graph
-  graph = graphOf (N .plan)
+  graph = graphOf vidPlan
 
   abbrev pub key : ℕ → ℕ
-  key = keyOf (N .plan) (N .vid .index)
+  key = keyOf vidPlan (N .vid .index)
 
   pub graph-meets : GraphLaws graph
-  graph-meets = graph-laws (N .plan) (N .laws)
+  graph-meets = graph-laws vidPlan vid-laws
 
   pub key-meets : KeyLaws graph key
-  key-meets = key-laws (N .plan) (N .laws) (N .vid .index)
+  key-meets = key-laws vidPlan vid-laws (N .vid .index)
 
   abbrev pub ChosenFor : ℕ → ℕ → List ℕ → Type 0
   ChosenFor a b q = Chosen graph key a b q

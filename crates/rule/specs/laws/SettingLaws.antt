@@ -17,12 +17,12 @@ use Rattle.rule.specs.Paths.{chosenPath}
 use Rattle.rule.specs.Entries.{entryListOf}
 use Rattle.rule.specs.Answers.{CostAndHops}
 use Rattle.rule.specs.Calls.{measured, pathFound, pathOutcome, entriesOutcome}
-use Rattle.rule.specs.Demand3.{Setting, ChainIn, Given}
+use Rattle.rule.specs.Demand3.{Setting, vidPlan, ChainIn, Given}
 use Rattle.rule.specs.PlanLaws.{PlanLaws}
 use Rattle.rule.specs.laws.Accepted.{accepted-laws}
 use Rattle.rule.specs.laws.LinkLaws.{joined-says, says-joined}
 use Rattle.rule.specs.laws.CallLaws.{refused-not-answered, lent-says, lent-holds, path-asked, entries-asked}
-use Rattle.rule.specs.laws.Network.{chosen-is-path, path-is-chosen, Network, graph, key, graph-meets, key-meets, ChosenFor}
+use Rattle.rule.specs.laws.Network.{chosen-is-path, path-is-chosen, Network, vid-laws, graph, key, graph-meets, key-meets, ChosenFor}
 
 module _ (s : Setting) where
   -- The laws of the table's plan.
@@ -43,18 +43,18 @@ module _ (s : Setting) where
 
   -- What the path call gives for two bridges of the table, whatever list is lent.
   pub path-call : (a b : ℕ) → a < length (s .plan .bridges) → b < length (s .plan .bridges) → (lent : List ℕ)
-      → pathOutcome (s .table) (s .vid .vid) a b lent ≡ lentTo lent (pathFound (s .plan) (chosenPath (s .plan) (s .vid .index) a b))
+      → pathOutcome (s .table) (s .vid .vid) a b lent ≡ lentTo lent (pathFound (vidPlan s) (chosenPath (vidPlan s) (s .vid .index) a b))
   unfolding pathOutcome
   path-call a b h k lent = ap (lentTo lent) (path-asked (s .table) (s .plan) (s .accepted) laws (s .vid) (s .vidOfTable) a b h k)
 
   -- A list of bridges, each joined to the next, is a path of the plan's graph, and a path of the graph is such a list.
   chain-linked : (a b : ℕ) (q : List ℕ) → ChainIn s a b q → Linked (graph net) a b q
   chain-linked a b (u ∷ []) (e, f) = (e, f)
-  chain-linked a b (u ∷ v ∷ t) (e, j, c) = (e, (joined-says (s .plan) laws u v j, chain-linked v b (v ∷ t) c .1))
+  chain-linked a b (u ∷ v ∷ t) (e, j, c) = (e, (joined-says (vidPlan s) (vid-laws net) u v j, chain-linked v b (v ∷ t) c .1))
 
   linked-chain : (a b : ℕ) (q : List ℕ) → Linked (graph net) a b q → ChainIn s a b q
   linked-chain a b (u ∷ []) (e, o) = (e, o)
-  linked-chain a b (u ∷ v ∷ t) (e, (j, o)) = (e, says-joined (s .plan) laws u v j, linked-chain v b (v ∷ t) (refl, o))
+  linked-chain a b (u ∷ v ∷ t) (e, (j, o)) = (e, says-joined (vidPlan s) (vid-laws net) u v j, linked-chain v b (v ∷ t) (refl, o))
 
   pub chain-path : (a b : ℕ) (q : List ℕ) → ChainIn s a b q → IsPath (graph net) a b q
   chain-path a b q c = linked-path (graph net) (λ v. tt) a b q (chain-linked a b q c)
@@ -68,33 +68,33 @@ module _ (s : Setting) where
 
   -- The path given is the chosen path, with its cost and hops.
   pub given-chosen : (a b : ℕ) → a < length (s .plan .bridges) → b < length (s .plan .bridges) → (path : List ℕ) (values : CostAndHops)
-      → Given s a b path values → ChosenFor net a b path × (values ≡ measured (s .plan) path)
-  given-chosen a b h k path values G = go (chosenPath (s .plan) (s .vid .index) a b) refl (sym (path-call a b h k (G .lent)) ∙ G .call)
+      → Given s a b path values → ChosenFor net a b path × (values ≡ measured (vidPlan s) path)
+  given-chosen a b h k path values G = go (chosenPath (vidPlan s) (s .vid .index) a b) refl (sym (path-call a b h k (G .lent)) ∙ G .call)
     where
-      same : (q : List ℕ) → ChosenFor net a b q → measured (s .plan) q ≡ values → q ++ drop (length q) (G .lent) ≡ path ++ G .rest → q ≡ path
+      same : (q : List ℕ) → ChosenFor net a b q → measured (vidPlan s) q ≡ values → q ++ drop (length q) (G .lent) ≡ path ++ G .rest → q ≡ path
       same q P e f = let (t, g, W) = chosen-first (graph net) (key net) a b q P in
           append-same q path (drop (length q) (G .lent)) (G .rest)
           (omega (arith, G .bridges, ap (λ (z : CostAndHops). z .hops) e, ap (λ (z : List ℕ). length z) g)) f
 
-      go : (o : Option (List ℕ)) → chosenPath (s .plan) (s .vid .index) a b ≡ o
-          → lentTo (G .lent) (pathFound (s .plan) o) ≡ (answered values, path ++ G .rest)
-          → ChosenFor net a b path × (values ≡ measured (s .plan) path)
+      go : (o : Option (List ℕ)) → chosenPath (vidPlan s) (s .vid .index) a b ≡ o
+          → lentTo (G .lent) (pathFound (vidPlan s) o) ≡ (answered values, path ++ G .rest)
+          → ChosenFor net a b path × (values ≡ measured (vidPlan s) path)
       go none e f = absurd (refused-not-answered (ap (λ (z : Outcome CostAndHops × List ℕ). z .0) f))
       go (some q) e f =
-          let P = path-is-chosen (s .plan) laws (s .vid .index) a b q e in
-          let r = lent-says (G .lent) (record { values = measured (s .plan) q; words = q }) values (path ++ G .rest) f in
+          let P = path-is-chosen (vidPlan s) (vid-laws net) (s .vid .index) a b q e in
+          let r = lent-says (G .lent) (record { values = measured (vidPlan s) q; words = q }) values (path ++ G .rest) f in
           let g : q ≡ path = same q P (r .0) (r .1) in
-          (subst (λ (z : List ℕ). ChosenFor net a b z) g P, subst (λ (z : List ℕ). values ≡ measured (s .plan) z) g (sym (r .0)))
+          (subst (λ (z : List ℕ). ChosenFor net a b z) g P, subst (λ (z : List ℕ). values ≡ measured (vidPlan s) z) g (sym (r .0)))
 
   -- Each chosen path is given, where the lent list holds it and no more.
   pub chosen-given : (a b : ℕ) → a < length (s .plan .bridges) → b < length (s .plan .bridges) → (q : List ℕ) → ChosenFor net a b q
-      → Given s a b q (measured (s .plan) q)
+      → Given s a b q (measured (vidPlan s) q)
   chosen-given a b h k q P = record {
     lent = q;
     rest = [];
     call =
-        path-call a b h k q ∙ ap (λ (o : Option (List ℕ)). lentTo q (pathFound (s .plan) o))
-        (chosen-is-path (s .plan) laws (s .vid .index) a b q P)
-        ∙ lent-holds (record { values = measured (s .plan) q; words = q });
+        path-call a b h k q ∙ ap (λ (o : Option (List ℕ)). lentTo q (pathFound (vidPlan s) o))
+        (chosen-is-path (vidPlan s) (vid-laws net) (s .vid .index) a b q P)
+        ∙ lent-holds (record { values = measured (vidPlan s) q; words = q });
     bridges = let (t, g, W) = chosen-first (graph net) (key net) a b q P in omega (arith, ap (λ (z : List ℕ). length z) g);
   }

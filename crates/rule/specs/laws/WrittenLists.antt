@@ -5,19 +5,19 @@ use native.Mathlib.Omega.{arith}
 use mathlib.Core.Path.{_≡_, refl, sym, ap, _∙_}
 use mathlib.Core.List.{List, [], _∷_, map, flatMap}
 use mathlib.Core.Logic.{_⊎_, inl, inr}
-use mathlib.Core.Bool.{Bool, true, false, not, _&&_, _||_}
-use lib.Dec.{eqb, leb}
+use mathlib.Core.Bool.{Bool, false, not, _&&_, _||_}
+use lib.Dec.{eqb}
 use lib.ListN.{getElem?}
 use borrow.Author.Tests.{eq-eqb, le-leb}
 use Rattle.lists.specs.Lists.{selected}
 use Rattle.lists.specs.Members.{In}
 use Rattle.lists.specs.laws.NumberLaws.{le-or-gt}
 use Rattle.rule.specs.Records.{Limits, inLimits, vidLimits, portLimits, groupBit}
-use Rattle.rule.specs.Outcome.{Outcome, answered, refusedIf}
+use Rattle.rule.specs.Outcome.{answered, refusedIf}
 use Rattle.rule.specs.Plan.{Plan}
 use Rattle.rule.specs.PlanLaws.{PlanLaws}
 use Rattle.rule.specs.Entries.{Entry, entryWords, entriesOf, entryListOf}
-use Rattle.rule.specs.Lookup.{entryOf, entriesIn, faultyEntry, faultyList, matchingPorts, lookupOutcome}
+use Rattle.rule.specs.Lookup.{entryOf, faultyEntry, faultyList, matchingPorts, lookupOutcome}
 use Rattle.rule.specs.laws.EntryLaws.{EntryFits, entry-decoded, entries-decoded, entry-fits}
 
 within-limits : (l : Limits) (n : ℕ) → l .least ≤ n → n ≤ l .greatest → not (inLimits l n) ≡ false

@@ -1,15 +1,15 @@
 -- The answers of the calls, and the numbers of the exported functions, from the examination of the table and from what was asked of its
 -- plan. Assumes nothing.
 use Prim.Native.Nat.{ℕ, _+_}
-use mathlib.Core.Path.{_≡_, refl, sym, ap, _∙_}
+use mathlib.Core.Path.{_≡_, ap, _∙_}
 use mathlib.Core.List.{List}
 use Rattle.rule.specs.declared.answer.Counts.{Counts}
 use Rattle.rule.specs.declared.answer.RecordKind.{RecordKind}
 use Rattle.rule.specs.Words.{wordsOf}
-use Rattle.rule.specs.Outcome.{Outcome, answered, refused, Written, lentTo}
+use Rattle.rule.specs.Outcome.{Outcome, answered, refused, lentTo}
 use Rattle.rule.specs.Answers.{CostAndHops, kindNumber}
 use Rattle.rule.specs.Check.{verdict}
-use Rattle.rule.specs.Calls.{Place, countsOf, checkOutcome, planPath, pathAnswer, pathOutcome, planPlaces, lentToThree, treeOutcome, planEntries, entriesAnswer, entriesOutcome}
+use Rattle.rule.specs.Calls.{countsOf, checkOutcome, planPath, pathAnswer, pathOutcome, planBranches, lentToThree, treeOutcome, planEntries, entriesAnswer, entriesOutcome}
 use Rattle.rule.specs.Exported.{checkNumber, exportedCheck, costNumber, exportedPathCost}
 use Rattle.table.specs.declared.shape.Shape.{Shape}
 use Rattle.table.specs.Positions.{planAt}
@@ -38,10 +38,10 @@ module _ (t : List ℕ) (r : Examined) (e : examinedValues (wordsOf t) r ≡ ver
     cost-accepted vid a b number g = g ∙ ap costNumber (asked t r e (λ p. planPath p vid a b) s f)
 
     pub tree-accepted : (vid a : ℕ) (costs hopCounts lasts : List ℕ) (o : Outcome ℕ × List ℕ × List ℕ × List ℕ)
-        → o ≡ lentToThree costs hopCounts lasts (planPlaces (planAt (wordsOf t) s) vid a) → o ≡ treeOutcome t vid a costs hopCounts lasts
+        → o ≡ lentToThree costs hopCounts lasts (planBranches (planAt (wordsOf t) s) vid a) → o ≡ treeOutcome t vid a costs hopCounts lasts
     unfolding treeOutcome
     tree-accepted vid a costs hopCounts lasts o g =
-        g ∙ ap (lentToThree costs hopCounts lasts) (asked t r e (λ p. planPlaces p vid a) s f)
+        g ∙ ap (lentToThree costs hopCounts lasts) (asked t r e (λ p. planBranches p vid a) s f)
 
     pub entries-accepted : (b : ℕ) (list : List ℕ) (o : Outcome ℕ × List ℕ)
         → o ≡ lentTo list (planEntries (planAt (wordsOf t) s) b) → o ≡ entriesOutcome t b list
@@ -71,7 +71,7 @@ module _ (t : List ℕ) (r : Examined) (e : examinedValues (wordsOf t) r ≡ ver
         (treeOutcome t vid a costs hopCounts lasts)
     unfolding treeOutcome
     tree-refused vid a costs hopCounts lasts =
-        ap (lentToThree costs hopCounts lasts) (not-asked t r e (λ p. planPlaces p vid a) number at kind f)
+        ap (lentToThree costs hopCounts lasts) (not-asked t r e (λ p. planBranches p vid a) number at kind f)
 
     pub entries-refused : (b : ℕ) (list : List ℕ)
         → _≡_ {A = Outcome ℕ × List ℕ} (refused number (kindNumber kind) at, list) (entriesOutcome t b list)

@@ -14,7 +14,7 @@ use Rattle.tree.specs.Labels.{noCost, Label, labelAt, taken, settledLabe
 
 -- Labels with the same five numbers are the same.
 pub same-label : {a b c d e a′ b′ c′ d′ e′ : ℕ} → a ≡ a′ → b ≡ b′ → c ≡ c′ → d ≡ d′ → e ≡ e′
-    → _≡_ {A = Label} (record { waits = a; far = b; steps = c; next = d; first = e }) (record { waits = a′; far = b′; steps = c′; next = d′; first = e′ })
+    → _≡_ {A = Label} (record { waits = a; cost = b; hops = c; next = d; first = e }) (record { waits = a′; cost = b′; hops = c′; next = d′; first = e′ })
 same-label i j k l m = rw (i, j, k, l, m) refl
 
 -- The label of the bridge `v` after it took the way through the bridge `via`.
@@ -30,7 +30,7 @@ module _ (labels : List ℕ) (via v cost hops : ℕ) where
   length-taken = simp length-set
 
   pub label-taken : v < 64 → 320 ≤ length labels
-      → labelAt (taken labels via v cost hops) v ≡ record { waits = cost; far = cost; steps = hops; next = via; first = labelAt labels v .first }
+      → labelAt (taken labels via v cost hops) v ≡ record { waits = cost; cost = cost; hops = hops; next = via; first = labelAt labels v .first }
   label-taken l has = same-label
       (getD-set-other (set (set (set labels v cost) (64 + v) cost) (128 + v) hops) (192 + v) v via 0 (omega arith)
       ∙ getD-set-other (set (set labels v cost) (64 + v) cost) (128 + v) v hops 0 (omega arith)
@@ -66,7 +66,7 @@ module _ (labels : List ℕ) (root u : ℕ) where
   length-settled = simp length-set
 
   pub label-settled : u < 64 → 320 ≤ length labels → labelAt (settledLabels labels root u) u
-      ≡ record { waits = noCost; far = labelAt labels u .far; steps = labelAt labels u .steps; next = labelAt labels u .next; first = firstHop }
+      ≡ record { waits = noCost; cost = labelAt labels u .cost; hops = labelAt labels u .hops; next = labelAt labels u .next; first = firstHop }
   label-settled l has = same-label
       (getD-set-same (set labels (256 + u) firstHop) u noCost 0 (omega (arith, length-set labels (256 + u) firstHop)))
       (unwritten (64 + u) (omega arith) (omega arith))
@@ -85,25 +85,25 @@ module _ (labels : List ℕ) (root u : ℕ) where
 
   -- Its own cost, hops and next hop, and those of every other bridge, are as they were.
   pub settling-keeps : (x : ℕ) → x < 64 → u < 64 → 320 ≤ length labels → (a : ℕ) × (b : ℕ) × (labelAt (settledLabels labels root u) x
-      ≡ record { waits = a; far = labelAt labels x .far; steps = labelAt labels x .steps; next = labelAt labels x .next; first = b })
+      ≡ record { waits = a; cost = labelAt labels x .cost; hops = labelAt labels x .hops; next = labelAt labels x .next; first = b })
   settling-keeps x i l has = go (same-or-not x u)
     where
       go : (x ≡ u) ⊎ (x ≡ u → ⊥) → (a : ℕ) × (b : ℕ) × (labelAt (settledLabels labels root u) x
-          ≡ record { waits = a; far = labelAt labels x .far; steps = labelAt labels x .steps; next = labelAt labels x .next; first = b })
+          ≡ record { waits = a; cost = labelAt labels x .cost; hops = labelAt labels x .hops; next = labelAt labels x .next; first = b })
       go (inl e) = rw e (noCost, firstHop, label-settled l has)
       go (inr f) = (labelAt labels x .waits, labelAt labels x .first, label-unsettled x i l f)
 
 -- What it is to be settled, in numbers.
-module _ (n : ℕ) (labels rows : List ℕ) (u : ℕ) where
-  pub settled-says : T (stateOf n labels rows .settled u) → (u < n) × (labelAt labels u .far < noCost) × (noCost ≤ labelAt labels u .waits)
+module _ (n : ℕ) (labels path-ids : List ℕ) (u : ℕ) where
+  pub settled-says : T (stateOf n labels path-ids .settled u) → (u < n) × (labelAt labels u .cost < noCost) × (noCost ≤ labelAt labels u .waits)
   settled-says h =
-      let a = first-of (ltb u n) (ltb (labelAt labels u .far) noCost && leb noCost (labelAt labels u .waits)) h in
-      let b = last-of (ltb u n) (ltb (labelAt labels u .far) noCost && leb noCost (labelAt labels u .waits)) h in (
+      let a = first-of (ltb u n) (ltb (labelAt labels u .cost) noCost && leb noCost (labelAt labels u .waits)) h in
+      let b = last-of (ltb u n) (ltb (labelAt labels u .cost) noCost && leb noCost (labelAt labels u .waits)) h in (
         ltb→lt u n a,
-        ltb→lt (labelAt labels u .far) noCost (first-of (ltb (labelAt labels u .far) noCost) (leb noCost (labelAt labels u .waits)) b),
-        leb→le noCost (labelAt labels u .waits) (last-of (ltb (labelAt labels u .far) noCost) (leb noCost (labelAt labels u .waits)) b),
+        ltb→lt (labelAt labels u .cost) noCost (first-of (ltb (labelAt labels u .cost) noCost) (leb noCost (labelAt labels u .waits)) b),
+        leb→le noCost (labelAt labels u .waits) (last-of (ltb (labelAt labels u .cost) noCost) (leb noCost (labelAt labels u .waits)) b),
       )
 
-  pub says-settled : u < n → labelAt labels u .far < noCost → noCost ≤ labelAt labels u .waits → T (stateOf n labels rows .settled u)
-  says-settled i j k = both (ltb u n) (ltb (labelAt labels u .far) noCost && leb noCost (labelAt labels u .waits)) (lt→ltb u n i)
-      (both (ltb (labelAt labels u .far) noCost) (leb noCost (labelAt labels u .waits)) (lt→ltb (labelAt labels u .far) noCost j) (le→leb noCost (labelAt labels u .waits) k))
+  pub says-settled : u < n → labelAt labels u .cost < noCost → noCost ≤ labelAt labels u .waits → T (stateOf n labels path-ids .settled u)
+  says-settled i j k = both (ltb u n) (ltb (labelAt labels u .cost) noCost && leb noCost (labelAt labels u .waits)) (lt→ltb u n i)
+      (both (ltb (labelAt labels u .cost) noCost) (leb noCost (labelAt labels u .waits)) (lt→ltb (labelAt labels u .cost) noCost j) (le→leb noCost (labelAt labels u .waits) k))

@@ -16,45 +16,45 @@ use Rattle.tree.specs.Labels.{Label, labelAt, labelRank, offerRank, take
 use Rattle.tree.specs.laws.LabelLaws.{length-taken, label-taken, label-passed}
 use Rattle.tree.specs.Relaxing.{Comparable, Relaxable, offerAt, tookAt, Unchanged, Changed, Relaxed}
 
--- An offer is compared with the label `b`, of which `far`, `steps` and `next` were read: by the costs, by the hops, by the rows of the
+-- An offer is compared with the label `b`, of which cost, hops and next hop were read: by the costs, by the hops, by the rows of the
 -- two next hops.
-module _ (rows : List ℕ) (via cost hops : ℕ) (b : Label) {far : ℕ} (read-far : far ≡ b .far) where
-  pub lower-by-cost : {answer : Bool} → answer ≡ ltb cost far → (cost ≡ far → ⊥) → answer ≡ isLower (offerRank rows via cost hops) (labelRank rows b)
+module _ (path-ids : List ℕ) (via cost hops : ℕ) (b : Label) {old-cost : ℕ} (read-cost : old-cost ≡ b .cost) where
+  pub lower-by-cost : {answer : Bool} → answer ≡ ltb cost old-cost → (cost ≡ old-cost → ⊥) → answer ≡ isLower (offerRank path-ids via cost hops) (labelRank path-ids b)
   lower-by-cost e d =
       e
-      ∙ ap (ltb cost) read-far
-      ∙ lower-by-first cost (b .far) (hops ∷ rowOf rows via hops) (b .steps ∷ rowOf rows (b .next) (b .steps)) (λ i. d (i ∙ sym read-far))
+      ∙ ap (ltb cost) read-cost
+      ∙ lower-by-first cost (b .cost) (hops ∷ rowOf path-ids via hops) (b .hops ∷ rowOf path-ids (b .next) (b .hops)) (λ i. d (i ∙ sym read-cost))
 
-  module _ {steps : ℕ} (read-steps : steps ≡ b .steps) (same : cost ≡ far) where
-    then-on : isLower (hops ∷ rowOf rows via hops) (b .steps ∷ rowOf rows (b .next) (b .steps)) ≡ isLower (offerRank rows via cost hops) (labelRank rows b)
-    then-on = lower-by-rest cost (b .far) (hops ∷ rowOf rows via hops) (b .steps ∷ rowOf rows (b .next) (b .steps)) (same ∙ read-far)
+  module _ {old-hops : ℕ} (read-hops : old-hops ≡ b .hops) (same : cost ≡ old-cost) where
+    then-on : isLower (hops ∷ rowOf path-ids via hops) (b .hops ∷ rowOf path-ids (b .next) (b .hops)) ≡ isLower (offerRank path-ids via cost hops) (labelRank path-ids b)
+    then-on = lower-by-rest cost (b .cost) (hops ∷ rowOf path-ids via hops) (b .hops ∷ rowOf path-ids (b .next) (b .hops)) (same ∙ read-cost)
 
-    pub lower-by-hops : {answer : Bool} → answer ≡ ltb hops steps → (hops ≡ steps → ⊥) → answer ≡ isLower (offerRank rows via cost hops) (labelRank rows b)
+    pub lower-by-hops : {answer : Bool} → answer ≡ ltb hops old-hops → (hops ≡ old-hops → ⊥) → answer ≡ isLower (offerRank path-ids via cost hops) (labelRank path-ids b)
     lower-by-hops e d =
         e
-        ∙ ap (ltb hops) read-steps
-        ∙ lower-by-first hops (b .steps) (rowOf rows via hops) (rowOf rows (b .next) (b .steps)) (λ i. d (i ∙ sym read-steps))
+        ∙ ap (ltb hops) read-hops
+        ∙ lower-by-first hops (b .hops) (rowOf path-ids via hops) (rowOf path-ids (b .next) (b .hops)) (λ i. d (i ∙ sym read-hops))
         ∙ then-on
 
-    pub lower-by-rows : {answer : Bool} {next count : ℕ} → next ≡ b .next → count ≡ hops → hops ≡ steps
-        → answer ≡ isLower (rowOf rows via count) (rowOf rows next count) → answer ≡ isLower (offerRank rows via cost hops) (labelRank rows b)
+    pub lower-by-rows : {answer : Bool} {next count : ℕ} → next ≡ b .next → count ≡ hops → hops ≡ old-hops
+        → answer ≡ isLower (rowOf path-ids via count) (rowOf path-ids next count) → answer ≡ isLower (offerRank path-ids via cost hops) (labelRank path-ids b)
     lower-by-rows {answer} {next} {count} read-next counted alike e =
         e
-        ∙ ap (λ (k : ℕ). isLower (rowOf rows via k) (rowOf rows next k)) counted
-        ∙ ap (λ (x : ℕ). isLower (rowOf rows via hops) (rowOf rows x hops)) read-next
-        ∙ ap (λ (k : ℕ). isLower (rowOf rows via hops) (rowOf rows (b .next) k)) (alike ∙ read-steps)
-        ∙ lower-by-rest hops (b .steps) (rowOf rows via hops) (rowOf rows (b .next) (b .steps)) (alike ∙ read-steps)
+        ∙ ap (λ (k : ℕ). isLower (rowOf path-ids via k) (rowOf path-ids next k)) counted
+        ∙ ap (λ (x : ℕ). isLower (rowOf path-ids via hops) (rowOf path-ids x hops)) read-next
+        ∙ ap (λ (k : ℕ). isLower (rowOf path-ids via hops) (rowOf path-ids (b .next) k)) (alike ∙ read-hops)
+        ∙ lower-by-rest hops (b .hops) (rowOf path-ids via hops) (rowOf path-ids (b .next) (b .hops)) (alike ∙ read-hops)
         ∙ then-on
 
 -- The labels after an offer, by the answer of the comparison.
-module _ (labels rows : List ℕ) (via v cost hops : ℕ) (b : Bool) (e : b ≡ isLower (offerRank rows via cost hops) (labelRank rows (labelAt labels v))) where
-  pub offer-refused : not b ≡ true → labels ≡ relaxed labels rows via v cost hops
+module _ (labels path-ids : List ℕ) (via v cost hops : ℕ) (b : Bool) (e : b ≡ isLower (offerRank path-ids via cost hops) (labelRank path-ids (labelAt labels v))) where
+  pub offer-refused : not b ≡ true → labels ≡ relaxed labels path-ids via v cost hops
   offer-refused f = ap (λ (z : Bool). cond z (taken labels via v cost hops) labels) (sym (ap not f) ∙ Bool·not-not b ∙ e)
 
-  pub offer-taken : not b ≡ false → taken labels via v cost hops ≡ relaxed labels rows via v cost hops
+  pub offer-taken : not b ≡ false → taken labels via v cost hops ≡ relaxed labels path-ids via v cost hops
   offer-taken f = ap (λ (z : Bool). cond z (taken labels via v cost hops) labels) (sym (ap not f) ∙ Bool·not-not b ∙ e)
 
-module _ (starts neighbours costs rows labels : List ℕ) (via : ℕ) where
+module _ (starts neighbours costs path-ids labels : List ℕ) (via : ℕ) where
   abbrev from : ℕ
   from = getD starts via 0
 
@@ -67,9 +67,9 @@ module _ (starts neighbours costs rows labels : List ℕ) (via : ℕ) where
     pub within : i ≤ end
     pub same-length : length labels′ ≡ length labels
     pub each : (x : ℕ) → x < 64
-        → Unchanged neighbours costs rows via from i labels labels′ x ⊎ Changed neighbours costs rows via from i labels labels′ x
+        → Unchanged neighbours costs path-ids via from i labels labels′ x ⊎ Changed neighbours costs path-ids via from i labels labels′ x
 
-  module _ (R : Relaxable starts neighbours costs rows labels via) where
+  module _ (R : Relaxable starts neighbours costs path-ids labels via) where
     pub offering-starts : Offering labels from
     offering-starts = record {
       after = omega arith;
@@ -83,26 +83,26 @@ module _ (starts neighbours costs rows labels : List ℕ) (via : ℕ) where
       v = getD neighbours i 0
 
       abbrev way : ℕ
-      way = labelAt labels via .far + getD costs i 0
+      way = labelAt labels via .cost + getD costs i 0
 
       -- The next neighbour can be compared.
-      comparable : Comparable labels′ rows via v way (labelAt labels via .steps + 1)
+      comparable : Comparable labels′ path-ids via v way (labelAt labels via .hops + 1)
       comparable = record {
         via-in = R .via-in;
         v-in = R .neighbour-in i (O .after) h;
         has-labels = omega (arith, O .same-length, R .has-labels);
-        has-rows = R .has-rows;
-        hops-in = omega (arith, R .steps-in);
+        has-path-ids = R .has-path-ids;
+        hops-in = omega (arith, R .hops-in);
         next-in = λ e. next-in e (O .each v (R .neighbour-in i (O .after) h));
       }
         where
-          next-in : way ≡ labelAt labels′ v .far
-              → Unchanged neighbours costs rows via from i labels labels′ v ⊎ Changed neighbours costs rows via from i labels labels′ v
+          next-in : way ≡ labelAt labels′ v .cost
+              → Unchanged neighbours costs path-ids via from i labels labels′ v ⊎ Changed neighbours costs path-ids via from i labels labels′ v
               → labelAt labels′ v .next < 64
           next-in e (inl U) = omega (
             arith,
             ap (λ (b : Label). b .next) (U .same),
-            R .next-in i (O .after) h (omega (arith, R .cost-in i (O .after) h, ap (λ (b : Label). b .far) (U .same))),
+            R .next-in i (O .after) h (omega (arith, R .cost-in i (O .after) h, ap (λ (b : Label). b .cost) (U .same))),
           )
           next-in e (inr C) = omega (arith, ap (λ (b : Label). b .next) (C .took), R .via-in)
 
@@ -113,8 +113,8 @@ module _ (starts neighbours costs rows labels : List ℕ) (via : ℕ) where
           go (inl d) = absurd (f (sym e ∙ ap (λ (m : ℕ). getD neighbours m 0) d))
           go (inr d) = omega arith
 
-      later : (labels″ : List ℕ) (x : ℕ) → labelAt labels″ x ≡ labelAt labels′ x → Changed neighbours costs rows via from i labels labels′ x
-          → Changed neighbours costs rows via from (i + 1) labels labels″ x
+      later : (labels″ : List ℕ) (x : ℕ) → labelAt labels″ x ≡ labelAt labels′ x → Changed neighbours costs path-ids via from i labels labels′ x
+          → Changed neighbours costs path-ids via from (i + 1) labels labels″ x
       later labels″ x e C = record {
         place = C .place;
         after = C .after;
@@ -126,38 +126,38 @@ module _ (starts neighbours costs rows labels : List ℕ) (via : ℕ) where
 
       -- A bridge that is not this neighbour.
       others : (labels″ : List ℕ) (x : ℕ) → (x ≡ v → ⊥) → labelAt labels″ x ≡ labelAt labels′ x
-          → Unchanged neighbours costs rows via from i labels labels′ x ⊎ Changed neighbours costs rows via from i labels labels′ x
-          → Unchanged neighbours costs rows via from (i + 1) labels labels″ x ⊎ Changed neighbours costs rows via from (i + 1) labels labels″ x
+          → Unchanged neighbours costs path-ids via from i labels labels′ x ⊎ Changed neighbours costs path-ids via from i labels labels′ x
+          → Unchanged neighbours costs path-ids via from (i + 1) labels labels″ x ⊎ Changed neighbours costs path-ids via from (i + 1) labels labels″ x
       others labels″ x f e (inl U) =
           inl (record { same = e ∙ U .same; not-lower = λ k l m d. U .not-lower k l (earlier x f l m d) d })
       others labels″ x f e (inr C) = inr (later labels″ x e C)
 
       -- This neighbour, where the offer is not lower than its label now.
-      refuses : (Lower (offerAt costs rows labels via i) (labelRank rows (labelAt labels′ v)) → ⊥)
-          → Unchanged neighbours costs rows via from i labels labels′ v ⊎ Changed neighbours costs rows via from i labels labels′ v
-          → Unchanged neighbours costs rows via from (i + 1) labels labels′ v ⊎ Changed neighbours costs rows via from (i + 1) labels labels′ v
+      refuses : (Lower (offerAt costs path-ids labels via i) (labelRank path-ids (labelAt labels′ v)) → ⊥)
+          → Unchanged neighbours costs path-ids via from i labels labels′ v ⊎ Changed neighbours costs path-ids via from i labels labels′ v
+          → Unchanged neighbours costs path-ids via from (i + 1) labels labels′ v ⊎ Changed neighbours costs path-ids via from (i + 1) labels labels′ v
       refuses f (inl U) = inl (record { same = U .same; not-lower = λ k l m d. not-lower k l m d (same-or-not k i) })
         where
           not-lower : (k : ℕ) → from ≤ k → k < i + 1 → getD neighbours k 0 ≡ v → (k ≡ i) ⊎ (k ≡ i → ⊥)
-              → Lower (offerAt costs rows labels via k) (labelRank rows (labelAt labels v)) → ⊥
+              → Lower (offerAt costs path-ids labels via k) (labelRank path-ids (labelAt labels v)) → ⊥
           not-lower k l m d (inl e) q =
-              f (subst (λ (b : Label). Lower (offerAt costs rows labels via i) (labelRank rows b)) (sym (U .same))
-              (subst (λ (z : ℕ). Lower (offerAt costs rows labels via z) (labelRank rows (labelAt labels v))) e q))
+              f (subst (λ (b : Label). Lower (offerAt costs path-ids labels via i) (labelRank path-ids b)) (sym (U .same))
+              (subst (λ (z : ℕ). Lower (offerAt costs path-ids labels via z) (labelRank path-ids (labelAt labels v))) e q))
           not-lower k l m d (inr e) q = U .not-lower k l (omega arith) d q
       refuses f (inr C) = inr (later labels′ v refl C)
 
       -- This neighbour, where it is.
       takes : (labels″ : List ℕ) → labelAt labels″ v ≡ tookAt costs labels via (labelAt labels′ v) i
-          → Lower (offerAt costs rows labels via i) (labelRank rows (labelAt labels′ v))
-          → Unchanged neighbours costs rows via from i labels labels′ v ⊎ Changed neighbours costs rows via from i labels labels′ v
-          → Unchanged neighbours costs rows via from (i + 1) labels labels″ v ⊎ Changed neighbours costs rows via from (i + 1) labels labels″ v
+          → Lower (offerAt costs path-ids labels via i) (labelRank path-ids (labelAt labels′ v))
+          → Unchanged neighbours costs path-ids via from i labels labels′ v ⊎ Changed neighbours costs path-ids via from i labels labels′ v
+          → Unchanged neighbours costs path-ids via from (i + 1) labels labels″ v ⊎ Changed neighbours costs path-ids via from (i + 1) labels labels″ v
       takes labels″ e q (inl U) = inr (record {
         place = i;
         after = O .after;
         before = omega arith;
         offered = refl;
         took = e ∙ ap (λ (b : Label). tookAt costs labels via b i) (U .same);
-        lower-now = subst (λ (b : Label). Lower (offerAt costs rows labels via i) (labelRank rows b)) (U .same) q;
+        lower-now = subst (λ (b : Label). Lower (offerAt costs path-ids labels via i) (labelRank path-ids b)) (U .same) q;
       })
       takes labels″ e q (inr C) = inr (record {
         place = C .place;
@@ -166,9 +166,9 @@ module _ (starts neighbours costs rows labels : List ℕ) (via : ℕ) where
         offered = C .offered;
         took = e ∙ ap (λ (b : Label). tookAt costs labels via b i) (C .took)
             ∙ ap (λ (c : ℕ). record {
-              waits = labelAt labels via .far + c;
-              far = labelAt labels via .far + c;
-              steps = labelAt labels via .steps + 1;
+              waits = labelAt labels via .cost + c;
+              cost = labelAt labels via .cost + c;
+              hops = labelAt labels via .hops + 1;
               next = via;
               first = labelAt labels v .first;
             })
@@ -176,20 +176,20 @@ module _ (starts neighbours costs rows labels : List ℕ) (via : ℕ) where
         lower-now = C .lower-now;
       })
 
-      goes-on : (labels″ : List ℕ) → labels″ ≡ relaxed labels′ rows via v way (labelAt labels via .steps + 1) → Offering labels″ (i + 1)
-      goes-on labels″ e = go (isLower (offerAt costs rows labels via i) (labelRank rows (labelAt labels′ v)))
-          (test-lower (offerAt costs rows labels via i) (labelRank rows (labelAt labels′ v)))
-          (lower-test (offerAt costs rows labels via i) (labelRank rows (labelAt labels′ v))) e
+      goes-on : (labels″ : List ℕ) → labels″ ≡ relaxed labels′ path-ids via v way (labelAt labels via .hops + 1) → Offering labels″ (i + 1)
+      goes-on labels″ e = go (isLower (offerAt costs path-ids labels via i) (labelRank path-ids (labelAt labels′ v)))
+          (test-lower (offerAt costs path-ids labels via i) (labelRank path-ids (labelAt labels′ v)))
+          (lower-test (offerAt costs path-ids labels via i) (labelRank path-ids (labelAt labels′ v))) e
         where
           hops : ℕ
-          hops = labelAt labels via .steps + 1
+          hops = labelAt labels via .hops + 1
 
           v-in : v < 64
           v-in = R .neighbour-in i (O .after) h
 
-          go : (b : Bool) → (T b → Lower (offerAt costs rows labels via i) (labelRank rows (labelAt labels′ v)))
-              → (Lower (offerAt costs rows labels via i) (labelRank rows (labelAt labels′ v)) → T b)
-              → labels″ ≡ cond b (taken labels′ via v way (labelAt labels via .steps + 1)) labels′ → Offering labels″ (i + 1)
+          go : (b : Bool) → (T b → Lower (offerAt costs path-ids labels via i) (labelRank path-ids (labelAt labels′ v)))
+              → (Lower (offerAt costs path-ids labels via i) (labelRank path-ids (labelAt labels′ v)) → T b)
+              → labels″ ≡ cond b (taken labels′ via v way (labelAt labels via .hops + 1)) labels′ → Offering labels″ (i + 1)
           go true f g e = record {
             after = omega (arith, O .after);
             within = omega arith;
@@ -198,44 +198,44 @@ module _ (starts neighbours costs rows labels : List ℕ) (via : ℕ) where
           }
             where
               each : (x : ℕ) → x < 64 → (x ≡ v) ⊎ (x ≡ v → ⊥)
-                  → Unchanged neighbours costs rows via from (i + 1) labels labels″ x ⊎ Changed neighbours costs rows via from (i + 1) labels labels″ x
+                  → Unchanged neighbours costs path-ids via from (i + 1) labels labels″ x ⊎ Changed neighbours costs path-ids via from (i + 1) labels labels″ x
               each x l (inl d) =
-                  subst (λ (z : ℕ). Unchanged neighbours costs rows via from (i + 1) labels labels″ z ⊎ Changed neighbours costs rows via from (i + 1) labels labels″ z) (sym d)
+                  subst (λ (z : ℕ). Unchanged neighbours costs path-ids via from (i + 1) labels labels″ z ⊎ Changed neighbours costs path-ids via from (i + 1) labels labels″ z) (sym d)
                   (takes labels″ (ap (λ (t : List ℕ). labelAt t v) e ∙ label-taken labels′ via v way hops v-in (omega (arith, O .same-length, R .has-labels))) (f tt) (O .each v v-in))
               each x l (inr d) = others labels″ x d (ap (λ (t : List ℕ). labelAt t x) e ∙ label-passed labels′ via v way hops x l v-in d) (O .each x l)
           go false f g e = record {
             after = omega (arith, O .after);
             within = omega arith;
             same-length = ap length e ∙ O .same-length;
-            each = λ x l. subst (λ (t : List ℕ). Unchanged neighbours costs rows via from (i + 1) labels t x ⊎ Changed neighbours costs rows via from (i + 1) labels t x) (sym e)
+            each = λ x l. subst (λ (t : List ℕ). Unchanged neighbours costs path-ids via from (i + 1) labels t x ⊎ Changed neighbours costs path-ids via from (i + 1) labels t x) (sym e)
                 (each x l (same-or-not x v));
           }
             where
               each : (x : ℕ) → x < 64 → (x ≡ v) ⊎ (x ≡ v → ⊥)
-                  → Unchanged neighbours costs rows via from (i + 1) labels labels′ x ⊎ Changed neighbours costs rows via from (i + 1) labels labels′ x
+                  → Unchanged neighbours costs path-ids via from (i + 1) labels labels′ x ⊎ Changed neighbours costs path-ids via from (i + 1) labels labels′ x
               each x l (inl d) =
-                  subst (λ (z : ℕ). Unchanged neighbours costs rows via from (i + 1) labels labels′ z ⊎ Changed neighbours costs rows via from (i + 1) labels labels′ z) (sym d)
+                  subst (λ (z : ℕ). Unchanged neighbours costs path-ids via from (i + 1) labels labels′ z ⊎ Changed neighbours costs path-ids via from (i + 1) labels labels′ z) (sym d)
                   (refuses g (O .each v v-in))
               each x l (inr d) = others labels′ x d refl (O .each x l)
 
-      -- With `far` and `steps` read of the bridge `via`, and the sums made of them.
-      module _ {far steps cost hops : ℕ} (read-far : far ≡ labelAt labels via .far) (read-steps : steps ≡ labelAt labels via .steps)
-          (added : cost ≡ far + getD costs i 0) (counted : hops ≡ steps + 1) where
+      -- With cost and hops read of the bridge `via`, and the sums made of them.
+      module _ {via-cost via-hops cost hops : ℕ} (read-cost : via-cost ≡ labelAt labels via .cost) (read-hops : via-hops ≡ labelAt labels via .hops)
+          (added : cost ≡ via-cost + getD costs i 0) (counted : hops ≡ via-hops + 1) where
         cost-is : cost ≡ way
         cost-is = omega arith
 
-        hops-are : hops ≡ labelAt labels via .steps + 1
+        hops-are : hops ≡ labelAt labels via .hops + 1
         hops-are = omega arith
 
-        pub offering-comparable : Comparable labels′ rows via (getD neighbours i 0) cost hops
+        pub offering-comparable : Comparable labels′ path-ids via (getD neighbours i 0) cost hops
         offering-comparable = rw (cost-is, hops-are) comparable
 
-        pub offering-goes-on : {labels″ : List ℕ} → labels″ ≡ relaxed labels′ rows via (getD neighbours i 0) cost hops → Offering labels″ (i + 1)
-        offering-goes-on {labels″} d = goes-on labels″ (d ∙ ap (λ (k : ℕ). relaxed labels′ rows via v k hops) cost-is ∙ ap (relaxed labels′ rows via v way) hops-are)
+        pub offering-goes-on : {labels″ : List ℕ} → labels″ ≡ relaxed labels′ path-ids via (getD neighbours i 0) cost hops → Offering labels″ (i + 1)
+        offering-goes-on {labels″} d = goes-on labels″ (d ∙ ap (λ (k : ℕ). relaxed labels′ path-ids via v k hops) cost-is ∙ ap (relaxed labels′ path-ids via v way) hops-are)
 
-    pub offering-ends : {labels′ : List ℕ} {i : ℕ} → Offering labels′ i → end ≤ i → Relaxed starts neighbours costs rows via labels labels′
+    pub offering-ends : {labels′ : List ℕ} {i : ℕ} → Offering labels′ i → end ≤ i → Relaxed starts neighbours costs path-ids via labels labels′
     offering-ends {labels′} {i} O h = record {
       same-length = O .same-length;
-      each = λ x l. subst (λ (z : ℕ). Unchanged neighbours costs rows via from z labels labels′ x ⊎ Changed neighbours costs rows via from z labels labels′ x)
+      each = λ x l. subst (λ (z : ℕ). Unchanged neighbours costs path-ids via from z labels labels′ x ⊎ Changed neighbours costs path-ids via from z labels labels′ x)
           (let e : i ≡ end = omega (arith, O .within) in e) (O .each x l);
     }

@@ -11,65 +11,65 @@ use Rattle.lists.specs.Lists.{rising}
 use Rattle.lists.specs.laws.SelectedLaws.{in-rising}
 use Rattle.lists.specs.laws.SumLaws.{sum-falls}
 use Rattle.graph.specs.Graph.{Graph}
-use Rattle.tree.specs.Labels.{noCost, labelAt, stateOf, LeastOf, WaitsAt, settledLabels, settledRows}
+use Rattle.tree.specs.Labels.{noCost, stateOf, LeastOf, WaitsAt, settledLabels, settledPathIds}
 use Rattle.tree.specs.laws.LabelLaws.{length-settled}
 use Rattle.tree.specs.Relaxing.{Relaxable, Relaxed}
 use Rattle.tree.specs.Settling.{Settleable, Begun}
 use Rattle.tree.specs.Trees.{Represents, Keyed, Represented, IsTree}
-use Rattle.tree.specs.Tracked.{Tracked, Underway, openBridges}
+use Rattle.tree.specs.Tracked.{Underway, openBridges}
 use Rattle.tree.specs.laws.TreeLaws.{search-tree}
 use Rattle.tree.specs.laws.StartLaws.{start-relaxable, start-tracked}
-use Rattle.tree.specs.laws.StepLaws.{Step, not-settled, step-settleable, step-relaxable, still, done, step-tracked, length-rows}
+use Rattle.tree.specs.laws.StepLaws.{Step, not-settled, step-settleable, step-relaxable, still, done, step-tracked, length-path-ids}
 
 module _ (n : ℕ) (starts neighbours costs keys : List ℕ) (root : ℕ) where
   -- The start.
-  module _ (S : Represented n starts neighbours costs keys) (labels₀ rows₀ labels rows : List ℕ) (root-in : root < n)
-      (has-labels : 320 ≤ length labels₀) (has-rows : 4096 ≤ length rows₀) (B : Begun n root (getD keys root 0) labels₀ rows₀ labels rows) where
-    pub search-relaxable : Relaxable starts neighbours costs rows labels root
-    search-relaxable = start-relaxable (S .graph) n root starts neighbours costs (S .represents) (getD keys root 0) labels₀ rows₀ labels rows root-in has-labels has-rows B
+  module _ (S : Represented n starts neighbours costs keys) (labels₀ path-ids₀ labels path-ids : List ℕ) (root-in : root < n)
+      (has-labels : 320 ≤ length labels₀) (has-path-ids : 4096 ≤ length path-ids₀) (B : Begun n root (getD keys root 0) labels₀ path-ids₀ labels path-ids) where
+    pub search-relaxable : Relaxable starts neighbours costs path-ids labels root
+    search-relaxable = start-relaxable (S .graph) n root starts neighbours costs (S .represents) (getD keys root 0) labels₀ path-ids₀ labels path-ids root-in has-labels has-path-ids B
 
-    pub search-starts : (labels₂ : List ℕ) → Relaxed starts neighbours costs rows root labels labels₂ → Underway n starts neighbours costs keys root labels₂ rows
+    pub search-starts : (labels₂ : List ℕ) → Relaxed starts neighbours costs path-ids root labels labels₂ → Underway n starts neighbours costs keys root labels₂ path-ids
     search-starts labels₂ X = record {
       root-in = root-in;
       has-labels = omega (arith, X .same-length, B .same-labels);
-      has-rows = omega (arith, B .same-rows);
+      has-path-ids = omega (arith, B .same-path-ids);
       represented = S;
-      tracked = λ g key R K. start-tracked g n root starts neighbours costs R (getD keys root 0) labels₀ rows₀ labels rows root-in has-labels has-rows B labels₂ X key
+      tracked = λ g key R K. start-tracked g n root starts neighbours costs R (getD keys root 0) labels₀ path-ids₀ labels path-ids root-in has-labels has-path-ids B labels₂ X key
           (sym (K .key-is root (omega (arith, R .size-is))));
     }
 
   -- A step.
-  module _ {labels rows : List ℕ} (U : Underway n starts neighbours costs keys root labels rows) {least u : ℕ} (L : LeastOf labels n least) (h : least < noCost)
+  module _ {labels path-ids : List ℕ} (U : Underway n starts neighbours costs keys root labels path-ids) {least u : ℕ} (L : LeastOf labels n least) (h : least < noCost)
       (A : WaitsAt labels n least u) where
-    step : (g : Graph) (key : ℕ → ℕ) → Represents g n starts neighbours costs → Keyed g key keys → Step g key n root starts neighbours costs keys labels rows u
+    step : (g : Graph) (key : ℕ → ℕ) → Represents g n starts neighbours costs → Keyed g key keys → Step g key n root starts neighbours costs keys labels path-ids u
     step g key R K = record {
       represents = R;
       keyed = K;
       tracked = U .tracked g key R K;
       has-labels = U .has-labels;
-      has-rows = U .has-rows;
+      has-path-ids = U .has-path-ids;
       u-in = A .inside;
       waits = omega (arith, A .has);
       near = λ x l. omega (arith, A .has, L .none-less x l);
     }
 
     -- For the graph and key that there are.
-    one-step : Step (U .represented .graph) (U .represented .key) n root starts neighbours costs keys labels rows u
+    one-step : Step (U .represented .graph) (U .represented .key) n root starts neighbours costs keys labels path-ids u
     one-step = step (U .represented .graph) (U .represented .key) (U .represented .represents) (U .represented .keyed)
 
-    pub search-settleable : Settleable labels rows keys u
+    pub search-settleable : Settleable labels path-ids keys u
     search-settleable = step-settleable one-step
 
-    pub search-relaxable-on : {labels₁ rows₁ : List ℕ} → labels₁ ≡ settledLabels labels root u → rows₁ ≡ settledRows labels rows u (getD keys u 0)
-        → Relaxable starts neighbours costs rows₁ labels₁ u
+    pub search-relaxable-on : {labels₁ path-ids₁ : List ℕ} → labels₁ ≡ settledLabels labels root u → path-ids₁ ≡ settledPathIds labels path-ids u (getD keys u 0)
+        → Relaxable starts neighbours costs path-ids₁ labels₁ u
     search-relaxable-on e f = rw (e, f) (step-relaxable one-step)
 
-    module _ (labels₂ : List ℕ) (X : Relaxed starts neighbours costs (settledRows labels rows u (getD keys u 0)) u (settledLabels labels root u) labels₂) where
-      underway : Underway n starts neighbours costs keys root labels₂ (settledRows labels rows u (getD keys u 0))
+    module _ (labels₂ : List ℕ) (X : Relaxed starts neighbours costs (settledPathIds labels path-ids u (getD keys u 0)) u (settledLabels labels root u) labels₂) where
+      underway : Underway n starts neighbours costs keys root labels₂ (settledPathIds labels path-ids u (getD keys u 0))
       underway = record {
         root-in = U .root-in;
         has-labels = omega (arith, X .same-length, length-settled labels root u, U .has-labels);
-        has-rows = omega (arith, length-rows one-step, U .has-rows);
+        has-path-ids = omega (arith, length-path-ids one-step, U .has-path-ids);
         represented = U .represented;
         tracked = λ g key R K. step-tracked (step g key R K) labels₂ X;
       }
@@ -100,19 +100,19 @@ module _ (n : ℕ) (starts neighbours costs keys : List ℕ) (root : ℕ) where
           less false true f t = omega arith
           less false false f t = absurd t
 
-    pub search-goes-on : {labels₁ rows₁ : List ℕ} {labels₂ : List ℕ} → labels₁ ≡ settledLabels labels root u → rows₁ ≡ settledRows labels rows u (getD keys u 0)
-        → Relaxed starts neighbours costs rows₁ u labels₁ labels₂
-        → Underway n starts neighbours costs keys root labels₂ rows₁ × (openBridges n labels₂ < openBridges n labels)
-    search-goes-on {labels₁} {rows₁} {labels₂} e f X =
+    pub search-goes-on : {labels₁ path-ids₁ : List ℕ} {labels₂ : List ℕ} → labels₁ ≡ settledLabels labels root u → path-ids₁ ≡ settledPathIds labels path-ids u (getD keys u 0)
+        → Relaxed starts neighbours costs path-ids₁ u labels₁ labels₂
+        → Underway n starts neighbours costs keys root labels₂ path-ids₁ × (openBridges n labels₂ < openBridges n labels)
+    search-goes-on {labels₁} {path-ids₁} {labels₂} e f X =
         (subst (λ (t : List ℕ). Underway n starts neighbours costs keys root labels₂ t) (sym f) (underway labels₂ relaxed), fewer labels₂ relaxed)
       where
-        relaxed : Relaxed starts neighbours costs (settledRows labels rows u (getD keys u 0)) u (settledLabels labels root u) labels₂
+        relaxed : Relaxed starts neighbours costs (settledPathIds labels path-ids u (getD keys u 0)) u (settledLabels labels root u) labels₂
         relaxed = subst (λ (t : List ℕ). Relaxed starts neighbours costs t u (settledLabels labels root u) labels₂) f
-            (subst (λ (t : List ℕ). Relaxed starts neighbours costs rows₁ u t labels₂) e X)
+            (subst (λ (t : List ℕ). Relaxed starts neighbours costs path-ids₁ u t labels₂) e X)
 
   -- The end.
-  pub search-ends : {labels rows : List ℕ} {least : ℕ} → Underway n starts neighbours costs keys root labels rows → LeastOf labels n least → noCost ≤ least
+  pub search-ends : {labels path-ids : List ℕ} {least : ℕ} → Underway n starts neighbours costs keys root labels path-ids → LeastOf labels n least → noCost ≤ least
       → IsTree n starts neighbours costs keys root labels
-  search-ends {labels} {rows} {least} U L h = record {
-    of-graph = λ g key R K. search-tree g key n root starts neighbours costs keys R K labels rows (U .tracked g key R K) least L h;
+  search-ends {labels} {path-ids} {least} U L h = record {
+    of-graph = λ g key R K. search-tree g key n root starts neighbours costs keys R K labels path-ids (U .tracked g key R K) least L h;
   }

@@ -15,7 +15,7 @@ use Rattle.lists.specs.Lists.{spliced}
 use Rattle.graph.specs.Order.{insertUpward}
 use Rattle.ect.specs.Rows.{rowPlace, rowOf, Insertable}
 use Rattle.ect.specs.laws.RowLaws.{row-written}
-use Rattle.tree.specs.Labels.{noCost, labelAt, settledLabels, settledRows}
+use Rattle.tree.specs.Labels.{noCost, labelAt, settledLabels, settledPathIds}
 use Rattle.tree.specs.laws.LabelLaws.{same-label}
 use Rattle.tree.specs.Settling.{Cleared, Begun}
 
@@ -27,7 +27,7 @@ pub record Clearing (n : ℕ) (labels₀ labels : List ℕ) (u : ℕ) : Type 0 w
 pub clearing-starts : (n : ℕ) (labels : List ℕ) → Clearing n labels labels 0
 clearing-starts n labels = record {
   within = omega arith;
-  so-far = record { same-length = refl; none-waits = λ x h. absurd (omega arith); none-far = λ x h. absurd (omega arith) };
+  so-far = record { same-length = refl; none-waits = λ x h. absurd (omega arith); none-labelled = λ x h. absurd (omega arith) };
 }
 
 module _ {n : ℕ} {labels₀ labels : List ℕ} {u : ℕ} (C : Clearing n labels₀ labels u) where
@@ -37,7 +37,7 @@ module _ {n : ℕ} {labels₀ labels : List ℕ} {u : ℕ} (C : Clearing n label
     so-far = record {
       same-length = length-set (set labels u noCost) (64 + u) noCost ∙ length-set labels u noCost ∙ C .so-far .same-length;
       none-waits = λ x l. waits x l (same-or-not x u);
-      none-far = λ x l. far x l (same-or-not x u);
+      none-labelled = λ x l. cost x l (same-or-not x u);
     };
   }
     where
@@ -47,17 +47,17 @@ module _ {n : ℕ} {labels₀ labels : List ℕ} {u : ℕ} (C : Clearing n label
       waits x l (inr f) = getD-set-other (set labels u noCost) (64 + u) x noCost 0 (omega arith)
           ∙ getD-set-other labels u x noCost 0 f ∙ C .so-far .none-waits x (omega arith)
 
-      far : (x : ℕ) → x < u + 1 → (x ≡ u) ⊎ (x ≡ u → ⊥) → getD (set (set labels u noCost) (64 + u) noCost) (64 + x) 0 ≡ noCost
-      far x l (inl e) = ap (λ (k : ℕ). getD (set (set labels u noCost) (64 + u) noCost) (64 + k) 0) e
+      cost : (x : ℕ) → x < u + 1 → (x ≡ u) ⊎ (x ≡ u → ⊥) → getD (set (set labels u noCost) (64 + u) noCost) (64 + x) 0 ≡ noCost
+      cost x l (inl e) = ap (λ (k : ℕ). getD (set (set labels u noCost) (64 + u) noCost) (64 + k) 0) e
           ∙ getD-set-same (set labels u noCost) (64 + u) noCost 0 (omega (arith, length-set labels u noCost, C .so-far .same-length))
-      far x l (inr f) = getD-set-other (set labels u noCost) (64 + u) (64 + x) noCost 0 (omega arith)
-          ∙ getD-set-other labels u (64 + x) noCost 0 (omega arith) ∙ C .so-far .none-far x (omega arith)
+      cost x l (inr f) = getD-set-other (set labels u noCost) (64 + u) (64 + x) noCost 0 (omega arith)
+          ∙ getD-set-other labels u (64 + x) noCost 0 (omega arith) ∙ C .so-far .none-labelled x (omega arith)
 
   pub clearing-ends : n ≤ u → Cleared n labels₀ labels
   clearing-ends h = let e : u ≡ n = omega arith in rw e at (C .so-far)
 
 -- The root is settled.
-module _ (n root key : ℕ) (labels₀ labels rows : List ℕ) (most : n ≤ 64) (inside : root < n) (has : 320 ≤ length labels₀) (has-rows : 4096 ≤ length rows)
+module _ (n root key : ℕ) (labels₀ labels path-ids : List ℕ) (most : n ≤ 64) (inside : root < n) (has : 320 ≤ length labels₀) (has-path-ids : 4096 ≤ length path-ids)
     (C : Cleared n labels₀ labels) where
   abbrev one : List ℕ
   one = set labels (64 + root) 0
@@ -79,16 +79,16 @@ module _ (n root key : ℕ) (labels₀ labels rows : List ℕ) (most : n ≤ 64)
       getD-set-other three (256 + root) j root 0 h ∙ getD-set-other two (192 + root) j root 0 g
       ∙ getD-set-other one (128 + root) j 0 0 f ∙ getD-set-other labels (64 + root) j 0 0 e
 
-  written : set rows (rowPlace root) key ≡ spliced rows (rowPlace root) (key ∷ [])
+  written : set path-ids (rowPlace root) key ≡ spliced path-ids (rowPlace root) (key ∷ [])
   written =
-      ap (λ (t : List ℕ). set t (rowPlace root) key) (sym (spliced-nothing rows (rowPlace root)))
-      ∙ ap (λ (k : ℕ). set (spliced rows (rowPlace root) []) k key) (let e : rowPlace root ≡ rowPlace root + 0 = omega arith in e)
-      ∙ spliced-next rows (rowPlace root) [] key (omega arith)
+      ap (λ (t : List ℕ). set t (rowPlace root) key) (sym (spliced-nothing path-ids (rowPlace root)))
+      ∙ ap (λ (k : ℕ). set (spliced path-ids (rowPlace root) []) k key) (let e : rowPlace root ≡ rowPlace root + 0 = omega arith in e)
+      ∙ spliced-next path-ids (rowPlace root) [] key (omega arith)
 
-  pub begun : Begun n root key labels₀ rows four (set rows (rowPlace root) key)
+  pub begun : Begun n root key labels₀ path-ids four (set path-ids (rowPlace root) key)
   begun = record {
     same-labels = simp length-set (C .same-length);
-    same-rows = length-set rows (rowPlace root) key;
+    same-path-ids = length-set path-ids (rowPlace root) key;
     root-label = same-label
         (other-place root (omega arith) (omega arith) (omega arith) (omega arith) ∙ C .none-waits root inside)
         (getD-set-other three (256 + root) (64 + root) root 0 (omega arith) ∙ getD-set-other two (192 + root) (64 + root) root 0 (omega arith)
@@ -98,19 +98,19 @@ module _ (n root key : ℕ) (labels₀ labels rows : List ℕ) (most : n ≤ 64)
         (getD-set-other three (256 + root) (192 + root) root 0 (omega arith)
         ∙ getD-set-same two (192 + root) root 0 (omega (arith, length-set one (128 + root) 0, length-set labels (64 + root) 0, C .same-length)))
         (getD-set-same three (256 + root) root 0 (omega (arith, length-three)));
-    root-row = ap (λ (t : List ℕ). rowOf t root 1) written ∙ row-written rows root (key ∷ []) (omega arith);
+    root-row = ap (λ (t : List ℕ). rowOf t root 1) written ∙ row-written path-ids root (key ∷ []) (omega arith);
     others-wait = λ u l f. other-place u (omega arith) (omega arith) (omega arith) (omega arith) ∙ C .none-waits u l;
-    others-far = λ u l f. other-place (64 + u) (omega arith) (omega arith) (omega arith) (omega arith) ∙ C .none-far u l;
+    others-unlabelled = λ u l f. other-place (64 + u) (omega arith) (omega arith) (omega arith) (omega arith) ∙ C .none-labelled u l;
   }
 
 -- The bridge `u` is settled with the next hop and the hops that were read of it.
-module _ (labels rows : List ℕ) (u : ℕ) {next steps count : ℕ} (read-next : next ≡ labelAt labels u .next)
-    (read-steps : steps ≡ labelAt labels u .steps) (counted : count ≡ steps) where
-  pub read-insertable : Insertable rows (labelAt labels u .next) u (labelAt labels u .steps) → Insertable rows next u count
-  read-insertable I = rw (read-next, counted, read-steps) I
+module _ (labels path-ids : List ℕ) (u : ℕ) {next hops count : ℕ} (read-next : next ≡ labelAt labels u .next)
+    (read-hops : hops ≡ labelAt labels u .hops) (counted : count ≡ hops) where
+  pub read-insertable : Insertable path-ids (labelAt labels u .next) u (labelAt labels u .hops) → Insertable path-ids next u count
+  read-insertable I = rw (read-next, counted, read-hops) I
 
-  pub row-settled : (key : ℕ) {rows′ : List ℕ} → rows′ ≡ spliced rows (rowPlace u) (insertUpward key (rowOf rows next count)) → rows′ ≡ settledRows labels rows u key
-  row-settled key e = e ∙ rw (read-next, counted, read-steps) refl
+  pub row-settled : (key : ℕ) {path-ids′ : List ℕ} → path-ids′ ≡ spliced path-ids (rowPlace u) (insertUpward key (rowOf path-ids next count)) → path-ids′ ≡ settledPathIds labels path-ids u key
+  row-settled key e = e ∙ rw (read-next, counted, read-hops) refl
 
 module _ (labels : List ℕ) (root u : ℕ) {next : ℕ} (read-next : next ≡ labelAt labels u .next) where
   pub first-settled : {first : ℕ} → first ≡ cond (eqb next root) u (labelAt labels next .first) → set (set labels (256 + u) first) u noCost ≡ settledLabels labels root u

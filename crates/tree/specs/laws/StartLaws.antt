@@ -21,12 +21,12 @@ use Rattle.tree.specs.Relaxing.{Relaxable, Unchanged, Changed, Relaxed}
 use Rattle.tree.specs.Settling.{Begun}
 use Rattle.tree.specs.Trees.{Represents, firstBack}
 use Rattle.tree.specs.laws.TreeLaws.{neighbour-in, offered-cost, offered-joined, joined-listed, one-cost}
-use Rattle.tree.specs.laws.StepLaws.{lower-far}
+use Rattle.tree.specs.laws.StepLaws.{lower-cost}
 use Rattle.tree.specs.Tracked.{Tracked}
 
 module _ (g : Graph) (n root : ℕ) (starts neighbours costs : List ℕ) (R : Represents g n starts neighbours costs) (key : ℕ)
-    (labels₀ rows₀ labels rows : List ℕ) (root-in : root < n) (has-labels : 320 ≤ length labels₀) (has-rows : 4096 ≤ length rows₀)
-    (B : Begun n root key labels₀ rows₀ labels rows) where
+    (labels₀ path-ids₀ labels path-ids : List ℕ) (root-in : root < n) (has-labels : 320 ≤ length labels₀) (has-path-ids : 4096 ≤ length path-ids₀)
+    (B : Begun n root key labels₀ path-ids₀ labels path-ids) where
   abbrev from : ℕ
   from = getD starts root 0
 
@@ -36,51 +36,51 @@ module _ (g : Graph) (n root : ℕ) (starts neighbours costs : List ℕ) (R : Re
   low : (x : ℕ) → x < n → x < 64
   low x l = omega (arith, R .most)
 
-  far-root : labelAt labels root .far ≡ 0
-  far-root = ap (λ (b : Label). b .far) (B .root-label)
+  cost-root : labelAt labels root .cost ≡ 0
+  cost-root = ap (λ (b : Label). b .cost) (B .root-label)
 
-  way-bound : (i : ℕ) → from ≤ i → i < end → labelAt labels root .far + getD costs i 0 < noCost
-  way-bound i h k = omega (arith, far-root, R .cost-is root i root-in h k, R .hop-most root (getD neighbours i 0))
+  way-bound : (i : ℕ) → from ≤ i → i < end → labelAt labels root .cost + getD costs i 0 < noCost
+  way-bound i h k = omega (arith, cost-root, R .cost-is root i root-in h k, R .hop-most root (getD neighbours i 0))
 
-  pub start-relaxable : Relaxable starts neighbours costs rows labels root
+  pub start-relaxable : Relaxable starts neighbours costs path-ids labels root
   start-relaxable = record {
     via-in = low root root-in;
     has-labels = omega (arith, B .same-labels);
-    has-rows = omega (arith, B .same-rows);
+    has-path-ids = omega (arith, B .same-path-ids);
     has-starts = omega (arith, R .has-starts);
     has-neighbours = R .has-neighbours root root-in;
     has-costs = R .has-costs root root-in;
     in-order = R .in-order root root-in;
-    steps-in = omega (arith, ap (λ (b : Label). b .steps) (B .root-label));
+    hops-in = omega (arith, ap (λ (b : Label). b .hops) (B .root-label));
     neighbour-in = λ i h k. low (getD neighbours i 0) (neighbour-in R root root-in i h k);
     cost-in = way-bound;
     one-cost = one-cost R root root-in;
     next-in = λ i h k f. next-in (getD neighbours i 0) (neighbour-in R root root-in i h k) f (same-or-not (getD neighbours i 0) root);
   }
     where
-      next-in : (x : ℕ) → x < n → labelAt labels x .far < noCost → (x ≡ root) ⊎ (x ≡ root → ⊥) → labelAt labels x .next < 64
+      next-in : (x : ℕ) → x < n → labelAt labels x .cost < noCost → (x ≡ root) ⊎ (x ≡ root → ⊥) → labelAt labels x .next < 64
       next-in x l h (inl e) = omega (arith, ap (λ (z : ℕ). labelAt labels z .next) e, ap (λ (b : Label). b .next) (B .root-label), low root root-in)
-      next-in x l h (inr f) = absurd (omega (arith, B .others-far x l f))
+      next-in x l h (inr f) = absurd (omega (arith, B .others-unlabelled x l f))
 
   -- After the root's neighbours were offered the way to it.
-  module _ (labels₂ : List ℕ) (X : Relaxed starts neighbours costs rows root labels labels₂) where
+  module _ (labels₂ : List ℕ) (X : Relaxed starts neighbours costs path-ids root labels labels₂) where
     abbrev st : State
-    st = stateOf n labels₂ rows
+    st = stateOf n labels₂ path-ids
 
     abbrev Same : ℕ → Type 0
-    Same x = Unchanged neighbours costs rows root from end labels labels₂ x
+    Same x = Unchanged neighbours costs path-ids root from end labels labels₂ x
 
     abbrev Took : ℕ → Type 0
-    Took x = Changed neighbours costs rows root from end labels labels₂ x
+    Took x = Changed neighbours costs path-ids root from end labels labels₂ x
 
-    label-root : labelAt labels₂ root ≡ record { waits = noCost; far = 0; steps = 0; next = root; first = root }
+    label-root : labelAt labels₂ root ≡ record { waits = noCost; cost = 0; hops = 0; next = root; first = root }
     label-root = go (X .each root (low root root-in)) ∙ B .root-label
       where
         go : Same root ⊎ Took root → labelAt labels₂ root ≡ labelAt labels root
         go (inl U) = U .same
         go (inr C) = absurd (omega (
           arith,
-          lower-far costs rows labels root (C .place) (labelAt labels root) (C .lower-now),
+          lower-cost costs path-ids labels root (C .place) (labelAt labels root) (C .lower-now),
           offered-cost R root root-in (C .place) root (C .after) (C .before) (C .offered),
           offered-joined R root root-in (C .place) root (C .after) (C .before) (C .offered),
         ))
@@ -90,67 +90,67 @@ module _ (g : Graph) (n root : ℕ) (starts neighbours costs : List ℕ) (R : Re
     took x l f k = go (X .each x (low x l))
       where
         go : Same x ⊎ Took x → Took x
-        go (inl U) = absurd (omega (arith, ltb→lt (labelAt labels₂ x .far) noCost k, ap (λ (b : Label). b .far) (U .same), B .others-far x l f))
+        go (inl U) = absurd (omega (arith, ltb→lt (labelAt labels₂ x .cost) noCost k, ap (λ (b : Label). b .cost) (U .same), B .others-unlabelled x l f))
         go (inr C) = C
 
     took-waits : (x : ℕ) → Took x → labelAt labels₂ x .waits < noCost
     took-waits x C = omega (arith, ap (λ (b : Label). b .waits) (C .took), way-bound (C .place) (C .after) (C .before))
 
     alone : (v : ℕ) → T (st .settled v) → v ≡ root
-    alone v k = go (settled-says n labels₂ rows v k) (same-or-not v root)
+    alone v k = go (settled-says n labels₂ path-ids v k) (same-or-not v root)
       where
-        go : (v < n) × (labelAt labels₂ v .far < noCost) × (noCost ≤ labelAt labels₂ v .waits) → (v ≡ root) ⊎ (v ≡ root → ⊥) → v ≡ root
+        go : (v < n) × (labelAt labels₂ v .cost < noCost) × (noCost ≤ labelAt labels₂ v .waits) → (v ≡ root) ⊎ (v ≡ root → ⊥) → v ≡ root
         go s (inl e) = e
-        go (l, j, m) (inr f) = absurd (omega (arith, took-waits v (took v l f (lt→ltb (labelAt labels₂ v .far) noCost j))))
+        go (l, j, m) (inr f) = absurd (omega (arith, took-waits v (took v l f (lt→ltb (labelAt labels₂ v .cost) noCost j))))
 
     beside : (x : ℕ) → x < n → (x ≡ root → ⊥) → Joined g x root → T (st .labelled x)
     beside x l f j = go (X .each x (low x l)) (joined-listed R root root-in x j)
       where
         go : Same x ⊎ Took x → ((i : ℕ) × (from ≤ i) × (i < end) × (getD neighbours i 0 ≡ x)) → T (st .labelled x)
-        go (inl U) (i, h, k, e) = absurd (U .not-lower i h k e (inl (omega (arith, way-bound i h k, B .others-far x l f))))
-        go (inr C) r = lt→ltb (labelAt labels₂ x .far) noCost (omega (arith, ap (λ (b : Label). b .far) (C .took), way-bound (C .place) (C .after) (C .before)))
+        go (inl U) (i, h, k, e) = absurd (U .not-lower i h k e (inl (omega (arith, way-bound i h k, B .others-unlabelled x l f))))
+        go (inr C) r = lt→ltb (labelAt labels₂ x .cost) noCost (omega (arith, ap (λ (b : Label). b .cost) (C .took), way-bound (C .place) (C .after) (C .before)))
 
     started : (path-key : ℕ → ℕ) → path-key root ≡ key → Starts g path-key root st
     started path-key key-is = record {
       inside = omega (arith, R .size-is);
-      root = says-settled n labels₂ rows root root-in (omega (arith, ap (λ (b : Label). b .far) label-root)) (omega (arith, ap (λ (b : Label). b .waits) label-root));
+      root = says-settled n labels₂ path-ids root root-in (omega (arith, ap (λ (b : Label). b .cost) label-root)) (omega (arith, ap (λ (b : Label). b .waits) label-root));
       alone = alone;
-      far-root = ap (λ (b : Label). b .far) label-root;
-      steps-root = ap (λ (b : Label). b .steps) label-root;
-      row-root = ap (λ (b : Label). rowOf rows root (b .steps + 1)) label-root ∙ B .root-row ∙ ap (λ (k : ℕ). k ∷ []) (sym key-is);
+      far-root = ap (λ (b : Label). b .cost) label-root;
+      steps-root = ap (λ (b : Label). b .hops) label-root;
+      row-root = ap (λ (b : Label). rowOf path-ids root (b .hops + 1)) label-root ∙ B .root-row ∙ ap (λ (k : ℕ). k ∷ []) (sym key-is);
       beside = λ x i f j. beside x (omega (arith, R .size-is)) f j;
       labelled-joined = λ x i f k. let C = took x (omega (arith, R .size-is)) f k in offered-joined R root root-in (C .place) x (C .after) (C .before) (C .offered);
       labelled-far = λ x i f k. let C = took x (omega (arith, R .size-is)) f k in
-          omega (arith, ap (λ (b : Label). b .far) (C .took), far-root, offered-cost R root root-in (C .place) x (C .after) (C .before) (C .offered));
+          omega (arith, ap (λ (b : Label). b .cost) (C .took), cost-root, offered-cost R root root-in (C .place) x (C .after) (C .before) (C .offered));
       labelled-steps = λ x i f k. let C = took x (omega (arith, R .size-is)) f k in
-          omega (arith, ap (λ (b : Label). b .steps) (C .took), ap (λ (b : Label). b .steps) (B .root-label));
+          omega (arith, ap (λ (b : Label). b .hops) (C .took), ap (λ (b : Label). b .hops) (B .root-label));
       labelled-next = λ x i f k. ap (λ (b : Label). b .next) (took x (omega (arith, R .size-is)) f k .took);
     }
 
-    pub start-tracked : (path-key : ℕ → ℕ) → path-key root ≡ key → Tracked g path-key n root labels₂ rows
+    pub start-tracked : (path-key : ℕ → ℕ) → path-key root ≡ key → Tracked g path-key n root labels₂ path-ids
     start-tracked path-key key-is = record {
       kept = kept-starts g path-key root st (started path-key key-is);
       waits-or-not = λ x l. waits-or-not x l (X .each x (low x l)) (same-or-not x root);
-      far-most = λ x l. far-most x l (X .each x (low x l)) (same-or-not x root);
+      cost-at-most = λ x l. cost-at-most x l (X .each x (low x l)) (same-or-not x root);
       next-in = λ x l h. next-in x l h (same-or-not x root);
       root-next = ap (λ (b : Label). b .next) label-root;
       first-is = λ v l k p P. first-is v p (alone v k) P;
     }
       where
         waits-or-not : (x : ℕ) → x < n → Same x ⊎ Took x → (x ≡ root) ⊎ (x ≡ root → ⊥)
-            → (labelAt labels₂ x .waits ≡ noCost) ⊎ (labelAt labels₂ x .waits ≡ labelAt labels₂ x .far)
+            → (labelAt labels₂ x .waits ≡ noCost) ⊎ (labelAt labels₂ x .waits ≡ labelAt labels₂ x .cost)
         waits-or-not x l s (inl e) = inl (ap (λ (z : ℕ). labelAt labels₂ z .waits) e ∙ ap (λ (b : Label). b .waits) label-root)
         waits-or-not x l (inl U) (inr f) = inl (ap (λ (b : Label). b .waits) (U .same) ∙ B .others-wait x l f)
-        waits-or-not x l (inr C) (inr f) = inr (ap (λ (b : Label). b .waits) (C .took) ∙ sym (ap (λ (b : Label). b .far) (C .took)))
+        waits-or-not x l (inr C) (inr f) = inr (ap (λ (b : Label). b .waits) (C .took) ∙ sym (ap (λ (b : Label). b .cost) (C .took)))
 
-        far-most : (x : ℕ) → x < n → Same x ⊎ Took x → (x ≡ root) ⊎ (x ≡ root → ⊥) → labelAt labels₂ x .far ≤ noCost
-        far-most x l s (inl e) = omega (arith, ap (λ (z : ℕ). labelAt labels₂ z .far) e, ap (λ (b : Label). b .far) label-root)
-        far-most x l (inl U) (inr f) = omega (arith, ap (λ (b : Label). b .far) (U .same), B .others-far x l f)
-        far-most x l (inr C) (inr f) = omega (arith, ap (λ (b : Label). b .far) (C .took), way-bound (C .place) (C .after) (C .before))
+        cost-at-most : (x : ℕ) → x < n → Same x ⊎ Took x → (x ≡ root) ⊎ (x ≡ root → ⊥) → labelAt labels₂ x .cost ≤ noCost
+        cost-at-most x l s (inl e) = omega (arith, ap (λ (z : ℕ). labelAt labels₂ z .cost) e, ap (λ (b : Label). b .cost) label-root)
+        cost-at-most x l (inl U) (inr f) = omega (arith, ap (λ (b : Label). b .cost) (U .same), B .others-unlabelled x l f)
+        cost-at-most x l (inr C) (inr f) = omega (arith, ap (λ (b : Label). b .cost) (C .took), way-bound (C .place) (C .after) (C .before))
 
-        next-in : (x : ℕ) → x < n → labelAt labels₂ x .far < noCost → (x ≡ root) ⊎ (x ≡ root → ⊥) → labelAt labels₂ x .next < n
+        next-in : (x : ℕ) → x < n → labelAt labels₂ x .cost < noCost → (x ≡ root) ⊎ (x ≡ root → ⊥) → labelAt labels₂ x .next < n
         next-in x l h (inl e) = omega (arith, ap (λ (z : ℕ). labelAt labels₂ z .next) e, ap (λ (b : Label). b .next) label-root)
-        next-in x l h (inr f) = omega (arith, ap (λ (b : Label). b .next) (took x l f (lt→ltb (labelAt labels₂ x .far) noCost h) .took))
+        next-in x l h (inr f) = omega (arith, ap (λ (b : Label). b .next) (took x l f (lt→ltb (labelAt labels₂ x .cost) noCost h) .took))
 
         first-is : (v : ℕ) (p : List ℕ) → v ≡ root → Chosen g path-key v root p → labelAt labels₂ v .first ≡ firstBack p
         first-is v p e P =

@@ -22,7 +22,7 @@ use Rattle.graph.specs.laws.LookupNotions.{Stays, Takes, Advances}
 use Rattle.graph.specs.laws.LookupLaws.{Settled, kept-settles, settled-nearer, kept-advances}
 use Rattle.ect.specs.Rows.{rowOf, Insertable}
 use Rattle.ect.specs.laws.RowLaws.{insertion-read-back, insertion-keeps, length-after}
-use Rattle.tree.specs.Labels.{noCost, Label, labelAt, labelRank, settledLabels, settledRows, stateOf}
+use Rattle.tree.specs.Labels.{noCost, Label, labelAt, labelRank, settledLabels, settledPathIds, stateOf}
 use Rattle.tree.specs.laws.LabelLaws.{length-settled, label-settled, label-unsettled, settling-keeps, settled-says, says-settled}
 use Rattle.tree.specs.Relaxing.{Relaxable, offerAt, Unchanged, Changed, Relaxed}
 use Rattle.tree.specs.Settling.{Settleable}
@@ -31,51 +31,51 @@ use Rattle.tree.specs.laws.TreeLaws.{neighbour-in, offered-cost, offered
 use Rattle.tree.specs.Tracked.{Tracked}
 
 -- An offer that is lower than a label costs no more.
-pub lower-far : (costs rows labels : List ℕ) (via i : ℕ) (b : Label) → Lower (offerAt costs rows labels via i) (labelRank rows b)
-    → labelAt labels via .far + getD costs i 0 ≤ b .far
-lower-far costs rows labels via i b (inl h) = omega arith
-lower-far costs rows labels via i b (inr h) = omega arith
+pub lower-cost : (costs path-ids labels : List ℕ) (via i : ℕ) (b : Label) → Lower (offerAt costs path-ids labels via i) (labelRank path-ids b)
+    → labelAt labels via .cost + getD costs i 0 ≤ b .cost
+lower-cost costs path-ids labels via i b (inl h) = omega arith
+lower-cost costs path-ids labels via i b (inr h) = omega arith
 
 -- A search under way, and a bridge that waits at the least cost.
-pub record Step (g : Graph) (key : ℕ → ℕ) (n root : ℕ) (starts neighbours costs keys labels rows : List ℕ) (u : ℕ) : Type 0 where
+pub record Step (g : Graph) (key : ℕ → ℕ) (n root : ℕ) (starts neighbours costs keys labels path-ids : List ℕ) (u : ℕ) : Type 0 where
   pub represents : Represents g n starts neighbours costs
   pub keyed : Keyed g key keys
-  pub tracked : Tracked g key n root labels rows
+  pub tracked : Tracked g key n root labels path-ids
   pub has-labels : 320 ≤ length labels
-  pub has-rows : 4096 ≤ length rows
+  pub has-path-ids : 4096 ≤ length path-ids
   pub u-in : u < n
   pub waits : labelAt labels u .waits < noCost
   pub near : (x : ℕ) → x < n → labelAt labels u .waits ≤ labelAt labels x .waits
 
-module _ {g : Graph} {key : ℕ → ℕ} {n root : ℕ} {starts neighbours costs keys labels rows : List ℕ} {u : ℕ}
-    (Z : Step g key n root starts neighbours costs keys labels rows u) where
+module _ {g : Graph} {key : ℕ → ℕ} {n root : ℕ} {starts neighbours costs keys labels path-ids : List ℕ} {u : ℕ}
+    (Z : Step g key n root starts neighbours costs keys labels path-ids u) where
   R : Represents g n starts neighbours costs
   R = Z .represents
 
   K : Keyed g key keys
   K = Z .keyed
 
-  M : Tracked g key n root labels rows
+  M : Tracked g key n root labels path-ids
   M = Z .tracked
 
   u-in : u < n
   u-in = Z .u-in
 
   abbrev st : State
-  st = stateOf n labels rows
+  st = stateOf n labels path-ids
 
   pub not-settled : T (st .settled u) → ⊥
-  not-settled h = omega (arith, settled-says n labels rows u h .2)
+  not-settled h = omega (arith, settled-says n labels path-ids u h .2)
 
-  waits-far : labelAt labels u .waits ≡ labelAt labels u .far
-  waits-far = go (M .waits-or-not u u-in)
+  waits-at-cost : labelAt labels u .waits ≡ labelAt labels u .cost
+  waits-at-cost = go (M .waits-or-not u u-in)
     where
-      go : (labelAt labels u .waits ≡ noCost) ⊎ (labelAt labels u .waits ≡ labelAt labels u .far) → labelAt labels u .waits ≡ labelAt labels u .far
+      go : (labelAt labels u .waits ≡ noCost) ⊎ (labelAt labels u .waits ≡ labelAt labels u .cost) → labelAt labels u .waits ≡ labelAt labels u .cost
       go (inl e) = absurd (omega arith)
       go (inr e) = e
 
   labelled-u : T (st .labelled u)
-  labelled-u = lt→ltb (labelAt labels u .far) noCost (omega (arith, waits-far))
+  labelled-u = lt→ltb (labelAt labels u .cost) noCost (omega (arith, waits-at-cost))
 
   inside : u < g .size
   inside = omega (arith, R .size-is)
@@ -83,9 +83,9 @@ module _ {g : Graph} {key : ℕ → ℕ} {n root : ℕ} {starts neighbours costs
   nearest : (x : ℕ) → x < g .size → (T (st .settled x) → ⊥) → T (st .labelled x) → st .far u ≤ st .far x
   nearest x i f k = go (M .waits-or-not x (omega (arith, R .size-is)))
     where
-      go : (labelAt labels x .waits ≡ noCost) ⊎ (labelAt labels x .waits ≡ labelAt labels x .far) → st .far u ≤ st .far x
-      go (inl e) = absurd (f (says-settled n labels rows x (omega (arith, R .size-is)) (ltb→lt (labelAt labels x .far) noCost k) (omega arith)))
-      go (inr e) = omega (arith, waits-far, Z .near x (omega (arith, R .size-is)))
+      go : (labelAt labels x .waits ≡ noCost) ⊎ (labelAt labels x .waits ≡ labelAt labels x .cost) → st .far u ≤ st .far x
+      go (inl e) = absurd (f (says-settled n labels path-ids x (omega (arith, R .size-is)) (ltb→lt (labelAt labels x .cost) noCost k) (omega arith)))
+      go (inr e) = omega (arith, waits-at-cost, Z .near x (omega (arith, R .size-is)))
 
   -- The label of `u` is that of its chosen path.
   settles : (q : List ℕ) × Settled g key root st (st .next u) q × Chosen g key u root (u ∷ q) × (st .far u ≡ cost g (u ∷ q)) × (st .steps u ≡ hops (u ∷ q))
@@ -102,19 +102,19 @@ module _ {g : Graph} {key : ℕ → ℕ} {n root : ℕ} {starts neighbours costs
   next-steps = M .kept .steps-through u inside not-settled labelled-u
 
   -- The row of the next hop.
-  next-row : rowOf rows (st .next u) (st .steps u) ≡ st .row (st .next u)
-  next-row = let e : st .steps u ≡ st .steps (st .next u) + 1 = omega (arith, next-steps) in ap (λ (k : ℕ). rowOf rows (st .next u) k) e
+  next-row : rowOf path-ids (st .next u) (st .steps u) ≡ st .row (st .next u)
+  next-row = let e : st .steps u ≡ st .steps (st .next u) + 1 = omega (arith, next-steps) in ap (λ (k : ℕ). rowOf path-ids (st .next u) k) e
 
   apart : st .next u ≡ u → ⊥
   apart e = not-settled (subst (λ (k : ℕ). T (st .settled k)) e (settles .1 .1))
 
-  row-upward : Upward (rowOf rows (st .next u) (st .steps u))
+  row-upward : Upward (rowOf path-ids (st .next u) (st .steps u))
   row-upward = go (M .kept .found (st .next u) (settles .1 .0) (settles .1 .1))
     where
-      go : ((p : List ℕ) × Chosen g key (st .next u) root p × Says g key st (st .next u) p) → Upward (rowOf rows (st .next u) (st .steps u))
+      go : ((p : List ℕ) × Chosen g key (st .next u) root p × Says g key st (st .next u) p) → Upward (rowOf path-ids (st .next u) (st .steps u))
       go (p, P, S) = subst Upward (sym (next-row ∙ S .row-is)) (sorted-upward (map key p))
 
-  insertable : Insertable rows (st .next u) u (st .steps u)
+  insertable : Insertable path-ids (st .next u) u (st .steps u)
   insertable = record {
     apart = apart;
     room = few-steps;
@@ -123,7 +123,7 @@ module _ {g : Graph} {key : ℕ → ℕ} {n root : ℕ} {starts neighbours costs
     upward = row-upward;
   }
 
-  pub step-settleable : Settleable labels rows keys u
+  pub step-settleable : Settleable labels path-ids keys u
   step-settleable = record {
     u-in = omega (arith, R .most);
     next-in = omega (arith, settles .1 .0, R .size-is, R .most);
@@ -132,27 +132,27 @@ module _ {g : Graph} {key : ℕ → ℕ} {n root : ℕ} {starts neighbours costs
     insertable = insertable;
   }
 
-  -- The labels and rows with `u` settled.
+  -- The labels and masked PATHIDs with `u` settled.
   abbrev labels₁ : List ℕ
   labels₁ = settledLabels labels root u
 
-  abbrev rows₁ : List ℕ
-  rows₁ = settledRows labels rows u (getD keys u 0)
+  abbrev path-ids₁ : List ℕ
+  path-ids₁ = settledPathIds labels path-ids u (getD keys u 0)
 
   u-low : u < 64
   u-low = omega (arith, R .most)
 
-  same-far : (x : ℕ) → x < 64 → labelAt labels₁ x .far ≡ labelAt labels x .far
-  same-far x l = ap (λ (b : Label). b .far) (settling-keeps labels root u x l u-low (Z .has-labels) .2)
+  same-cost : (x : ℕ) → x < 64 → labelAt labels₁ x .cost ≡ labelAt labels x .cost
+  same-cost x l = ap (λ (b : Label). b .cost) (settling-keeps labels root u x l u-low (Z .has-labels) .2)
 
-  same-steps : (x : ℕ) → x < 64 → labelAt labels₁ x .steps ≡ labelAt labels x .steps
-  same-steps x l = ap (λ (b : Label). b .steps) (settling-keeps labels root u x l u-low (Z .has-labels) .2)
+  same-hops : (x : ℕ) → x < 64 → labelAt labels₁ x .hops ≡ labelAt labels x .hops
+  same-hops x l = ap (λ (b : Label). b .hops) (settling-keeps labels root u x l u-low (Z .has-labels) .2)
 
   same-next : (x : ℕ) → x < 64 → labelAt labels₁ x .next ≡ labelAt labels x .next
   same-next x l = ap (λ (b : Label). b .next) (settling-keeps labels root u x l u-low (Z .has-labels) .2)
 
-  pub length-rows : length rows₁ ≡ length rows
-  length-rows = length-after rows (st .next u) u (st .steps u) (getD keys u 0) insertable
+  pub length-path-ids : length path-ids₁ ≡ length path-ids
+  length-path-ids = length-after path-ids (st .next u) u (st .steps u) (getD keys u 0) insertable
 
   -- The places of the neighbours of `u`.
   abbrev from : ℕ
@@ -161,30 +161,30 @@ module _ {g : Graph} {key : ℕ → ℕ} {n root : ℕ} {starts neighbours costs
   abbrev end : ℕ
   end = getD starts (u + 1) 0
 
-  way-bound : (i : ℕ) → from ≤ i → i < end → labelAt labels₁ u .far + getD costs i 0 < noCost
-  way-bound i h k = omega (arith, same-far u u-low, cost-bound, R .cost-is u i u-in h k, R .hop-most u (getD neighbours i 0))
+  way-bound : (i : ℕ) → from ≤ i → i < end → labelAt labels₁ u .cost + getD costs i 0 < noCost
+  way-bound i h k = omega (arith, same-cost u u-low, cost-bound, R .cost-is u i u-in h k, R .hop-most u (getD neighbours i 0))
 
-  pub step-relaxable : Relaxable starts neighbours costs rows₁ labels₁ u
+  pub step-relaxable : Relaxable starts neighbours costs path-ids₁ labels₁ u
   step-relaxable = record {
     via-in = u-low;
     has-labels = omega (arith, length-settled labels root u);
-    has-rows = omega (arith, length-rows);
+    has-path-ids = omega (arith, length-path-ids);
     has-starts = omega (arith, R .has-starts);
     has-neighbours = R .has-neighbours u u-in;
     has-costs = R .has-costs u u-in;
     in-order = R .in-order u u-in;
-    steps-in = omega (arith, same-steps u u-low, few-steps);
+    hops-in = omega (arith, same-hops u u-low, few-steps);
     neighbour-in = λ i h k. omega (arith, neighbour-in R u u-in i h k, R .most);
     cost-in = way-bound;
     one-cost = one-cost R u u-in;
     next-in = λ i h k f. next-in (getD neighbours i 0) (neighbour-in R u u-in i h k) f;
   }
     where
-      next-in : (x : ℕ) → x < n → labelAt labels₁ x .far < noCost → labelAt labels₁ x .next < 64
+      next-in : (x : ℕ) → x < n → labelAt labels₁ x .cost < noCost → labelAt labels₁ x .next < 64
       next-in x l f = omega (
         arith,
         same-next x (omega (arith, R .most)),
-        M .next-in x l (omega (arith, same-far x (omega (arith, R .most)))),
+        M .next-in x l (omega (arith, same-cost x (omega (arith, R .most)))),
         R .most,
       )
 
@@ -192,31 +192,31 @@ module _ {g : Graph} {key : ℕ → ℕ} {n root : ℕ} {starts neighbours costs
   low x l = omega (arith, R .most)
 
   -- After the neighbours were offered the way through `u`.
-  module _ (labels₂ : List ℕ) (X : Relaxed starts neighbours costs rows₁ u labels₁ labels₂) where
+  module _ (labels₂ : List ℕ) (X : Relaxed starts neighbours costs path-ids₁ u labels₁ labels₂) where
     abbrev st′ : State
-    st′ = stateOf n labels₂ rows₁
+    st′ = stateOf n labels₂ path-ids₁
 
     abbrev Same : ℕ → Type 0
-    Same x = Unchanged neighbours costs rows₁ u from end labels₁ labels₂ x
+    Same x = Unchanged neighbours costs path-ids₁ u from end labels₁ labels₂ x
 
     abbrev Took : ℕ → Type 0
-    Took x = Changed neighbours costs rows₁ u from end labels₁ labels₂ x
+    Took x = Changed neighbours costs path-ids₁ u from end labels₁ labels₂ x
 
     -- A settled bridge takes nothing: the way through `u` costs more.
     not-taken : (x : ℕ) → x < n → T (st .settled x) ⊎ (x ≡ u) → Took x → ⊥
     not-taken x l (inl k) C = omega (
       arith,
-      lower-far costs rows₁ labels₁ u (C .place) (labelAt labels₁ x) (C .lower-now),
-      same-far u u-low,
-      same-far x (low x l),
+      lower-cost costs path-ids₁ labels₁ u (C .place) (labelAt labels₁ x) (C .lower-now),
+      same-cost u u-low,
+      same-cost x (low x l),
       offered-cost R u u-in (C .place) x (C .after) (C .before) (C .offered),
       settled-nearer g (R .laws) key root st (M .kept) u x inside (omega (arith, R .size-is)) not-settled labelled-u k
           (offered-joined R u u-in (C .place) x (C .after) (C .before) (C .offered)),
     )
     not-taken x l (inr e) C = omega (
       arith,
-      lower-far costs rows₁ labels₁ u (C .place) (labelAt labels₁ x) (C .lower-now),
-      ap (λ (k : ℕ). labelAt labels₁ k .far) e,
+      lower-cost costs path-ids₁ labels₁ u (C .place) (labelAt labels₁ x) (C .lower-now),
+      ap (λ (k : ℕ). labelAt labels₁ k .cost) e,
       offered-cost R u u-in (C .place) x (C .after) (C .before) (C .offered),
       offered-joined R u u-in (C .place) x (C .after) (C .before) (C .offered),
     )
@@ -232,46 +232,46 @@ module _ {g : Graph} {key : ℕ → ℕ} {n root : ℕ} {starts neighbours costs
     taken-waits x C = omega (arith, ap (λ (b : Label). b .waits) (C .took), way-bound (C .place) (C .after) (C .before))
 
     only : (v : ℕ) → T (st′ .settled v) → T (st .settled v) ⊎ (v ≡ u)
-    only v k = go (settled-says n labels₂ rows₁ v k) (same-or-not v u)
+    only v k = go (settled-says n labels₂ path-ids₁ v k) (same-or-not v u)
       where
-        old : (v < n) × (labelAt labels₂ v .far < noCost) × (noCost ≤ labelAt labels₂ v .waits) → (v ≡ u → ⊥) → Same v ⊎ Took v → T (st .settled v)
+        old : (v < n) × (labelAt labels₂ v .cost < noCost) × (noCost ≤ labelAt labels₂ v .waits) → (v ≡ u → ⊥) → Same v ⊎ Took v → T (st .settled v)
         old (l, j, m) f (inl U) =
             let e : labelAt labels₂ v ≡ labelAt labels v = U .same ∙ label-unsettled labels root u v (low v l) u-low f in
-            says-settled n labels rows v l (omega (arith, ap (λ (b : Label). b .far) e)) (omega (arith, ap (λ (b : Label). b .waits) e))
+            says-settled n labels path-ids v l (omega (arith, ap (λ (b : Label). b .cost) e)) (omega (arith, ap (λ (b : Label). b .waits) e))
         old (l, j, m) f (inr C) = absurd (omega (arith, taken-waits v C))
 
-        go : (v < n) × (labelAt labels₂ v .far < noCost) × (noCost ≤ labelAt labels₂ v .waits) → (v ≡ u) ⊎ (v ≡ u → ⊥) → T (st .settled v) ⊎ (v ≡ u)
+        go : (v < n) × (labelAt labels₂ v .cost < noCost) × (noCost ≤ labelAt labels₂ v .waits) → (v ≡ u) ⊎ (v ≡ u → ⊥) → T (st .settled v) ⊎ (v ≡ u)
         go s (inl e) = inr e
         go s (inr f) = inl (old s f (X .each v (low v (s .0))))
 
     pub still : (v : ℕ) → T (st .settled v) → T (st′ .settled v)
-    still v k = go (settled-says n labels rows v k)
+    still v k = go (settled-says n labels path-ids v k)
       where
-        go : (v < n) × (labelAt labels v .far < noCost) × (noCost ≤ labelAt labels v .waits) → T (st′ .settled v)
+        go : (v < n) × (labelAt labels v .cost < noCost) × (noCost ≤ labelAt labels v .waits) → T (st′ .settled v)
         go (l, j, m) =
             let f : v ≡ u → ⊥ = λ e. not-settled (subst (λ (z : ℕ). T (st .settled z)) e k) in
             let e : labelAt labels₂ v ≡ labelAt labels v = settled-same v l (inl k) ∙ label-unsettled labels root u v (low v l) u-low f in
-            says-settled n labels₂ rows₁ v l (omega (arith, ap (λ (b : Label). b .far) e)) (omega (arith, ap (λ (b : Label). b .waits) e))
+            says-settled n labels₂ path-ids₁ v l (omega (arith, ap (λ (b : Label). b .cost) e)) (omega (arith, ap (λ (b : Label). b .waits) e))
 
     label-u : labelAt labels₂ u ≡ labelAt labels₁ u
     label-u = settled-same u u-in (inr refl)
 
     pub done : T (st′ .settled u)
-    done = says-settled n labels₂ rows₁ u u-in
-        (omega (arith, ap (λ (b : Label). b .far) label-u, same-far u u-low, waits-far))
+    done = says-settled n labels₂ path-ids₁ u u-in
+        (omega (arith, ap (λ (b : Label). b .cost) label-u, same-cost u u-low, waits-at-cost))
         (omega (arith, ap (λ (b : Label). b .waits) label-u, ap (λ (b : Label). b .waits) (label-settled labels root u u-low (Z .has-labels))))
 
     settled-in : (v : ℕ) → T (st′ .settled v) → v < n
-    settled-in v k = settled-says n labels₂ rows₁ v k .0
+    settled-in v k = settled-says n labels₂ path-ids₁ v k .0
 
     kept-label : (v : ℕ) → T (st′ .settled v) → labelAt labels₂ v ≡ labelAt labels₁ v
     kept-label v k = settled-same v (settled-in v k) (only v k)
 
     far-kept : (v : ℕ) → T (st′ .settled v) → st′ .far v ≡ st .far v
-    far-kept v k = ap (λ (b : Label). b .far) (kept-label v k) ∙ same-far v (low v (settled-in v k))
+    far-kept v k = ap (λ (b : Label). b .cost) (kept-label v k) ∙ same-cost v (low v (settled-in v k))
 
     steps-kept : (v : ℕ) → T (st′ .settled v) → st′ .steps v ≡ st .steps v
-    steps-kept v k = ap (λ (b : Label). b .steps) (kept-label v k) ∙ same-steps v (low v (settled-in v k))
+    steps-kept v k = ap (λ (b : Label). b .hops) (kept-label v k) ∙ same-hops v (low v (settled-in v k))
 
     next-kept : (v : ℕ) → T (st′ .settled v) → st′ .next v ≡ st .next v
     next-kept v k = ap (λ (b : Label). b .next) (kept-label v k) ∙ same-next v (low v (settled-in v k))
@@ -283,41 +283,41 @@ module _ {g : Graph} {key : ℕ → ℕ} {n root : ℕ} {starts neighbours costs
         go (p, P, S) = omega (arith, S .steps-is, chosen-bounded g (R .laws) key v root p P, R .size-is, R .most)
 
     -- Rows of bridges settled before are as they were.
-    old-row : (v m : ℕ) → v < n → T (st .settled v) → m ≤ 64 → rowOf rows₁ v m ≡ rowOf rows v m
-    old-row v m l k h = insertion-keeps rows (st .next u) u (st .steps u) (getD keys u 0) insertable v m
+    old-row : (v m : ℕ) → v < n → T (st .settled v) → m ≤ 64 → rowOf path-ids₁ v m ≡ rowOf path-ids v m
+    old-row v m l k h = insertion-keeps path-ids (st .next u) u (st .steps u) (getD keys u 0) insertable v m
         (λ e. not-settled (subst (λ (z : ℕ). T (st .settled z)) e k)) h
 
     row-kept : (v : ℕ) → T (st .settled v) → st′ .row v ≡ st .row v
     row-kept v k =
-        let l : v < n = settled-says n labels rows v k .0 in
-        ap (λ (m : ℕ). rowOf rows₁ v (m + 1)) (steps-kept v (still v k)) ∙ old-row v (st .steps v + 1) l k (omega (arith, settled-steps v l k))
+        let l : v < n = settled-says n labels path-ids v k .0 in
+        ap (λ (m : ℕ). rowOf path-ids₁ v (m + 1)) (steps-kept v (still v k)) ∙ old-row v (st .steps v + 1) l k (omega (arith, settled-steps v l k))
 
     row-new : st′ .row u ≡ insertUpward (key u) (st .row (st .next u))
     row-new =
-        ap (λ (m : ℕ). rowOf rows₁ u (m + 1)) (steps-kept u done)
-        ∙ insertion-read-back rows (st .next u) u (st .steps u) (getD keys u 0) insertable
-        ∙ ap (λ (k : ℕ). insertUpward k (rowOf rows (st .next u) (st .steps u))) (K .key-is u inside)
+        ap (λ (m : ℕ). rowOf path-ids₁ u (m + 1)) (steps-kept u done)
+        ∙ insertion-read-back path-ids (st .next u) u (st .steps u) (getD keys u 0) insertable
+        ∙ ap (λ (k : ℕ). insertUpward k (rowOf path-ids (st .next u) (st .steps u))) (K .key-is u inside)
         ∙ ap (insertUpward (key u)) next-row
 
     not-u : (x : ℕ) → (T (st′ .settled x) → ⊥) → x ≡ u → ⊥
     not-u x f e = f (subst (λ (z : ℕ). T (st′ .settled z)) (sym e) done)
 
     -- The offer and the label as the code compares them.
-    offer-is : (i x : ℕ) → from ≤ i → i < end → getD neighbours i 0 ≡ x → offer g st′ x u ≡ offerAt costs rows₁ labels₁ u i
-    offer-is i x h k e = cc (costs-are, count, ap (λ (b : Label). rowOf rows₁ u (b .steps + 1)) label-u)
+    offer-is : (i x : ℕ) → from ≤ i → i < end → getD neighbours i 0 ≡ x → offer g st′ x u ≡ offerAt costs path-ids₁ labels₁ u i
+    offer-is i x h k e = cc (costs-are, count, ap (λ (b : Label). rowOf path-ids₁ u (b .hops + 1)) label-u)
       where
-        costs-are : g .hop x u + st′ .far u ≡ labelAt labels₁ u .far + getD costs i 0
-        costs-are = omega (arith, ap (λ (b : Label). b .far) label-u, offered-cost R u u-in i x h k e)
+        costs-are : g .hop x u + st′ .far u ≡ labelAt labels₁ u .cost + getD costs i 0
+        costs-are = omega (arith, ap (λ (b : Label). b .cost) label-u, offered-cost R u u-in i x h k e)
 
-        count : suc (st′ .steps u) ≡ labelAt labels₁ u .steps + 1
-        count = omega (arith, ap (λ (b : Label). b .steps) label-u)
+        count : suc (st′ .steps u) ≡ labelAt labels₁ u .hops + 1
+        count = omega (arith, ap (λ (b : Label). b .hops) label-u)
 
-    label-is : (x : ℕ) → x < n → (x ≡ u → ⊥) → (T (st .settled x) → ⊥) → T (st .labelled x) → labelRank rows₁ (labelAt labels₁ x) ≡ label st x
+    label-is : (x : ℕ) → x < n → (x ≡ u → ⊥) → (T (st .settled x) → ⊥) → T (st .labelled x) → labelRank path-ids₁ (labelAt labels₁ x) ≡ label st x
     label-is x l f o k =
-        ap (labelRank rows₁) (label-unsettled labels root u x (low x l) u-low f)
+        ap (labelRank path-ids₁) (label-unsettled labels root u x (low x l) u-low f)
         ∙ ap (λ (t : List ℕ). st .far x ∷ st .steps x ∷ t)
         (old-row (st .next x) (st .steps x) next-in (O .done) (omega (arith, steps-next, settled-steps (st .next x) next-in (O .done)))
-        ∙ ap (λ (m : ℕ). rowOf rows (st .next x) m) one-more)
+        ∙ ap (λ (m : ℕ). rowOf path-ids (st .next x) m) one-more)
       where
         inside-x : x < g .size
         inside-x = omega (arith, R .size-is)
@@ -326,7 +326,7 @@ module _ {g : Graph} {key : ℕ → ℕ} {n root : ℕ} {starts neighbours costs
         O = M .kept .offered x inside-x o k
 
         next-in : st .next x < n
-        next-in = settled-says n labels rows (st .next x) (O .done) .0
+        next-in = settled-says n labels path-ids (st .next x) (O .done) .0
 
         steps-next : st .steps x ≡ suc (st .steps (st .next x))
         steps-next = M .kept .steps-through x inside-x o k
@@ -335,23 +335,23 @@ module _ {g : Graph} {key : ℕ → ℕ} {n root : ℕ} {starts neighbours costs
         one-more = omega (arith, steps-next)
 
     lower-is : (i x : ℕ) → from ≤ i → i < end → getD neighbours i 0 ≡ x → x < n → (T (st′ .settled x) → ⊥) → T (st .labelled x)
-        → (Lower (offerAt costs rows₁ labels₁ u i) (labelRank rows₁ (labelAt labels₁ x)) → Lower (offer g st′ x u) (label st x))
-        × (Lower (offer g st′ x u) (label st x) → Lower (offerAt costs rows₁ labels₁ u i) (labelRank rows₁ (labelAt labels₁ x)))
+        → (Lower (offerAt costs path-ids₁ labels₁ u i) (labelRank path-ids₁ (labelAt labels₁ x)) → Lower (offer g st′ x u) (label st x))
+        × (Lower (offer g st′ x u) (label st x) → Lower (offerAt costs path-ids₁ labels₁ u i) (labelRank path-ids₁ (labelAt labels₁ x)))
     lower-is i x h k e l f m = go (offer g st′ x u) (label st x) (offer-is i x h k e) (label-is x l (not-u x f) (λ s. f (still x s)) m)
       where
-        go : (a b : List ℕ) → a ≡ offerAt costs rows₁ labels₁ u i → labelRank rows₁ (labelAt labels₁ x) ≡ b
-            → (Lower (offerAt costs rows₁ labels₁ u i) (labelRank rows₁ (labelAt labels₁ x)) → Lower a b)
-            × (Lower a b → Lower (offerAt costs rows₁ labels₁ u i) (labelRank rows₁ (labelAt labels₁ x)))
+        go : (a b : List ℕ) → a ≡ offerAt costs path-ids₁ labels₁ u i → labelRank path-ids₁ (labelAt labels₁ x) ≡ b
+            → (Lower (offerAt costs path-ids₁ labels₁ u i) (labelRank path-ids₁ (labelAt labels₁ x)) → Lower a b)
+            × (Lower a b → Lower (offerAt costs path-ids₁ labels₁ u i) (labelRank path-ids₁ (labelAt labels₁ x)))
         go a b p q = (
-          λ h. subst (λ (z : List ℕ). Lower z b) (sym p) (subst (λ (z : List ℕ). Lower (offerAt costs rows₁ labels₁ u i) z) q h),
-          λ h. subst (λ (z : List ℕ). Lower (offerAt costs rows₁ labels₁ u i) z) (sym q) (subst (λ (z : List ℕ). Lower z b) p h),
+          λ h. subst (λ (z : List ℕ). Lower z b) (sym p) (subst (λ (z : List ℕ). Lower (offerAt costs path-ids₁ labels₁ u i) z) q h),
+          λ h. subst (λ (z : List ℕ). Lower (offerAt costs path-ids₁ labels₁ u i) z) (sym q) (subst (λ (z : List ℕ). Lower z b) p h),
         )
 
     stays : (x : ℕ) → x < n → (T (st′ .settled x) → ⊥) → Same x → Stays g root u st st′ x
     stays x l f U = record {
-      same-labelled = ap (λ (b : Label). ltb (b .far) noCost) same;
-      same-far = ap (λ (b : Label). b .far) same;
-      same-steps = ap (λ (b : Label). b .steps) same;
+      same-labelled = ap (λ (b : Label). ltb (b .cost) noCost) same;
+      same-far = ap (λ (b : Label). b .cost) same;
+      same-steps = ap (λ (b : Label). b .hops) same;
       same-next = ap (λ (b : Label). b .next) same;
       enough = λ O. enough (joined-listed R u u-in x (O .joined));
     }
@@ -364,21 +364,21 @@ module _ {g : Graph} {key : ℕ → ℕ} {n root : ℕ} {starts neighbours costs
             (t, λ q. U .not-lower i h k e (lower-is i x h k e l f t .1 q))
           where
             labelled-x : (noCost ≤ st .far x) ⊎ (st .far x < noCost) → T (st .labelled x)
-            labelled-x (inl m) = absurd (U .not-lower i h k e (inl (omega (arith, way-bound i h k, same-far x (low x l)))))
+            labelled-x (inl m) = absurd (U .not-lower i h k e (inl (omega (arith, way-bound i h k, same-cost x (low x l)))))
             labelled-x (inr m) = lt→ltb (st .far x) noCost m
 
     takes : (x : ℕ) → x < n → (T (st′ .settled x) → ⊥) → Took x → Takes g root u st st′ x
     takes x l f C = record {
       offers = record { done = done; joined = offered-joined R u u-in (C .place) x (C .after) (C .before) (C .offered); passes = inr (R .all-between u) };
       now-labelled = lt→ltb (st′ .far x) noCost (omega (arith, far-x, way-bound (C .place) (C .after) (C .before)));
-      new-far = omega (arith, far-x, same-far u u-low, offered-cost R u u-in (C .place) x (C .after) (C .before) (C .offered));
-      new-steps = omega (arith, ap (λ (b : Label). b .steps) (C .took), same-steps u u-low);
+      new-far = omega (arith, far-x, same-cost u u-low, offered-cost R u u-in (C .place) x (C .after) (C .before) (C .offered));
+      new-steps = omega (arith, ap (λ (b : Label). b .hops) (C .took), same-hops u u-low);
       new-next = ap (λ (b : Label). b .next) (C .took);
       lower-now = λ t. lower-is (C .place) x (C .after) (C .before) (C .offered) l f t .0 (C .lower-now);
     }
       where
-        far-x : st′ .far x ≡ labelAt labels₁ u .far + getD costs (C .place) 0
-        far-x = ap (λ (b : Label). b .far) (C .took)
+        far-x : st′ .far x ≡ labelAt labels₁ u .cost + getD costs (C .place) 0
+        far-x = ap (λ (b : Label). b .cost) (C .took)
 
     advances : Advances g key root u st st′
     advances = record {
@@ -429,32 +429,32 @@ module _ {g : Graph} {key : ℕ → ℕ} {n root : ℕ} {starts neighbours costs
             ap (λ (b : Label). b .first) (kept-label v k ∙ label-unsettled labels root u v (low v l) u-low f) ∙ M .first-is v l s p P
 
     -- What is kept stays true.
-    pub step-tracked : Tracked g key n root labels₂ rows₁
+    pub step-tracked : Tracked g key n root labels₂ path-ids₁
     step-tracked = record {
       kept = kept-now;
       waits-or-not = λ x l. waits-or-not x l (X .each x (low x l)) (same-or-not x u);
-      far-most = λ x l. far-most x l (X .each x (low x l));
+      cost-at-most = λ x l. cost-at-most x l (X .each x (low x l));
       next-in = λ x l h. next-in x l h (X .each x (low x l));
       root-next = next-kept root (still root (M .kept .root)) ∙ M .root-next;
       first-is = first-now;
     }
       where
         waits-or-not : (x : ℕ) → x < n → Same x ⊎ Took x → (x ≡ u) ⊎ (x ≡ u → ⊥)
-            → (labelAt labels₂ x .waits ≡ noCost) ⊎ (labelAt labels₂ x .waits ≡ labelAt labels₂ x .far)
+            → (labelAt labels₂ x .waits ≡ noCost) ⊎ (labelAt labels₂ x .waits ≡ labelAt labels₂ x .cost)
         waits-or-not x l s (inl e) = inl (ap (λ (z : ℕ). labelAt labels₂ z .waits) e ∙ ap (λ (b : Label). b .waits) (label-u ∙ label-settled labels root u u-low (Z .has-labels)))
-        waits-or-not x l (inr C) (inr f) = inr (ap (λ (b : Label). b .waits) (C .took) ∙ sym (ap (λ (b : Label). b .far) (C .took)))
+        waits-or-not x l (inr C) (inr f) = inr (ap (λ (b : Label). b .waits) (C .took) ∙ sym (ap (λ (b : Label). b .cost) (C .took)))
         waits-or-not x l (inl U) (inr f) =
-            subst (λ (b : Label). (b .waits ≡ noCost) ⊎ (b .waits ≡ b .far)) (sym (U .same ∙ label-unsettled labels root u x (low x l) u-low f)) (M .waits-or-not x l)
+            subst (λ (b : Label). (b .waits ≡ noCost) ⊎ (b .waits ≡ b .cost)) (sym (U .same ∙ label-unsettled labels root u x (low x l) u-low f)) (M .waits-or-not x l)
 
-        far-most : (x : ℕ) → x < n → Same x ⊎ Took x → labelAt labels₂ x .far ≤ noCost
-        far-most x l (inl U) = omega (arith, ap (λ (b : Label). b .far) (U .same), same-far x (low x l), M .far-most x l)
-        far-most x l (inr C) = omega (arith, ap (λ (b : Label). b .far) (C .took), way-bound (C .place) (C .after) (C .before))
+        cost-at-most : (x : ℕ) → x < n → Same x ⊎ Took x → labelAt labels₂ x .cost ≤ noCost
+        cost-at-most x l (inl U) = omega (arith, ap (λ (b : Label). b .cost) (U .same), same-cost x (low x l), M .cost-at-most x l)
+        cost-at-most x l (inr C) = omega (arith, ap (λ (b : Label). b .cost) (C .took), way-bound (C .place) (C .after) (C .before))
 
-        next-in : (x : ℕ) → x < n → labelAt labels₂ x .far < noCost → Same x ⊎ Took x → labelAt labels₂ x .next < n
+        next-in : (x : ℕ) → x < n → labelAt labels₂ x .cost < noCost → Same x ⊎ Took x → labelAt labels₂ x .next < n
         next-in x l h (inl U) = omega (
           arith,
           ap (λ (b : Label). b .next) (U .same),
           same-next x (low x l),
-          M .next-in x l (omega (arith, ap (λ (b : Label). b .far) (U .same), same-far x (low x l))),
+          M .next-in x l (omega (arith, ap (λ (b : Label). b .cost) (U .same), same-cost x (low x l))),
         )
         next-in x l h (inr C) = omega (arith, ap (λ (b : Label). b .next) (C .took))

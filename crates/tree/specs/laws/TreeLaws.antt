@@ -42,12 +42,12 @@ module _ {g : Graph} {n : ℕ} {starts neighbours costs : List ℕ} (R : Represe
 
 -- With no bridge waiting the labels are the tree.
 module _ (g : Graph) (key : ℕ → ℕ) (n root : ℕ) (starts neighbours costs keys : List ℕ) (R : Represents g n starts neighbours costs) (K : Keyed g key keys)
-    (labels rows : List ℕ) (M : Tracked g key n root labels rows) (least : ℕ) (L : LeastOf labels n least) (h : noCost ≤ least) where
-  none-left : (x : ℕ) → x < g .size → (T (stateOf n labels rows .settled x) → ⊥) → T (stateOf n labels rows .labelled x) → ⊥
-  none-left x i f k = f (says-settled n labels rows x (omega (arith, R .size-is)) (ltb→lt (labelAt labels x .far) noCost k)
+    (labels path-ids : List ℕ) (M : Tracked g key n root labels path-ids) (least : ℕ) (L : LeastOf labels n least) (h : noCost ≤ least) where
+  none-left : (x : ℕ) → x < g .size → (T (stateOf n labels path-ids .settled x) → ⊥) → T (stateOf n labels path-ids .labelled x) → ⊥
+  none-left x i f k = f (says-settled n labels path-ids x (omega (arith, R .size-is)) (ltb→lt (labelAt labels x .cost) noCost k)
       (omega (arith, L .none-less x (omega (arith, R .size-is)))))
 
-  next-is : (u : ℕ) (p : List ℕ) → Chosen g key u root p → Says g key (stateOf n labels rows) u p → labelAt labels u .next ≡ nextOf p
+  next-is : (u : ℕ) (p : List ℕ) → Chosen g key u root p → Says g key (stateOf n labels path-ids) u p → labelAt labels u .next ≡ nextOf p
   next-is u p P S = go (chosen-first g key u root p P)
     where
       go : ((t : List ℕ) × (p ≡ u ∷ t) × Least g u t root) → labelAt labels u .next ≡ nextOf p
@@ -55,16 +55,16 @@ module _ (g : Graph) (key : ℕ → ℕ) (n root : ℕ) (starts neighbours costs
       go (v ∷ t, e, W) = S .next-is v t e ∙ ap nextOf (sym e)
 
   pub search-tree : TreeOf g key root labels
-  search-tree = record { each = λ u i. go u i (kept-ends g (R .laws) key root (stateOf n labels rows) (M .kept) (K .laws) none-left u i) }
+  search-tree = record { each = λ u i. go u i (kept-ends g (R .laws) key root (stateOf n labels path-ids) (M .kept) (K .laws) none-left u i) }
     where
       go : (u : ℕ) → u < g .size
-          → ((p : List ℕ) × T (stateOf n labels rows .settled u) × (chosen g key u root ≡ some p) × Says g key (stateOf n labels rows) u p)
-          ⊎ ((T (stateOf n labels rows .settled u) → ⊥) × (chosen g key u root ≡ none))
+          → ((p : List ℕ) × T (stateOf n labels path-ids .settled u) × (chosen g key u root ≡ some p) × Says g key (stateOf n labels path-ids) u p)
+          ⊎ ((T (stateOf n labels path-ids .settled u) → ⊥) × (chosen g key u root ≡ none))
           → SaysPath g (chosen g key u root) (labelAt labels u)
       go u i (inl (p, k, e, S)) = let P = chosen-is g (R .laws) key (K .laws) u root p e in
           rw e (S .far-is, S .steps-is, next-is u p P S, M .first-is u (omega (arith, R .size-is)) k p P)
-      go u i (inr (f, e)) = rw e (far (le-or-gt noCost (labelAt labels u .far)))
+      go u i (inr (f, e)) = rw e (no-cost (le-or-gt noCost (labelAt labels u .cost)))
         where
-          far : (noCost ≤ labelAt labels u .far) ⊎ (labelAt labels u .far < noCost) → labelAt labels u .far ≡ noCost
-          far (inl l) = omega (arith, M .far-most u (omega (arith, R .size-is)))
-          far (inr l) = absurd (none-left u i f (lt→ltb (labelAt labels u .far) noCost l))
+          no-cost : (noCost ≤ labelAt labels u .cost) ⊎ (labelAt labels u .cost < noCost) → labelAt labels u .cost ≡ noCost
+          no-cost (inl l) = omega (arith, M .cost-at-most u (omega (arith, R .size-is)))
+          no-cost (inr l) = absurd (none-left u i f (lt→ltb (labelAt labels u .cost) noCost l))

@@ -14,20 +14,22 @@ use Rattle.rule.specs.Words.{wordsOf}
 use Rattle.rule.specs.Outcome.{Outcome, answered, refused, refusedIf}
 use Rattle.rule.specs.Answers.{kindNumber}
 use Rattle.rule.specs.Plan.{Plan}
-use Rattle.rule.specs.Check.{badLength, Reading, start, stepOf, after, readOn, verdict}
+use Rattle.rule.specs.Check.{longestTable, badLength, Reading, start, stepOf, after, readOn, verdict}
+use Rattle.rule.specs.laws.Accepted.{accepted-laws}
 use Rattle.key_index.specs.Index.{Indexed}
 use Rattle.table.specs.declared.shape.Shape.{Shape}
 use Rattle.table.specs.Positions.{halfLinksFrom, vidsFrom, membersFrom, wordsRead, planAt, readingAt}
 use Rattle.table.specs.laws.PositionLaws.{no-records}
+use Rattle.table.specs.laws.WordLaws.{count-of-words}
 use Rattle.faults.specs.HalfLinks.{portKey, numberKey}
 use Rattle.faults.specs.laws.HalfLinkLaws.{keyed-none}
 use Rattle.verdict.specs.Steps.{stepValues, Indexes, Stepped, Kept}
 use Rattle.verdict.specs.declared.step.Step.{Step}
 use Rattle.verdict.specs.declared.examine.Examined.{Examined}
-use Rattle.verdict.specs.Examination.{Shaped, Known}
+use Rattle.verdict.specs.Examination.{Checked, LinkIndex, Passed}
 
-pub refused-knows : {ws links : List ℕ} {number at : ℕ} {kind : RecordKind} → Known ws links (Examined.Refused number kind at)
-refused-knows t n = let z : _≡_ {A = ℕ} 0 1 = cc in absurd (omega arith)
+pub refused-passes : {t index : List ℕ} {number at : ℕ} {kind : RecordKind} → Passed t index (Examined.Refused number kind at)
+refused-passes s n = let z : _≡_ {A = ℕ} 0 1 = cc in absurd (omega arith)
 
 -- The examination after the records of `s`, with `left` records more to read at most.
 pub record Examining (ws ports links : List ℕ) (s : Shape) (left : ℕ) : Type 0 where
@@ -90,11 +92,6 @@ module _ {ws ports links : List ℕ} {s : Shape} {left : ℕ} (x : Examining ws 
     pub examining-accepts : r ≡ Step.End → answered (planAt ws s) ≡ readOn (length ws) ws start
     examining-accepts e = sym (ap (λ (y : Step). after (readOn (left - 1) ws) (stepValues ws s y)) e) ∙ stepped
 
-    pub examining-knows : (ports′ links′ : List ℕ) → r ≡ Step.End → Kept ws ports′ links′ s r → Known ws links′ (Examined.Accepted s)
-    examining-knows ports′ links′ e k t n =
-        let z : s ≡ t = cc
-        in subst (λ (y : Shape). Shaped ws links′ y) z (record { within = x .within; by-number = k .at-end e .by-number })
-
     pub examining-refuses :
         (number at : ℕ) (kind : RecordKind) →
         r ≡ Step.Refused number kind at →
@@ -120,10 +117,28 @@ pub good-length :
 unfolding verdict
 good-length t b o e f g = g ∙ ap (λ (y : Bool). refusedIf y 1 (readOn (length (wordsOf t)) (wordsOf t) start)) (sym f ∙ e)
 
-pub length-fits : (n : ℕ) (b : Bool) → b ≡ badLength n → b ≡ false → n ≤ 7492
-length-fits n b e f = go (eqb n 0) (ltb 7492 n) (not (eqb (n % 4) 0)) (ltb-false 7492 n) (sym e ∙ f)
+pub length-fits : (n : ℕ) (b : Bool) → b ≡ badLength n → b ≡ false → n ≤ longestTable
+length-fits n b e f = go (eqb n 0) (ltb longestTable n) (not (eqb (n % 4) 0)) (ltb-false longestTable n) (sym e ∙ f)
   where
-    go : (x y z : Bool) → (y ≡ false → n ≤ 7492) → (x || y || z) ≡ false → n ≤ 7492
+    go : (x y z : Bool) → (y ≡ false → n ≤ longestTable) → (x || y || z) ≡ false → n ≤ longestTable
     go true y z h e = let k : _≡_ {A = ℕ} 0 1 = cc in absurd (omega arith)
     go false true z h e = let k : _≡_ {A = ℕ} 0 1 = cc in absurd (omega arith)
     go false false z h e = h refl
+
+-- A table that the verdict accepts is a checked one.
+pub accepted-passes :
+    {t index : List ℕ} {s : Shape} →
+    answered (planAt (wordsOf t) s) ≡ verdict t →
+    wordsRead s ≤ length (wordsOf t) →
+    length t ≤ longestTable →
+    LinkIndex index t s →
+    Passed t index (Examined.Accepted s)
+accepted-passes {t} {index} {s} v w b k u n =
+    let z : s ≡ u = cc
+    in subst (λ (y : Shape). Checked t y × LinkIndex index t y) z (
+      record {
+        whole = record { within = omega (arith, count-of-words t); bounded = b };
+        laws = accepted-laws t (planAt (wordsOf t) s) (sym v);
+      },
+      k,
+    )

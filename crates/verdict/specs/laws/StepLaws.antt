@@ -12,7 +12,7 @@ use lib.ListN.{length, drop, length-drop}
 use borrow.Author.Tests.{lt-ltb, le-ltb, ltb-false, leb-false}
 use Rattle.lists.specs.laws.NumberLaws.{is-false}
 use Rattle.rule.specs.declared.answer.RecordKind.{RecordKind}
-use Rattle.rule.specs.Records.{Bridge, HalfLink, Vid, Member, end, bridgeOf, halfLinkOf, vidOf, memberOf, Layout, bridgeLayout, halfLinkLayout, vidLayout, memberLayout, endLayout}
+use Rattle.rule.specs.Records.{Bridge, HalfLink, Vid, Member, bridgeOf, halfLinkOf, vidOf, memberOf, Layout, bridgeLayout, halfLinkLayout, vidLayout, memberLayout, endLayout}
 use Rattle.rule.specs.Words.{wordsOf}
 use Rattle.rule.specs.Outcome.{refused}
 use Rattle.rule.specs.Answers.{kindNumber}

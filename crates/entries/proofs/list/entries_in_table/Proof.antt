@@ -1,7 +1,6 @@
 -- `entries::list::entries_in_table` makes the list of a bridge that the table has, and copies it where it fits. Assumes nothing.
 use native.Mathlib.Omega.{arith}
 use mathlib.Core.Path.{ap, _∙_}
-use mathlib.Core.List.{List}
 use Prim.Native.Nat.{ℕ}
 use lib.ListN.{length-take}
 use Rattle.rule.specs.Outcome.{Outcome, Written, lentTo}
@@ -9,11 +8,9 @@ use Rattle.entries.specs.laws.WholeLaws.{lacks-bridge, few-made, answer-
 use borrow.Author.Needs.{needs}
 use Rattle.entries.proofs.list.entries_in_table.Statement.{statement}
 use Rattle.entries.proofs.list.entries_in_table.Tie as tie
-use Rattle.entries.proofs.list.fitted.Reads as fitted-reads
-use Rattle.entries.proofs.list.list_of_table.Reads as list-of-table-reads
 
 returns : tie.Need-returns
-returns c = lacks-bridge ((c .before .before .before .before .before .pre)) ((c .before .before .before .before .before .args .bridge)) ((c .if1 .taken)) ((c .before .before .before .before .before .args .list .now))
+returns c = lacks-bridge (c .before .before .before .before .before .pre .0) ((c .before .before .before .before .before .args .bridge)) ((c .if1 .taken)) ((c .before .before .before .before .before .args .list .now))
 
 slice-aggregate-list-of-table : tie.Need-slice-aggregate-list-of-table
 slice-aggregate-list-of-table c = search needs
@@ -22,19 +19,19 @@ list-of-table-requires : tie.Need-list-of-table-requires
 list-of-table-requires c κs = search needs
 
 array-share-prefix-words : tie.Need-array-share-prefix-words
-array-share-prefix-words c = omega (arith, few-made ((c .before .before .before .before .before .before .before .before .pre)) ((c .before .before .before .before .before .before .before .before .args .bridge)) ((c .before .before .before .if1 .left)) ((c .before .list-of-table .ensures)))
+array-share-prefix-words c = omega (arith, few-made (c .before .before .before .before .before .before .before .before .pre .0) ((c .before .before .before .before .before .before .before .before .args .bridge)) ((c .before .before .before .if1 .left)) ((c .before .list-of-table .ensures)))
 
 slice-aggregate-fitted : tie.Need-slice-aggregate-fitted
-slice-aggregate-fitted c = simp length-take (omega (arith, few-made ((c .before .before .before .before .before .before .before .before .before .pre)) ((c .before .before .before .before .before .before .before .before .before .args .bridge)) ((c .before .before .before .before .if1 .left)) ((c .before .before .list-of-table .ensures))))
+slice-aggregate-fitted c = simp length-take (omega (arith, few-made (c .before .before .before .before .before .before .before .before .before .pre .0) ((c .before .before .before .before .before .before .before .before .before .args .bridge)) ((c .before .before .before .before .if1 .left)) ((c .before .before .list-of-table .ensures))))
 
 fitted-requires : tie.Need-fitted-requires
-fitted-requires c κs = simp length-take (omega (arith, few-made ((c .before .before .before .before .before .before .before .before .before .before .pre)) ((c .before .before .before .before .before .before .before .before .before .before .args .bridge)) ((c .before .before .before .before .before .if1 .left)) ((c .before .before .before .list-of-table .ensures))))
+fitted-requires c κs = simp length-take (omega (arith, few-made (c .before .before .before .before .before .before .before .before .before .before .pre .0) ((c .before .before .before .before .before .before .before .before .before .before .args .bridge)) ((c .before .before .before .before .before .if1 .left)) ((c .before .before .before .list-of-table .ensures))))
 
 same-length : tie.Need-same-length
 same-length c = search needs
 
 returns-2 : tie.Need-returns-2
-returns-2 c = (c .before .before .fitted .ensures) ∙ ap (λ (o : Outcome (Written ℕ)). lentTo ((c .before .before .before .before .before .before .before .before .before .before .before .before .before .args .list .now)) o) (answer-made ((c .before .before .before .before .before .before .before .before .before .before .before .before .before .pre)) ((c .before .before .before .before .before .before .before .before .before .before .before .before .before .args .bridge)) ((c .before .before .before .before .before .before .before .before .if1 .left)) ((c .before .before .before .before .before .before .list-of-table .ensures)))
+returns-2 c = (c .before .before .fitted .ensures) ∙ ap (λ (o : Outcome (Written ℕ)). lentTo ((c .before .before .before .before .before .before .before .before .before .before .before .before .before .args .list .now)) o) (answer-made (c .before .before .before .before .before .before .before .before .before .before .before .before .before .pre .0) ((c .before .before .before .before .before .before .before .before .before .before .before .before .before .args .bridge)) ((c .before .before .before .before .before .before .before .before .if1 .left)) ((c .before .before .before .before .before .before .list-of-table .ensures)))
 
 pub entries-in-table-spec : {M : Type 1} → statement M
 entries-in-table-spec =

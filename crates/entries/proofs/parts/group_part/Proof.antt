@@ -1,5 +1,4 @@
 -- `entries::parts::group_part` writes the entries member after member. Assumes nothing.
-use native.Mathlib.Omega.{arith}
 use Prim.Native.Nat.{_-_}
 use Rattle.rule.specs.Words.{wordsOf}
 use Rattle.table.specs.Readers.{vidValues}
@@ -8,7 +7,6 @@ use Rattle.entries.specs.Parts.{memberPart, groupPart}
 use borrow.Author.Needs.{needs}
 use Rattle.entries.proofs.parts.group_part.Statement.{statement}
 use Rattle.entries.proofs.parts.group_part.Tie as tie
-use Rattle.entries.proofs.parts.member_words.Reads as member-words-reads
 
 abbrev Inv-loop : tie.InvT-loop
 Inv-loop table s rows ports v words₀ at end₀ j₀ words end j = Appending (memberPart (wordsOf table) s rows ports (vidValues v)) (s .members) words₀ at j words end

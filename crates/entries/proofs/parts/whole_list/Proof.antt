@@ -1,5 +1,4 @@
 -- `entries::parts::whole_list` writes the parts VID after VID. Assumes nothing.
-use native.Mathlib.Omega.{arith}
 use Prim.Native.Nat.{_-_}
 use Rattle.rule.specs.Words.{wordsOf}
 use Rattle.lists.specs.laws.AppendingLaws.{Appending, appending-starts, appending-room, appending-goes-on, appending-length, appending-ends}
@@ -7,7 +6,6 @@ use Rattle.entries.specs.Parts.{vidPart, wholeList}
 use borrow.Author.Needs.{needs}
 use Rattle.entries.proofs.parts.whole_list.Statement.{statement}
 use Rattle.entries.proofs.parts.whole_list.Tie as tie
-use Rattle.entries.proofs.parts.vid_part.Reads as vid-part-reads
 
 abbrev Inv-loop : tie.InvT-loop
 Inv-loop table s rows ports b words₀ end₀ k₀ words end k = Appending (vidPart (wordsOf table) s rows ports b) (s .vids) words₀ 0 k words end

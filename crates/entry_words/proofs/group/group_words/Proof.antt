@@ -5,12 +5,10 @@ use Prim.Native.Nat.{_-_}
 use mathlib.Core.Path.{refl}
 use lib.ListN.{length}
 use Rattle.lists.specs.laws.AppendingLaws.{appending-length}
-use Rattle.entry_words.specs.laws.Listing.{Listing, listing-starts, listing-ends, Seeking, seeking-starts, seeking-goes-on, found-room, found-listed, none-listed}
+use Rattle.entry_words.specs.laws.EntryWordLaws.{Listing, listing-starts, listing-ends, Seeking, seeking-starts, seeking-goes-on, found-room, found-listed, none-listed}
 use borrow.Author.Needs.{needs}
 use Rattle.entry_words.proofs.group.group_words.Statement.{statement}
 use Rattle.entry_words.proofs.group.group_words.Tie as tie
-use Rattle.entry_words.proofs.entry.wide.Reads as wide-reads
-use Rattle.entry_words.proofs.entry.write_entry.Reads as write-entry-reads
 
 abbrev Inv-loop : tie.InvT-loop
 Inv-loop ports behind vid address words₀ at end₀ i port j₀ words end j = Seeking behind port words₀ end₀ j words end

@@ -9,8 +9,6 @@ use Rattle.entry_words.specs.laws.Receivers.{member-bridge, not-noted, n
 use borrow.Author.Needs.{needs}
 use Rattle.entry_words.proofs.group.note_receiver.Statement.{statement}
 use Rattle.entry_words.proofs.group.note_receiver.Tie as tie
-use Rattle.entry_words.proofs.group.is_receiver.Reads as is-receiver-reads
-use Rattle.entry_words.proofs.records.member.Reads as member-reads
 
 member-requires : tie.Need-member-requires
 member-requires c κs = search needs
@@ -34,7 +32,7 @@ mul-behind-2 : tie.Need-mul-behind-2
 mul-behind-2 c = search needs
 
 slice-write-behind : tie.Need-slice-write-behind
-slice-write-behind c = noted-room (wordsOf ((c .before .before .before .before .before .before .before .before .args .table .now))) ((c .before .before .before .before .before .before .before .before .args .s)) ((c .before .before .before .before .before .before .before .before .args .row .now)) (memberValues ((c .before .before .before .before .before .before .before .before .args .m))) ((c .before .before .before .before .before .before .before .before .args .j)) (memberValues ((c .before .before .before .before .member .result))) ((c .before .before .before .before .member .ensures)) (sym (not-false _ ((c .before .if1 .left))) ∙ (c .before .before .is-receiver .ensures)) ((c .before .before .before .before .before .before .before .before .args .behind .now)) ((c .before .before .before .before .before .before .before .before .args .at)) ((c .before .before .before .before .before .before .before .before .pre .1))
+slice-write-behind c = noted-room (wordsOf ((c .before .before .before .before .before .before .before .before .args .table .now))) ((c .before .before .before .before .before .before .before .before .args .s)) ((c .before .before .before .before .before .before .before .before .args .egress-row .now)) (memberValues ((c .before .before .before .before .before .before .before .before .args .m))) ((c .before .before .before .before .before .before .before .before .args .j)) (memberValues ((c .before .before .before .before .member .result))) ((c .before .before .before .before .member .ensures)) (sym (not-false _ ((c .before .if1 .left))) ∙ (c .before .before .is-receiver .ensures)) ((c .before .before .before .before .before .before .before .before .args .behind .now)) ((c .before .before .before .before .before .before .before .before .args .at)) ((c .before .before .before .before .before .before .before .before .pre .1))
 
 add-result : tie.Need-add-result
 add-result c = search needs
@@ -43,7 +41,7 @@ same-length : tie.Need-same-length
 same-length c = search needs
 
 returns-2 : tie.Need-returns-2
-returns-2 c = noted _ _ _ _ _ (memberValues ((c .before .before .before .before .member .result))) ((c .before .before .before .before .member .ensures)) (sym (not-false _ ((c .before .if1 .left))) ∙ (c .before .before .is-receiver .ensures)) _ _ (noted-room (wordsOf ((c .before .before .before .before .before .before .before .before .args .table .now))) ((c .before .before .before .before .before .before .before .before .args .s)) ((c .before .before .before .before .before .before .before .before .args .row .now)) (memberValues ((c .before .before .before .before .before .before .before .before .args .m))) ((c .before .before .before .before .before .before .before .before .args .j)) (memberValues ((c .before .before .before .before .member .result))) ((c .before .before .before .before .member .ensures)) (sym (not-false _ ((c .before .if1 .left))) ∙ (c .before .before .is-receiver .ensures)) ((c .before .before .before .before .before .before .before .before .args .behind .now)) ((c .before .before .before .before .before .before .before .before .args .at)) ((c .before .before .before .before .before .before .before .before .pre .1)))
+returns-2 c = noted _ _ _ _ _ (memberValues ((c .before .before .before .before .member .result))) ((c .before .before .before .before .member .ensures)) (sym (not-false _ ((c .before .if1 .left))) ∙ (c .before .before .is-receiver .ensures)) _ _ (noted-room (wordsOf ((c .before .before .before .before .before .before .before .before .args .table .now))) ((c .before .before .before .before .before .before .before .before .args .s)) ((c .before .before .before .before .before .before .before .before .args .egress-row .now)) (memberValues ((c .before .before .before .before .before .before .before .before .args .m))) ((c .before .before .before .before .before .before .before .before .args .j)) (memberValues ((c .before .before .before .before .member .result))) ((c .before .before .before .before .member .ensures)) (sym (not-false _ ((c .before .if1 .left))) ∙ (c .before .before .is-receiver .ensures)) ((c .before .before .before .before .before .before .before .before .args .behind .now)) ((c .before .before .before .before .before .before .before .before .args .at)) ((c .before .before .before .before .before .before .before .before .pre .1)))
 
 pub note-receiver-spec : {M : Type 1} → statement M
 note-receiver-spec =

@@ -1,5 +1,4 @@
 -- `entry_words::group::ports_behind` notes the receivers member after member. Assumes nothing.
-use native.Mathlib.Omega.{arith}
 use Prim.Native.Nat.{_-_}
 use Rattle.rule.specs.Words.{wordsOf}
 use Rattle.table.specs.Readers.{memberValues}
@@ -9,7 +8,6 @@ use Rattle.entry_words.specs.laws.Receivers.{behind-room}
 use borrow.Author.Needs.{needs}
 use Rattle.entry_words.proofs.group.ports_behind.Statement.{statement}
 use Rattle.entry_words.proofs.group.ports_behind.Tie as tie
-use Rattle.entry_words.proofs.group.note_receiver.Reads as note-receiver-reads
 
 abbrev Inv-loop : tie.InvT-loop
 Inv-loop table s row m behind₀ at₀ j₀ behind at j = Appending (behindAt (wordsOf table) s row (memberValues m)) (s .members) behind₀ 0 j behind at
@@ -19,7 +17,7 @@ abbrev μ-loop : tie.MeasureT-loop
 
 loop-holds : tie.Need-loop-holds Inv-loop μ-loop
 unfolding portsBehind
-loop-holds c = appending-starts _ _ _ _ (behind-room ((c .before .before .before .pre .0)) ((c .before .before .before .args .row .now)) (memberValues ((c .before .before .before .args .m))) ((c .before .before .before .args .behind .now)) ((c .before .before .before .pre .2)))
+loop-holds c = appending-starts _ _ _ _ (behind-room ((c .before .before .before .pre .0)) ((c .before .before .before .args .egress-row .now)) (memberValues ((c .before .before .before .args .m))) ((c .before .before .before .args .behind .now)) ((c .before .before .before .pre .2)))
 
 note-receiver-requires : tie.Need-note-receiver-requires Inv-loop μ-loop
 note-receiver-requires c κs = (((c .before .before .before .before .before .before .before .pre .0), (c .before .if1 .taken), (c .before .before .before .before .before .before .before .pre .1)), appending-room ((c .before .before .before .loop .inv)) ((c .before .if1 .taken)))

@@ -1,5 +1,4 @@
 -- `entry_words::individual::individual_words` writes the entries bridge after bridge. Assumes nothing.
-use native.Mathlib.Omega.{arith}
 use Prim.Native.Nat.{_-_}
 use Rattle.rule.specs.Words.{wordsOf}
 use Rattle.entry_words.specs.Words.{individualTo, individualWords}
@@ -7,7 +6,6 @@ use Rattle.lists.specs.laws.AppendingLaws.{Appending, appending-starts, appendi
 use borrow.Author.Needs.{needs}
 use Rattle.entry_words.proofs.individual.individual_words.Statement.{statement}
 use Rattle.entry_words.proofs.individual.individual_words.Tie as tie
-use Rattle.entry_words.proofs.individual.write_individual.Reads as write-individual-reads
 
 abbrev Inv-loop : tie.InvT-loop
 Inv-loop table s row vid words₀ at end₀ d₀ words end d = Appending (individualTo (wordsOf table) row vid) (s .bridges) words₀ at d words end

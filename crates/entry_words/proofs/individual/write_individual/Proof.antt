@@ -2,13 +2,10 @@
 use native.Mathlib.Omega.{arith}
 use Rattle.rule.specs.Words.{wordsOf}
 use Rattle.table.specs.Readers.{bridgeValues}
-use Rattle.entry_words.specs.laws.Listing.{no-individual, individual-room, individual-written}
+use Rattle.entry_words.specs.laws.EntryWordLaws.{no-individual, individual-room, individual-written}
 use borrow.Author.Needs.{needs}
 use Rattle.entry_words.proofs.individual.write_individual.Statement.{statement}
 use Rattle.entry_words.proofs.individual.write_individual.Tie as tie
-use Rattle.entry_words.proofs.records.bridge.Reads as bridge-reads
-use Rattle.entry_words.proofs.entry.wide.Reads as wide-reads
-use Rattle.entry_words.proofs.entry.write_entry.Reads as write-entry-reads
 
 mul-wide : tie.Need-mul-wide
 mul-wide c = search needs
@@ -26,7 +23,7 @@ bridge-requires : tie.Need-bridge-requires
 bridge-requires c κs = search needs
 
 write-entry-requires : tie.Need-write-entry-requires
-write-entry-requires c κs = (individual-room (wordsOf ((c .before .before .before .before .before .before .before .before .before .args .table .now))) ((c .before .before .before .before .before .before .before .before .before .args .row .now)) ((c .before .before .before .before .before .before .before .before .before .args .vid)) ((c .before .before .before .before .before .before .before .before .before .args .d)) ((c .before .before .before .before .wide .result)) ((c .before .before .before .before .wide .ensures .0)) ((c .before .before .before .if1 .left)) (bridgeValues ((c .before .before .bridge .result))) ((c .before .before .bridge .ensures)) ((c .before .before .before .before .before .before .before .before .before .args .words .now)) ((c .before .before .before .before .before .before .before .before .before .args .at)) ((c .before .before .before .before .before .before .before .before .before .pre .1)), omega arith, (c .before .before .before .before .before .before .before .before .before .pre .0 .3), (c .before .before .before .before .wide .ensures .1))
+write-entry-requires c κs = (individual-room (wordsOf ((c .before .before .before .before .before .before .before .before .before .args .table .now))) ((c .before .before .before .before .before .before .before .before .before .args .egress-row .now)) ((c .before .before .before .before .before .before .before .before .before .args .vid)) ((c .before .before .before .before .before .before .before .before .before .args .d)) ((c .before .before .before .before .wide .result)) ((c .before .before .before .before .wide .ensures .0)) ((c .before .before .before .if1 .left)) (bridgeValues ((c .before .before .bridge .result))) ((c .before .before .bridge .ensures)) ((c .before .before .before .before .before .before .before .before .before .args .words .now)) ((c .before .before .before .before .before .before .before .before .before .args .at)) ((c .before .before .before .before .before .before .before .before .before .pre .1)), omega arith, (c .before .before .before .before .before .before .before .before .before .pre .0 .3), (c .before .before .before .before .wide .ensures .1))
 
 same-length : tie.Need-same-length
 same-length c = search needs

@@ -17,7 +17,7 @@ returns : tie.Need-returns
 returns c = first-of-number (c .before .before .before .before .pre .1) (halfLinkValues (c .before .before .before .before .args .h)) (c .before .last-place .result) (c .before .last-place .ensures) (c .if1 .taken)
 
 place-before-requires : tie.Need-place-before-requires
-place-before-requires c κs = (c .before .before .before .before .pre .1 .indexed, omega arith, omega (arith, c .before .last-place .ensures, last-within (holds (c .before .before .before .before .args .links .now) (c .before .before .before .before .args .h .link)) (c .before .before .before .before .args .count)))
+place-before-requires c κs = (c .before .before .before .before .pre .1 .indexed, omega arith, omega (arith, c .before .last-place .ensures, last-within (holds (c .before .before .before .before .args .link-index .now) (c .before .before .before .before .args .h .link)) (c .before .before .before .before .args .count)))
 
 returns-2 : tie.Need-returns-2
 returns-2 c = third-of-number (c .before .before .before .before .before .before .pre .1) (halfLinkValues (c .before .before .before .before .before .before .args .h)) (c .before .before .before .last-place .result) (c .before .before .before .last-place .ensures) (c .before .before .if1 .left) (c .before .place-before .result) (c .before .place-before .ensures) (c .if2 .taken)
@@ -35,7 +35,7 @@ add-at : tie.Need-add-at
 add-at c = search needs
 
 half-link-at-requires : tie.Need-half-link-at-requires
-half-link-at-requires c κs = omega (arith, c .before .before .before .last-place .ensures, last-within (holds (c .before .before .before .before .before .before .args .links .now) (c .before .before .before .before .before .before .args .h .link)) (c .before .before .before .before .before .before .args .count))
+half-link-at-requires c κs = omega (arith, c .before .before .before .last-place .ensures, last-within (holds (c .before .before .before .before .before .before .args .link-index .now) (c .before .before .before .before .before .before .args .h .link)) (c .before .before .before .before .before .before .args .count))
 
 is-mirror-requires : tie.Need-is-mirror-requires
 is-mirror-requires c κs = search needs

@@ -4,7 +4,7 @@ use mathlib.Core.Path.{refl, sym, ap, _∙_}
 use mathlib.Core.Bool.{true, false}
 use lib.ListN.{length, drop}
 use Rattle.rule.specs.Words.{wordsOf}
-use Rattle.table.specs.Positions.{recordsAt, vidsFrom, membersFrom, wordsRead, readingAt}
+use Rattle.table.specs.Positions.{recordsAt, membersFrom, wordsRead, readingAt}
 use Rattle.table.specs.laws.PositionLaws.{how-many}
 use Rattle.table.specs.Readers.{cut, zeroBit, outOfRange, whole, memberRead, memberValues}
 use Rattle.faults.specs.laws.FaultLaws.{judged-at, own-fault, found-fault, fault-left, left-over}

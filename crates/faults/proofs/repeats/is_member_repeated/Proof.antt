@@ -1,8 +1,6 @@
 -- `faults::repeats::is_member_repeated` searches the members one after the other. Assumes nothing.
 use Prim.Native.Nat.{_-_, _+_, _*_}
 use native.Mathlib.Omega.{arith}
-use mathlib.Core.Path.{refl}
-use borrow.Author.Tests.{eq-eqb, ne-eqb}
 use Rattle.lists.specs.laws.Searching.{search-starts}
 use Rattle.rule.specs.Words.{wordsOf}
 use Rattle.rule.specs.Records.{memberOf}

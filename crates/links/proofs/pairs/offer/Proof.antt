@@ -5,7 +5,7 @@ use borrow.Author.Tests.{not-true, not-false}
 use Rattle.rule.specs.Words.{wordsOf}
 use Rattle.table.specs.Readers.{halfLinkValues}
 use Rattle.table.specs.Positions.{planAt}
-use Rattle.links.specs.Mates.{halfLinkAt}
+use Rattle.table.specs.Numbered.{halfLinkNumber}
 use Rattle.links.specs.laws.PairLaws.{offered-unusable, offered-usable, place-there, hop-fits}
 use borrow.Author.Needs.{needs}
 use Rattle.links.proofs.pairs.offer.Statement.{statement}
@@ -39,7 +39,7 @@ returns c =
     let at-half-link = at-link-metric .before .before .before in
     let at-start = at-half-link .before .before .before .before in
     offered-unusable (planAt (wordsOf (at-start .args .table .now)) (at-start .args .s) .halfLinks) (at-start .args .pairs .now)
-    (halfLinkAt (wordsOf (at-start .args .table .now)) (at-start .args .s) (at-start .args .i))
+    (halfLinkNumber (wordsOf (at-start .args .table .now)) (at-start .args .s) (at-start .args .i))
     (halfLinkValues (at-half-link .half-link .result)) (at-half-link .half-link .ensures) (at-link-metric .link-metric .result .0) (at-link-metric .link-metric .ensures)
     (sym (not-true _ (c .if1 .taken)) ∙ at-is-usable .is-usable .ensures)
 
@@ -85,7 +85,7 @@ returns-2 c =
     let at-half-link = at-link-metric .before .before .before in
     let at-start = at-half-link .before .before .before .before in
     offered-usable (planAt (wordsOf (at-start .args .table .now)) (at-start .args .s) .halfLinks) (at-start .args .pairs .now)
-    (halfLinkAt (wordsOf (at-start .args .table .now)) (at-start .args .s) (at-start .args .i))
+    (halfLinkNumber (wordsOf (at-start .args .table .now)) (at-start .args .s) (at-start .args .i))
     (halfLinkValues (at-half-link .half-link .result)) (at-half-link .half-link .ensures) (at-link-metric .link-metric .result .0) (at-link-metric .link-metric .ensures)
     (sym (not-false _ (at-if1 .if1 .left)) ∙ at-is-usable .is-usable .ensures) (at-hop-number .hop-number .result) (c .lesser .result) (at-hop-number .hop-number .ensures) (c .lesser .ensures)
 

@@ -3,7 +3,7 @@ use native.Mathlib.Omega.{arith}
 use Prim.Native.Nat.{_-_}
 use Rattle.rule.specs.Words.{wordsOf}
 use Rattle.table.specs.Positions.{planAt}
-use Rattle.links.specs.Mates.{halfLinkAt}
+use Rattle.table.specs.Numbered.{halfLinkNumber}
 use Rattle.links.specs.laws.CountLaws.{Counting, counting-starts, counting-goes-on, counting-ends, counted-most}
 use borrow.Author.Needs.{needs}
 use Rattle.links.proofs.usable.count_usable.Statement.{statement}
@@ -22,7 +22,7 @@ count-one-requires : tie.Need-count-one-requires Inv-loop μ-loop
 count-one-requires c κs = search needs
 
 add-count : tie.Need-add-count Inv-loop μ-loop
-add-count c = omega (arith, c .count-one .ensures, counted-most (planAt (wordsOf (c .before .before .before .before .before .before .args .table .now)) (c .before .before .before .before .before .before .args .s) .halfLinks) (halfLinkAt (wordsOf (c .before .before .before .before .before .before .args .table .now)) (c .before .before .before .before .before .before .args .s) (c .before .before .before .loop .i)), c .before .before .before .loop .inv .most, c .before .before .before .before .before .before .pre .bounded, c .before .before .before .before .before .before .pre .whole)
+add-count c = omega (arith, c .count-one .ensures, counted-most (planAt (wordsOf (c .before .before .before .before .before .before .args .table .now)) (c .before .before .before .before .before .before .args .s) .halfLinks) (halfLinkNumber (wordsOf (c .before .before .before .before .before .before .args .table .now)) (c .before .before .before .before .before .before .args .s) (c .before .before .before .loop .i)), c .before .before .before .loop .inv .most, c .before .before .before .before .before .before .pre .0 .whole .bounded, c .before .before .before .before .before .before .pre .0 .whole .within)
 
 add-i : tie.Need-add-i Inv-loop μ-loop
 add-i c = search needs
@@ -34,7 +34,7 @@ loop-again : tie.Need-loop-again Inv-loop μ-loop
 loop-again c = counting-goes-on (wordsOf (c .before .before .before .before .before .before .args .table .now)) (c .before .before .before .before .before .before .args .s) (c .before .before .before .loop .inv) (c .count-one .result) (c .before .if1 .taken) (c .count-one .ensures)
 
 returns : tie.Need-returns Inv-loop μ-loop
-returns c = counting-ends (wordsOf (c .before .before .before .before .before .args .table .now)) (c .before .before .before .before .before .args .s) (c .before .before .loop .inv) (c .before .before .before .before .before .pre .laws) (c .if1 .left)
+returns c = counting-ends (wordsOf (c .before .before .before .before .before .args .table .now)) (c .before .before .before .before .before .args .s) (c .before .before .loop .inv) (c .before .before .before .before .before .pre .0 .laws) (c .if1 .left)
 
 pub count-usable-spec : {M : Type 1} → statement M
 count-usable-spec =

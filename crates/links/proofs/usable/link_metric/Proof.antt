@@ -17,7 +17,7 @@ other-place-requires : tie.Need-other-place-requires
 other-place-requires c κs = search needs
 
 returns : tie.Need-returns
-returns c = metric-alone (c .before .before .before .before .pre .0) (c .before .before .before .before .args .i) (c .before .before .before .before .pre .1) (halfLinkValues (c .before .before .before .before .args .h)) (c .before .before .before .before .pre .2) (c .before .other-place .result) (c .before .other-place .ensures) (c .if1 .taken)
+returns c = metric-alone (c .before .before .before .before .pre .0) (c .before .before .before .before .pre .3) (c .before .before .before .before .args .i) (c .before .before .before .before .pre .1) (halfLinkValues (c .before .before .before .before .args .h)) (c .before .before .before .before .pre .2) (c .before .other-place .result) (c .before .other-place .ensures) (c .if1 .taken)
 
 cast-half-link : tie.Need-cast-half-link
 cast-half-link c = search needs
@@ -26,13 +26,13 @@ sub-half-link : tie.Need-sub-half-link
 sub-half-link c = search needs
 
 half-link-requires : tie.Need-half-link-requires
-half-link-requires c κs = (c .before .before .before .before .pre .0 .whole, c .before .before .before .before .pre .0 .bounded, omega (arith, mate-within (c .before .before .before .before .pre .0) (c .before .before .before .before .args .i) (c .before .before .before .before .pre .1) (halfLinkValues (c .before .before .before .before .args .h)) (c .before .before .before .before .pre .2) (c .before .other-place .result) (c .before .other-place .ensures)))
+half-link-requires c κs = (c .before .before .before .before .pre .0 .whole, omega (arith, mate-within (c .before .before .before .before .pre .0) (c .before .before .before .before .pre .3) (c .before .before .before .before .args .i) (c .before .before .before .before .pre .1) (halfLinkValues (c .before .before .before .before .args .h)) (c .before .before .before .before .pre .2) (c .before .other-place .result) (c .before .other-place .ensures)))
 
 combined-requires : tie.Need-combined-requires
 combined-requires c κs = search needs
 
 returns-2 : tie.Need-returns-2
-returns-2 c = c .combined .ensures ∙ metric-linked (c .before .before .before .before .before .before .pre .0) (c .before .before .before .before .before .before .args .i) (c .before .before .before .before .before .before .pre .1) (halfLinkValues (c .before .before .before .before .before .before .args .h)) (c .before .before .before .before .before .before .pre .2) (c .before .before .before .other-place .result) (c .before .before .before .other-place .ensures) (c .before .before .if1 .left) (halfLinkValues (c .before .half-link .result)) (c .before .half-link .ensures)
+returns-2 c = c .combined .ensures ∙ metric-linked (c .before .before .before .before .before .before .pre .0) (c .before .before .before .before .before .before .pre .3) (c .before .before .before .before .before .before .args .i) (c .before .before .before .before .before .before .pre .1) (halfLinkValues (c .before .before .before .before .before .before .args .h)) (c .before .before .before .before .before .before .pre .2) (c .before .before .before .other-place .result) (c .before .before .before .other-place .ensures) (c .before .before .if1 .left) (halfLinkValues (c .before .half-link .result)) (c .before .half-link .ensures)
 
 pub link-metric-spec : {M : Type 1} → statement M
 link-metric-spec =

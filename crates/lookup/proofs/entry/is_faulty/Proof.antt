@@ -38,13 +38,19 @@ returns-2 c =
     sym (port-outside (entryOf (c .before .before .before .before .before .before .args .first) (c .before .before .before .before .before .before .args .upper) (c .before .before .before .before .before .before .args .lower)) (bits (c .before .before .before .before .before .before .args .upper) 31 16)
     (c .before .within2 .result) (c .before .before .port-of .result) (c .before .within2 .ensures) (c .before .before .port-of .ensures .0) (not-true _ (c .if2 .taken)))
 
+zero-bits-of-requires : tie.Need-zero-bits-of-requires
+zero-bits-of-requires c = search needs
+
 returns-3 : tie.Need-returns-3
 returns-3 c =
-    sym (zero-bit-set (entryOf (c .before .before .before .before .before .before .before .args .first) (c .before .before .before .before .before .before .before .args .upper) (c .before .before .before .before .before .before .before .args .lower)) (bits (c .before .before .before .before .before .before .before .args .upper) 31 16)
+    sym (zero-bit-set (entryOf (c .before .before .before .before .before .before .before .before .args .first) (c .before .before .before .before .before .before .before .before .args .upper) (c .before .before .before .before .before .before .before .before .args .lower)) (bits (c .before .before .before .before .before .before .before .before .args .upper) 31 16)
     (λ e. c .if3 .taken (omega arith)))
 
 address-of-requires : tie.Need-address-of-requires
 address-of-requires c κs = search needs
+
+group-bit-requires : tie.Need-group-bit-requires
+group-bit-requires c = search needs
 
 add-result : tie.Need-add-result
 add-result c = search needs
@@ -52,14 +58,11 @@ add-result c = search needs
 kind-of-requires : tie.Need-kind-of-requires
 kind-of-requires c κs = search needs
 
-cast-result : tie.Need-cast-result
-cast-result c = search needs
-
 returns-4 : tie.Need-returns-4
 returns-4 c =
-    sym (by-group-bit (entryOf (c .before .before .before .before .before .before .before .before .before .args .first) (c .before .before .before .before .before .before .before .before .before .args .upper) (c .before .before .before .before .before .before .before .before .before .args .lower)) (bits (c .before .before .before .before .before .before .before .before .before .args .upper) 31 16)
-    _ _ _ _ (c .before .before .before .before .before .before .before .within .ensures) (c .before .before .before .before .before .before .before .before .vid-of .ensures .0) (not-false _ (c .before .before .before .before .before .before .if1 .left))
-    (c .before .before .before .before .within2 .ensures) (c .before .before .before .before .before .port-of .ensures .0) (not-false _ (c .before .before .before .if2 .left)) (omega arith)
+    sym (by-group-bit (entryOf (c .before .before .before .before .before .before .before .before .before .before .before .args .first) (c .before .before .before .before .before .before .before .before .before .before .before .args .upper) (c .before .before .before .before .before .before .before .before .before .before .before .args .lower)) (bits (c .before .before .before .before .before .before .before .before .before .before .before .args .upper) 31 16)
+    _ _ _ _ (c .before .before .before .before .before .before .before .before .before .within .ensures) (c .before .before .before .before .before .before .before .before .before .before .vid-of .ensures .0) (not-false _ (c .before .before .before .before .before .before .before .before .if1 .left))
+    (c .before .before .before .before .before .before .within2 .ensures) (c .before .before .before .before .before .before .before .port-of .ensures .0) (not-false _ (c .before .before .before .before .before .if2 .left)) (omega arith)
     _ _ (omega arith) (c .kind-of .ensures))
 
 pub is-faulty-spec : {M : Type 1} → statement M
@@ -74,9 +77,10 @@ is-faulty-spec =
     cast-within-2
     within-requires-2
     returns-2
+    zero-bits-of-requires
     returns-3
     address-of-requires
+    group-bit-requires
     add-result
     kind-of-requires
-    cast-result
     returns-4)

@@ -4,7 +4,7 @@ use native.Mathlib.Omega.{arith}
 use mathlib.Core.Path.{sym, _∙_}
 use Rattle.rule.specs.Words.{wordsOf}
 use Rattle.table.specs.Positions.{planAt}
-use Rattle.links.specs.laws.PairLaws.{bridges-counted}
+use Rattle.verdict.specs.laws.CheckedLaws.{bridges-counted}
 use Rattle.path.specs.laws.NamedLaws.{no-tree, known-tree, no-from, no-root, both-known, named-fits}
 use Rattle.path.proofs.named.named_tree.Statement.{statement}
 use Rattle.path.proofs.named.named_tree.Tie as tie
@@ -22,7 +22,7 @@ returns-3 : tie.Need-returns-3
 returns-3 c = no-tree _ (sym (c .if3 .taken) ∙ (c .before .index-of .ensures) ∙ both-known (planAt (wordsOf (c .before .before .before .before .before .before .before .before .before .args .table .now)) (c .before .before .before .before .before .before .before .before .before .args .s)) (c .before .before .before .before .before .before .before .before .before .args .vid) (c .before .before .before .before .before .before .before .before .before .args .from) (c .before .before .before .before .before .before .before .before .before .args .root) (omega (arith, bridges-counted (c .before .before .before .before .before .before .before .before .before .pre .0), (c .before .before .before .before .if1 .left))) (omega (arith, bridges-counted (c .before .before .before .before .before .before .before .before .before .pre .0), (c .before .before .if2 .left))))
 
 tree-of-table-requires : tie.Need-tree-of-table-requires
-tree-of-table-requires c κs = ((c .before .before .before .before .before .before .before .before .before .before .pre .0), (named-fits _ (c .before .before .before .before .before .before .before .before .before .before .pre .0 .laws) (c .before .before .before .before .before .before .before .before .before .before .args .vid) _ (c .before .before .index-of .ensures) (c .before .if3 .left)) .0, (named-fits _ (c .before .before .before .before .before .before .before .before .before .before .pre .0 .laws) (c .before .before .before .before .before .before .before .before .before .before .args .vid) _ (c .before .before .index-of .ensures) (c .before .if3 .left)) .1, omega (arith, (c .before .before .before .if2 .left)), (c .before .before .before .before .before .before .before .before .before .before .pre .1))
+tree-of-table-requires c κs = ((c .before .before .before .before .before .before .before .before .before .before .pre .0), (named-fits _ (c .before .before .before .before .before .before .before .before .before .before .pre .0 .laws) (c .before .before .before .before .before .before .before .before .before .before .args .vid) _ (c .before .before .index-of .ensures) (c .before .if3 .left)) .0, (named-fits _ (c .before .before .before .before .before .before .before .before .before .before .pre .0 .laws) (c .before .before .before .before .before .before .before .before .before .before .args .vid) _ (c .before .before .index-of .ensures) (c .before .if3 .left)) .1, omega (arith, (c .before .before .before .if2 .left)), (c .before .before .before .before .before .before .before .before .before .before .pre .1), c .before .before .before .before .before .before .before .before .before .before .pre .2)
 
 same-length : tie.Need-same-length
 same-length c = search needs

@@ -22,7 +22,7 @@ returns : tie.Need-returns
 returns c =
     let at-named-tree = c .before .before in
     let at-start = at-named-tree .before .before .before .before in
-    nothing-named-number (planAt (wordsOf (at-start .args .table .now)) (at-start .args .s)) (at-start .pre .laws) (at-start .args .vid) (at-start .args .from)
+    nothing-named-number (planAt (wordsOf (at-start .args .table .now)) (at-start .args .s)) (at-start .pre .0 .laws) (at-start .args .vid) (at-start .args .from)
     (at-start .args .to) (at-named-tree .named-tree .ensures) (c .if1 .taken)
 
 slice-aggregate-cost-at : tie.Need-slice-aggregate-cost-at
@@ -33,7 +33,7 @@ cost-at-requires c κs =
     let at-if1 = c .before in
     let at-named-tree = at-if1 .before .before in
     let at-start = at-named-tree .before .before .before .before in
-    let walk = named-followable (planAt (wordsOf (at-start .args .table .now)) (at-start .args .s)) (at-start .pre .laws) (at-start .args .vid)
+    let walk = named-followable (planAt (wordsOf (at-start .args .table .now)) (at-start .args .s)) (at-start .pre .0 .laws) (at-start .args .vid)
     (at-start .args .from) (at-start .args .to) (at-named-tree .named-tree .ensures) (at-if1 .if1 .left) in
     omega (arith, walk .place)
 
@@ -50,7 +50,7 @@ returns-2 c =
     let at-if1 = at-cost-at .before .before in
     let at-named-tree = at-if1 .before .before in
     let at-start = at-named-tree .before .before .before .before in
-    no-path-number (planAt (wordsOf (at-start .args .table .now)) (at-start .args .s)) (at-start .pre .laws) (at-start .args .vid) (at-start .args .from)
+    no-path-number (planAt (wordsOf (at-start .args .table .now)) (at-start .args .s)) (at-start .pre .0 .laws) (at-start .args .vid) (at-start .args .from)
     (at-start .args .to) (at-named-tree .named-tree .ensures) (at-if1 .if1 .left)
     (no-path (at-cost-at .cost-at .ensures) (at-is-no-path .is-no-path .ensures) (c .if2 .taken))
 
@@ -67,7 +67,7 @@ returns-3 c =
     let at-start = at-named-tree .before .before .before .before in
     c .exported .ensures
     ∙ at-cost-at .cost-at .ensures
-    ∙ path-number (planAt (wordsOf (at-start .args .table .now)) (at-start .args .s)) (at-start .pre .laws) (at-start .args .vid) (at-start .args .from)
+    ∙ path-number (planAt (wordsOf (at-start .args .table .now)) (at-start .args .s)) (at-start .pre .0 .laws) (at-start .args .vid) (at-start .args .from)
     (at-start .args .to) (at-named-tree .named-tree .ensures) (at-if1 .if1 .left)
     (a-path (at-cost-at .cost-at .ensures) (at-is-no-path .is-no-path .ensures) (at-if2 .if2 .left))
 

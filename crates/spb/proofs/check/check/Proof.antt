@@ -1,6 +1,5 @@
 -- `spb::check::check` gives the counts of an accepted table, or the refusal of the verdict. Assumes nothing.
 use Rattle.key_index.specs.laws.IndexLaws.{no-keys-yet}
-use Rattle.spb.specs.laws.Examined.{accepted-checked}
 use Rattle.spb.specs.laws.CallLaws.{check-accepted, check-refused}
 use borrow.Author.Needs.{needs}
 use Rattle.spb.proofs.check.check.Statement.{statement}
@@ -19,7 +18,7 @@ slice-aggregate-counts : tie.Need-slice-aggregate-counts
 slice-aggregate-counts c = search needs
 
 counts-requires : tie.Need-counts-requires
-counts-requires c κs = accepted-checked (c .before .before .before .before .before .before .before .before .args .table .now) (c .before .before .before .before .before .examine .result) (c .before .before .before .before .before .examine .ensures .0) _ _ (c .before .before .examined .given .1) (c .before .before .before .before .before .examine .ensures .1)
+counts-requires c κs = c .before .before .before .before .before .examine .ensures .1 _ (c .before .before .examined .given .1)
 
 enum-known-examined-2 : tie.Need-enum-known-examined-2
 enum-known-examined-2 c = search needs

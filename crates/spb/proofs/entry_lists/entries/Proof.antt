@@ -1,7 +1,6 @@
 -- `spb::entry_lists::entries` asks the entries of an accepted table, or passes the refusal of the verdict on. Assumes nothing.
 use borrow.Author.Needs.{needs}
 use Rattle.key_index.specs.laws.IndexLaws.{no-keys-yet}
-use Rattle.spb.specs.laws.Examined.{accepted-checked}
 use Rattle.spb.specs.laws.CallLaws.{entries-accepted, entries-refused}
 use Rattle.spb.proofs.entry_lists.entries.Statement.{statement}
 use Rattle.spb.proofs.entry_lists.entries.Tie as tie
@@ -19,7 +18,7 @@ slice-aggregate-entries-in-table : tie.Need-slice-aggregate-entries-in-table
 slice-aggregate-entries-in-table c = search needs
 
 entries-in-table-requires : tie.Need-entries-in-table-requires
-entries-in-table-requires c κs = accepted-checked (c .before .before .before .before .before .before .before .before .before .before .args .table .now) (c .before .before .before .before .before .before .examine .result) (c .before .before .before .before .before .before .examine .ensures .0) _ _ (c .before .before .before .examined .given .1) (c .before .before .before .before .before .before .examine .ensures .1)
+entries-in-table-requires c κs = c .before .before .before .before .before .before .examine .ensures .1 _ (c .before .before .before .examined .given .1)
 
 enum-known-examined-2 : tie.Need-enum-known-examined-2
 enum-known-examined-2 c = search needs

@@ -1,7 +1,6 @@
 -- `spb::exported::spb_path_cost` gives the number of an accepted table's path, or of the verdict. Assumes nothing.
 use borrow.Author.Needs.{needs}
 use Rattle.key_index.specs.laws.IndexLaws.{no-keys-yet}
-use Rattle.spb.specs.laws.Examined.{accepted-checked}
 use Rattle.spb.specs.laws.CallLaws.{cost-accepted, cost-refused}
 use Rattle.spb.proofs.exported.spb_path_cost.Statement.{statement}
 use Rattle.spb.proofs.exported.spb_path_cost.Tie as tie
@@ -19,7 +18,7 @@ slice-aggregate-path-cost-in-table : tie.Need-slice-aggregate-path-cost-in-table
 slice-aggregate-path-cost-in-table c = search needs
 
 path-cost-in-table-requires : tie.Need-path-cost-in-table-requires
-path-cost-in-table-requires c κs = accepted-checked (c .before .before .before .before .before .before .before .before .args .table .now) (c .before .before .before .before .before .examine .result) (c .before .before .before .before .before .examine .ensures .0) _ _ (c .before .before .examined .given .1) (c .before .before .before .before .before .examine .ensures .1)
+path-cost-in-table-requires c κs = c .before .before .before .before .before .examine .ensures .1 _ (c .before .before .examined .given .1)
 
 enum-known-examined-2 : tie.Need-enum-known-examined-2
 enum-known-examined-2 c = search needs

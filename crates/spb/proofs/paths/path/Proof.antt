@@ -1,7 +1,6 @@
 -- `spb::paths::path` asks the path of an accepted table, or passes the refusal of the verdict on. Assumes nothing.
 use borrow.Author.Needs.{needs}
 use Rattle.key_index.specs.laws.IndexLaws.{no-keys-yet}
-use Rattle.spb.specs.laws.Examined.{accepted-checked}
 use Rattle.spb.specs.laws.CallLaws.{path-accepted, path-refused}
 use Rattle.spb.proofs.paths.path.Statement.{statement}
 use Rattle.spb.proofs.paths.path.Tie as tie
@@ -19,7 +18,7 @@ slice-aggregate-path-in-table : tie.Need-slice-aggregate-path-in-table
 slice-aggregate-path-in-table c = search needs
 
 path-in-table-requires : tie.Need-path-in-table-requires
-path-in-table-requires c κs = accepted-checked (c .before .before .before .before .before .before .before .before .before .before .args .table .now) (c .before .before .before .before .before .before .examine .result) (c .before .before .before .before .before .before .examine .ensures .0) _ _ (c .before .before .before .examined .given .1) (c .before .before .before .before .before .before .examine .ensures .1)
+path-in-table-requires c κs = c .before .before .before .before .before .before .examine .ensures .1 _ (c .before .before .before .examined .given .1)
 
 enum-known-examined-2 : tie.Need-enum-known-examined-2
 enum-known-examined-2 c = search needs

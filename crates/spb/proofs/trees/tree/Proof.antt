@@ -1,7 +1,6 @@
 -- `spb::trees::tree` asks the places of an accepted table, or passes the refusal of the verdict on. Assumes nothing.
 use borrow.Author.Needs.{needs}
 use Rattle.key_index.specs.laws.IndexLaws.{no-keys-yet}
-use Rattle.spb.specs.laws.Examined.{accepted-checked}
 use Rattle.spb.specs.laws.CallLaws.{tree-accepted, tree-refused}
 use Rattle.spb.proofs.trees.tree.Statement.{statement}
 use Rattle.spb.proofs.trees.tree.Tie as tie
@@ -19,7 +18,7 @@ slice-aggregate-tree-in-table : tie.Need-slice-aggregate-tree-in-table
 slice-aggregate-tree-in-table c = search needs
 
 tree-in-table-requires : tie.Need-tree-in-table-requires
-tree-in-table-requires c κs = accepted-checked (c .before .before .before .before .before .before .before .before .before .before .before .before .before .before .args .table .now) (c .before .before .before .before .before .before .before .before .examine .result) (c .before .before .before .before .before .before .before .before .examine .ensures .0) _ _ (c .before .before .before .before .before .examined .given .1) (c .before .before .before .before .before .before .before .before .examine .ensures .1)
+tree-in-table-requires c κs = c .before .before .before .before .before .before .before .before .examine .ensures .1 _ (c .before .before .before .before .before .examined .given .1)
 
 enum-known-examined-2 : tie.Need-enum-known-examined-2
 enum-known-examined-2 c = search needs

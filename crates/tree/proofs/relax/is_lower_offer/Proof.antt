@@ -23,7 +23,7 @@ returns c =
     let at-differs = at-if .before in
     let at-cost = at-differs .before in
     let at-start = at-cost .before .before .before in
-    lower-by-cost (at-start .args .rows .now) (at-start .args .via) (at-start .args .cost .0) (at-start .args .hops .0)
+    lower-by-cost (at-start .args .path-ids .now) (at-start .args .via) (at-start .args .cost .0) (at-start .args .hops .0)
     (labelAt (at-start .args .labels .now) (at-start .args .v)) (at-cost .cost-at .ensures) (c .is-below .ensures)
     (differ (at-differs .differs .ensures) (at-if .if1 .taken))
 
@@ -44,7 +44,7 @@ returns-2 c =
     let same-cost = at-hops .before in
     let at-cost = same-cost .before .before in
     let at-start = at-cost .before .before .before in
-    lower-by-hops (at-start .args .rows .now) (at-start .args .via) (at-start .args .cost .0) (at-start .args .hops .0)
+    lower-by-hops (at-start .args .path-ids .now) (at-start .args .via) (at-start .args .cost .0) (at-start .args .hops .0)
     (labelAt (at-start .args .labels .now) (at-start .args .v)) (at-cost .cost-at .ensures) (at-hops .hops-at .ensures)
     (agree (same-cost .before .differs .ensures) (same-cost .if1 .left)) (c .is-below2 .ensures)
     (differ (at-differs .differs2 .ensures) (at-if .if2 .taken))
@@ -72,7 +72,7 @@ returns-3 c =
     let same-cost = at-hops .before in
     let at-cost = same-cost .before .before in
     let at-start = at-cost .before .before .before in
-    lower-by-rows (at-start .args .rows .now) (at-start .args .via) (at-start .args .cost .0) (at-start .args .hops .0)
+    lower-by-rows (at-start .args .path-ids .now) (at-start .args .via) (at-start .args .cost .0) (at-start .args .hops .0)
     (labelAt (at-start .args .labels .now) (at-start .args .v)) (at-cost .cost-at .ensures) (at-hops .hops-at .ensures)
     (agree (same-cost .before .differs .ensures) (same-cost .if1 .left)) (at-next .next-at .ensures) (at-count .count .ensures)
     (agree (same-hops .before .differs2 .ensures) (same-hops .if2 .left)) (c .is-lower-row .ensures)

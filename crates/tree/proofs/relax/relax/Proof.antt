@@ -16,7 +16,7 @@ returns : tie.Need-returns
 returns c =
     let at-is-lower-offer = c .before in
     let at-start = at-is-lower-offer .before .before .before .before in
-    offer-refused (at-start .args .labels .now) (at-start .args .rows .now) (at-start .args .via) (at-start .args .v) (at-start .args .cost .0) (at-start .args .hops .0) (at-is-lower-offer .is-lower-offer .result) (at-is-lower-offer .is-lower-offer .ensures) (c .if1 .taken)
+    offer-refused (at-start .args .labels .now) (at-start .args .path-ids .now) (at-start .args .via) (at-start .args .v) (at-start .args .cost .0) (at-start .args .hops .0) (at-is-lower-offer .is-lower-offer .result) (at-is-lower-offer .is-lower-offer .ensures) (c .if1 .taken)
 
 mul-labels : tie.Need-mul-labels
 mul-labels c = search needs
@@ -67,7 +67,7 @@ returns-2 : tie.Need-returns-2
 returns-2 c =
     let at-is-lower-offer = c .before in
     let at-start = at-is-lower-offer .before .before .before .before in
-    offer-taken (at-start .args .labels .now) (at-start .args .rows .now) (at-start .args .via) (at-start .args .v) (at-start .args .cost .0) (at-start .args .hops .0) (at-is-lower-offer .is-lower-offer .result) (at-is-lower-offer .is-lower-offer .ensures) (c .if1 .left)
+    offer-taken (at-start .args .labels .now) (at-start .args .path-ids .now) (at-start .args .via) (at-start .args .v) (at-start .args .cost .0) (at-start .args .hops .0) (at-is-lower-offer .is-lower-offer .result) (at-is-lower-offer .is-lower-offer .ensures) (c .if1 .left)
 
 pub relax-spec : {M : Type 1} → statement M
 relax-spec =

@@ -7,10 +7,10 @@ use Rattle.tree.proofs.relax.relax_all.Statement.{statement}
 use Rattle.tree.proofs.relax.relax_all.Tie as tie
 
 abbrev Inv-loop : tie.InvT-loop
-Inv-loop starts neighbours costs rows labels₀ via far hops end i₀ labels i = Offering starts neighbours costs rows labels₀ via labels i
+Inv-loop starts neighbours costs path-ids labels₀ via via-cost hops end i₀ labels i = Offering starts neighbours costs path-ids labels₀ via labels i
 
 abbrev μ-loop : tie.MeasureT-loop
-μ-loop starts neighbours costs rows labels₀ via far hops end i₀ labels i = end - i
+μ-loop starts neighbours costs path-ids labels₀ via via-cost hops end i₀ labels i = end - i
 
 cost-at-requires : tie.Need-cost-at-requires Inv-loop μ-loop
 cost-at-requires c κs = search needs
@@ -21,7 +21,7 @@ hops-at-requires c κs = search needs
 plus-requires : tie.Need-plus-requires Inv-loop μ-loop
 plus-requires c κs =
     let at-start = c .before .before .before .before .before .before .before .before .before in
-    omega (arith, c .hops-at .ensures, at-start .pre .steps-in)
+    omega (arith, c .hops-at .ensures, at-start .pre .hops-in)
 
 add-end : tie.Need-add-end Inv-loop μ-loop
 add-end c = search needs

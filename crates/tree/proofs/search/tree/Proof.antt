@@ -12,11 +12,11 @@ use Rattle.tree.proofs.search.tree.Statement.{statement}
 use Rattle.tree.proofs.search.tree.Tie as tie
 
 abbrev Inv-loop : tie.InvT-loop
-Inv-loop starts neighbours costs keys labels₀ rows₀ n root least₀ labels rows least =
-    Underway n starts neighbours costs keys root labels rows × LeastOf labels n (least .0) × (length labels ≡ length labels₀) × (length rows ≡ length rows₀)
+Inv-loop starts neighbours costs keys labels₀ path-ids₀ n root least₀ labels path-ids least =
+    Underway n starts neighbours costs keys root labels path-ids × LeastOf labels n (least .0) × (length labels ≡ length labels₀) × (length path-ids ≡ length path-ids₀)
 
 abbrev μ-loop : tie.MeasureT-loop
-μ-loop starts neighbours costs keys labels₀ rows₀ n root least₀ labels rows least = openBridges n labels
+μ-loop starts neighbours costs keys labels₀ path-ids₀ n root least₀ labels path-ids least = openBridges n labels
 
 begin-requires : tie.Need-begin-requires Inv-loop μ-loop
 begin-requires c κs = search needs
@@ -76,7 +76,7 @@ same-length-2 : tie.Need-same-length-2 Inv-loop μ-loop
 same-length-2 c =
     let at-loop = c .before .before in
     let at-begin = at-loop .before .before .before .before .before .before .before .before .before .before .before .before in
-    at-loop .loop .inv .3 ∙ at-begin .begin .ensures .same-rows
+    at-loop .loop .inv .3 ∙ at-begin .begin .ensures .same-path-ids
 
 returns : tie.Need-returns Inv-loop μ-loop
 returns c =

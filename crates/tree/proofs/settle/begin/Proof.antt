@@ -63,20 +63,20 @@ slice-write-labels-4 c =
     let at-start = at-clear .before .before .before .before .before in
     simp length-set (omega (arith, at-start .pre, at-clear .clear .ensures .same-length))
 
-mul-rows : tie.Need-mul-rows
-mul-rows c = search needs
+mul-path-ids : tie.Need-mul-path-ids
+mul-path-ids c = search needs
 
-shared-slice-read-rows : tie.Need-shared-slice-read-rows
-shared-slice-read-rows c = search needs
+shared-slice-read-path-ids : tie.Need-shared-slice-read-path-ids
+shared-slice-read-path-ids c = search needs
 
-mul-rows-2 : tie.Need-mul-rows-2
-mul-rows-2 c = search needs
+mul-path-ids-2 : tie.Need-mul-path-ids-2
+mul-path-ids-2 c = search needs
 
-mul-rows-3 : tie.Need-mul-rows-3
-mul-rows-3 c = search needs
+mul-path-ids-3 : tie.Need-mul-path-ids-3
+mul-path-ids-3 c = search needs
 
-slice-write-rows : tie.Need-slice-write-rows
-slice-write-rows c = search needs
+slice-write-path-ids : tie.Need-slice-write-path-ids
+slice-write-path-ids c = search needs
 
 same-length : tie.Need-same-length
 same-length c = search needs
@@ -109,11 +109,11 @@ begin-spec =
     add-labels-4
     mul-labels-4
     slice-write-labels-4
-    mul-rows
-    shared-slice-read-rows
-    mul-rows-2
-    mul-rows-3
-    slice-write-rows
+    mul-path-ids
+    shared-slice-read-path-ids
+    mul-path-ids-2
+    mul-path-ids-3
+    slice-write-path-ids
     same-length
     same-length-2
     returns)

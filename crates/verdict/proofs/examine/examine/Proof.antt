@@ -1,11 +1,11 @@
 -- `verdict::examine::examine` reads one record after the other, as many as there are words at most. Assumes nothing.
 use native.Mathlib.Omega.{arith}
-use mathlib.Core.Path.{refl, sym, ap, _∙_}
+use mathlib.Core.Path.{sym, _∙_}
 use lib.ListN.{length}
 use Rattle.rule.specs.Words.{wordsOf}
 use Rattle.key_index.specs.laws.IndexLaws.{no-keys-yet}
 use Rattle.table.specs.laws.WordLaws.{count-of-words}
-use Rattle.verdict.specs.laws.ExaminationLaws.{Examining, examining-starts, examining-next, examining-accepts, examining-knows, examining-refuses, examining-ends, refused-knows, bad-length, good-length, length-fits}
+use Rattle.verdict.specs.laws.ExaminationLaws.{Examining, examining-starts, examining-next, examining-accepts, examining-refuses, examining-ends, refused-passes, accepted-passes, bad-length, good-length, length-fits}
 use borrow.Author.Needs.{needs}
 use Rattle.verdict.proofs.examine.examine.Statement.{statement}
 use Rattle.verdict.proofs.examine.examine.Tie as tie
@@ -20,16 +20,16 @@ has-bad-length-requires : tie.Need-has-bad-length-requires Inv-loop μ-loop
 has-bad-length-requires c κs = search needs
 
 returns : tie.Need-returns Inv-loop μ-loop
-returns c = (bad-length (c .before .before .before .before .args .table .now) (c .before .has-bad-length .result) (c .before .has-bad-length .ensures) (c .if1 .taken), refused-knows)
+returns c = (bad-length (c .before .before .before .before .args .table .now) (c .before .has-bad-length .result) (c .before .has-bad-length .ensures) (c .if1 .taken), refused-passes)
 
 loop-holds : tie.Need-loop-holds Inv-loop μ-loop
-loop-holds c = examining-starts (wordsOf (c .before .before .before .before .args .table .now)) _ (c .before .before .before .before .args .links .now) _ (sym (count-of-words (c .before .before .before .before .args .table .now))) no-keys-yet (c .before .before .before .before .pre)
+loop-holds c = examining-starts (wordsOf (c .before .before .before .before .args .table .now)) _ (c .before .before .before .before .args .link-index .now) _ (sym (count-of-words (c .before .before .before .before .args .table .now))) no-keys-yet (c .before .before .before .before .pre)
 
 slice-aggregate-read-record : tie.Need-slice-aggregate-read-record Inv-loop μ-loop
 slice-aggregate-read-record c = search needs
 
 read-record-requires : tie.Need-read-record-requires Inv-loop μ-loop
-read-record-requires c κs = ((omega (arith, c .before .before .before .loop .inv .within, count-of-words (c .before .before .before .before .before .before .before .before .args .table .now)), length-fits _ _ (c .before .before .before .before .before .has-bad-length .ensures) (c .before .before .before .before .if1 .left)), c .before .before .before .loop .inv .indexes)
+read-record-requires c κs = (record { within = omega (arith, c .before .before .before .loop .inv .within, count-of-words (c .before .before .before .before .before .before .before .before .args .table .now)); bounded = length-fits _ _ (c .before .before .before .before .before .has-bad-length .ensures) (c .before .before .before .before .if1 .left) }, c .before .before .before .loop .inv .indexes)
 
 enum-known-read : tie.Need-enum-known-read Inv-loop μ-loop
 enum-known-read c = search needs
@@ -41,7 +41,9 @@ same-length : tie.Need-same-length Inv-loop μ-loop
 same-length c = search needs
 
 returns-2 : tie.Need-returns-2 Inv-loop μ-loop
-returns-2 c = (good-length (c .before .before .before .before .before .before .before .before .before .before .before .before .before .before .args .table .now) (c .before .before .before .before .before .before .before .before .before .before .before .has-bad-length .result) _ (c .before .before .before .before .before .before .before .before .before .before .before .has-bad-length .ensures) (c .before .before .before .before .before .before .before .before .before .before .if1 .left) (examining-accepts (c .before .before .before .before .before .before .before .before .before .loop .inv) (c .before .before .before .before .before .read-record .result) (c .before .before .before .before .before .read-record .ensures .0) (c .before .before .before .before .before .before .before .before .loop-test .taken) (c .enum-told .given .1)), examining-knows (c .before .before .before .before .before .before .before .before .before .loop .inv) (c .before .before .before .before .before .read-record .result) (c .before .before .before .before .before .read-record .ensures .0) (c .before .before .before .before .before .before .before .before .loop-test .taken) _ _ (c .enum-told .given .1) (c .before .before .before .before .before .read-record .ensures .1))
+returns-2 c =
+    let accepts = good-length (c .before .before .before .before .before .before .before .before .before .before .before .before .before .before .args .table .now) (c .before .before .before .before .before .before .before .before .before .before .before .has-bad-length .result) _ (c .before .before .before .before .before .before .before .before .before .before .before .has-bad-length .ensures) (c .before .before .before .before .before .before .before .before .before .before .if1 .left) (examining-accepts (c .before .before .before .before .before .before .before .before .before .loop .inv) (c .before .before .before .before .before .read-record .result) (c .before .before .before .before .before .read-record .ensures .0) (c .before .before .before .before .before .before .before .before .loop-test .taken) (c .enum-told .given .1))
+    in (accepts, accepted-passes accepts (c .before .before .before .before .before .before .before .before .before .loop .inv .within) (length-fits _ _ (c .before .before .before .before .before .before .before .before .before .before .before .has-bad-length .ensures) (c .before .before .before .before .before .before .before .before .before .before .if1 .left)) (c .before .before .before .before .before .read-record .ensures .1 .at-end (c .enum-told .given .1) .by-number))
 
 enum-known-read-2 : tie.Need-enum-known-read-2 Inv-loop μ-loop
 enum-known-read-2 c = search needs
@@ -50,7 +52,7 @@ same-length-2 : tie.Need-same-length-2 Inv-loop μ-loop
 same-length-2 c = search needs
 
 returns-3 : tie.Need-returns-3 Inv-loop μ-loop
-returns-3 c = (good-length (c .before .before .before .before .before .before .before .before .before .before .before .before .before .before .before .args .table .now) (c .before .before .before .before .before .before .before .before .before .before .before .before .has-bad-length .result) _ (c .before .before .before .before .before .before .before .before .before .before .before .before .has-bad-length .ensures) (c .before .before .before .before .before .before .before .before .before .before .before .if1 .left) (examining-refuses (c .before .before .before .before .before .before .before .before .before .before .loop .inv) (c .before .before .before .before .before .before .read-record .result) (c .before .before .before .before .before .before .read-record .ensures .0) (c .before .before .before .before .before .before .before .before .before .loop-test .taken) _ _ _ (c .before .read2 .given .1)), refused-knows)
+returns-3 c = (good-length (c .before .before .before .before .before .before .before .before .before .before .before .before .before .before .before .args .table .now) (c .before .before .before .before .before .before .before .before .before .before .before .before .has-bad-length .result) _ (c .before .before .before .before .before .before .before .before .before .before .before .before .has-bad-length .ensures) (c .before .before .before .before .before .before .before .before .before .before .before .if1 .left) (examining-refuses (c .before .before .before .before .before .before .before .before .before .before .loop .inv) (c .before .before .before .before .before .before .read-record .result) (c .before .before .before .before .before .before .read-record .ensures .0) (c .before .before .before .before .before .before .before .before .before .loop-test .taken) _ _ _ (c .before .read2 .given .1)), refused-passes)
 
 sub-left : tie.Need-sub-left Inv-loop μ-loop
 sub-left c = search needs
@@ -68,7 +70,7 @@ same-length-3 : tie.Need-same-length-3 Inv-loop μ-loop
 same-length-3 c = search needs
 
 returns-4 : tie.Need-returns-4 Inv-loop μ-loop
-returns-4 c = (good-length (c .before .before .before .before .before .before .args .table .now) (c .before .before .before .has-bad-length .result) _ (c .before .before .before .has-bad-length .ensures) (c .before .before .if1 .left) (examining-ends (c .before .loop .inv) (omega arith) _ (sym (count-of-words (c .before .before .before .before .before .before .args .table .now)))), refused-knows)
+returns-4 c = (good-length (c .before .before .before .before .before .before .args .table .now) (c .before .before .before .has-bad-length .result) _ (c .before .before .before .has-bad-length .ensures) (c .before .before .if1 .left) (examining-ends (c .before .loop .inv) (omega arith) _ (sym (count-of-words (c .before .before .before .before .before .before .args .table .now)))), refused-passes)
 
 pub examine-spec : {M : Type 1} → statement M
 examine-spec =

@@ -15,7 +15,7 @@ cast-t11 : tie.Need-cast-t11
 cast-t11 c = search needs
 
 returns : tie.Need-returns
-returns c = (no-end (c .before .before .before .before .before .args .table .now) (c .before .before .before .before .before .args .s) (c .before .words-read .result) _ (c .before .words-read .ensures) refl (c .if1 .taken) (c .before .before .before .before .before .pre .0 .0), refused-keeps refl)
+returns c = (no-end (c .before .before .before .before .before .args .table .now) (c .before .before .before .before .before .args .s) (c .before .words-read .result) _ (c .before .words-read .ensures) refl (c .if1 .taken) (c .before .before .before .before .before .pre .0 .within), refused-keeps refl)
 
 word-at-requires : tie.Need-word-at-requires
 word-at-requires c κs = search needs

@@ -1,0 +1,46 @@
+-- `bench_calls::calls::bench_path` gives the cost that the path call answers, or its refusal number. Assumes nothing.
+use borrow.Author.Needs.{needs}
+use mathlib.Core.Path.{sym, ap}
+use Rattle.rule.specs.declared.answer.PathAnswer.{PathAnswer}
+use Rattle.rule.specs.Answers.{pathValues}
+use Rattle.bench_calls.specs.BenchCalls.{costOrRefusal}
+use Rattle.bench_calls.specs.laws.BenchCallLaws.{path-number}
+use Rattle.bench_calls.proofs.calls.bench_path.Statement.{statement}
+use Rattle.bench_calls.proofs.calls.bench_path.Tie as tie
+
+slice-aggregate-path : tie.Need-slice-aggregate-path
+slice-aggregate-path c = search needs
+
+path-requires : tie.Need-path-requires
+path-requires c κs = search needs
+
+enum-known-answer : tie.Need-enum-known-answer
+enum-known-answer c = search needs
+
+enum-known-answer-2 : tie.Need-enum-known-answer-2
+enum-known-answer-2 c = search needs
+
+returns : tie.Need-returns
+returns c =
+    let at-call = c .before .before .before .before in
+    let at-start = at-call .before .before .before in
+    path-number (at-start .args .table .now) (at-start .args .vid) (at-start .args .from) (at-start .args .to) (at-call .path .result) _ (at-call .path .ensures)
+    (sym (ap (λ (x : PathAnswer). costOrRefusal (pathValues x)) (c .before .answer .given .1)))
+
+returns-2 : tie.Need-returns-2
+returns-2 c =
+    let at-call = c .before .before .before .before in
+    let at-start = at-call .before .before .before in
+    path-number (at-start .args .table .now) (at-start .args .vid) (at-start .args .from) (at-start .args .to) (at-call .path .result) _ (at-call .path .ensures)
+    (sym (ap (λ (x : PathAnswer). costOrRefusal (pathValues x)) (c .before .answer2 .given .1)))
+
+pub bench-path-spec : {M : Type 1} → statement M
+bench-path-spec =
+    tie.close
+    (tie.spec
+    slice-aggregate-path
+    path-requires
+    enum-known-answer
+    enum-known-answer-2
+    returns
+    returns-2)

@@ -1,0 +1,59 @@
+-- `egress::leaving::write_egress_row` writes the port for bridge after bridge. Assumes nothing.
+use Prim.Native.Nat.{_-_}
+use Rattle.egress.specs.laws.WalkingLaws.{Rowing, rowing-starts, rowing-length, rowing-room, rowing-goes-on, rowing-ends}
+use borrow.Author.Needs.{needs}
+use Rattle.egress.proofs.leaving.write_egress_row.Statement.{statement}
+use Rattle.egress.proofs.leaving.write_egress_row.Tie as tie
+
+abbrev Inv-loop : tie.InvT-loop
+Inv-loop labels hops b n rows₀ at d₀ rows d = Rowing labels hops b n rows₀ at d rows
+
+abbrev μ-loop : tie.MeasureT-loop
+μ-loop labels hops b n rows₀ at d₀ rows d = n - d
+
+loop-holds : tie.Need-loop-holds Inv-loop μ-loop
+loop-holds c = rowing-starts _ _ _ _ _ _ ((c .before .before .before .pre .3))
+
+egress-port-requires : tie.Need-egress-port-requires Inv-loop μ-loop
+egress-port-requires c κs = (record { count = (c .before .before .before .before .before .args .n); walkable = (c .before .before .before .before .before .pre .0); inside = (c .loop-test .taken) }, (c .before .before .before .before .before .pre .1), (c .before .before .before .before .before .pre .2))
+
+add-egress-rows : tie.Need-add-egress-rows Inv-loop μ-loop
+add-egress-rows c = search needs
+
+mul-egress-rows : tie.Need-mul-egress-rows Inv-loop μ-loop
+mul-egress-rows c = search needs
+
+slice-write-egress-rows : tie.Need-slice-write-egress-rows Inv-loop μ-loop
+slice-write-egress-rows c = rowing-room ((c .before .before .loop .inv)) ((c .before .loop-test .taken))
+
+add-d : tie.Need-add-d Inv-loop μ-loop
+add-d c = search needs
+
+loop-less : tie.Need-loop-less Inv-loop μ-loop
+loop-less c = search needs
+
+loop-again : tie.Need-loop-again Inv-loop μ-loop
+loop-again c = rowing-goes-on ((c .before .before .loop .inv)) ((c .before .loop-test .taken)) ((c .egress-port .ensures))
+
+same-length : tie.Need-same-length Inv-loop μ-loop
+same-length c = rowing-length ((c .before .loop .inv))
+
+returns : tie.Need-returns Inv-loop μ-loop
+returns c = rowing-ends ((c .before .loop .inv)) ((c .loop-test .left))
+
+pub write-egress-row-spec : {M : Type 1} → statement M
+write-egress-row-spec =
+    tie.close
+    (tie.spec
+    Inv-loop
+    μ-loop
+    loop-holds
+    egress-port-requires
+    add-egress-rows
+    mul-egress-rows
+    slice-write-egress-rows
+    add-d
+    loop-less
+    loop-again
+    same-length
+    returns)

@@ -1,0 +1,88 @@
+-- `listing_lines::path_line::write_path_answer` writes the line of the answer: the front of the list has the bridges of a path. Assumes nothing.
+use native.Mathlib.Omega.{arith}
+use mathlib.Core.Path.{sym, ap}
+use lib.ListN.{length-take}
+use Rattle.rule.specs.Outcome.{Outcome}
+use Rattle.rule.specs.Answers.{CostAndHops, pathValues}
+use Rattle.text.specs.laws.TextLaws.{written-as}
+use Rattle.listing_lines.specs.Listing.{pathLine}
+use Rattle.listing_lines.specs.PathAnswers.{givenPath}
+use Rattle.listing_lines.specs.laws.PathLineLaws.{given-fits, given-bridges}
+use borrow.Author.Needs.{needs}
+use Rattle.listing_lines.proofs.path_line.write_path_answer.Statement.{statement}
+use Rattle.listing_lines.proofs.path_line.write_path_answer.Tie as tie
+
+enum-known-answer : tie.Need-enum-known-answer
+enum-known-answer c = search needs
+
+bridges-requires : tie.Need-bridges-requires
+bridges-requires c κs = search needs
+
+slice-aggregate-write-given-path : tie.Need-slice-aggregate-write-given-path
+slice-aggregate-write-given-path c =
+    let at-bridges = c .before in
+    let at-answer = at-bridges .before .before in
+    let at-start = at-answer .before .before .before .before in
+    let fits = given-fits (pathValues (at-start .args .answer)) (at-start .args .list .now) (ap pathValues (at-answer .answer .given .1))
+    (at-bridges .bridges .ensures) (at-start .pre .0) in
+    simp length-take (omega (arith, fits))
+
+write-given-path-requires : tie.Need-write-given-path-requires
+write-given-path-requires c κs =
+    let at-bridges = c .before .before in
+    let at-answer = at-bridges .before .before in
+    let at-start = at-answer .before .before .before .before in
+    let fits = given-fits (pathValues (at-start .args .answer)) (at-start .args .list .now) (ap pathValues (at-answer .answer .given .1))
+    (at-bridges .bridges .ensures) (at-start .pre .0) in
+    simp length-take (omega (arith, fits, at-start .pre .1, at-start .pre .2))
+
+enum-told : tie.Need-enum-told
+enum-told c = search needs
+
+write-none-requires : tie.Need-write-none-requires
+write-none-requires c κs = search needs
+
+same-length : tie.Need-same-length
+same-length c = search needs
+
+returns : tie.Need-returns
+returns c =
+    let at-write-given-path = c .before .before in
+    let at-bridges = at-write-given-path .before .before .before in
+    let at-answer = at-bridges .before .before in
+    let at-start = at-answer .before .before .before .before in (
+      written-as (at-write-given-path .write-given-path .ensures .0) _
+          (ap (pathLine (at-start .args .vid) (at-start .args .from) (at-start .args .to))
+          (given-bridges (pathValues (at-start .args .answer)) (at-start .args .list .now) (ap pathValues (at-answer .answer .given .1))
+          (at-bridges .bridges .ensures))),
+      at-write-given-path .write-given-path .ensures .1,
+    )
+
+same-length-2 : tie.Need-same-length-2
+same-length-2 c = search needs
+
+returns-2 : tie.Need-returns-2
+returns-2 c =
+    let at-write-none = c .before .before in
+    let at-enum-told = at-write-none .before .before in
+    let at-start = at-enum-told .before .before .before .before in (
+      written-as (at-write-none .write-none .ensures .0) _
+          (ap (λ (o : Outcome CostAndHops). pathLine (at-start .args .vid) (at-start .args .from) (at-start .args .to) (givenPath o (at-start .args .list .now)))
+          (sym (ap pathValues (at-enum-told .enum-told .given .1)))),
+      omega (arith, at-write-none .write-none .ensures .1),
+    )
+
+pub write-path-answer-spec : {M : Type 1} → statement M
+write-path-answer-spec =
+    tie.close
+    (tie.spec
+    enum-known-answer
+    bridges-requires
+    slice-aggregate-write-given-path
+    write-given-path-requires
+    enum-told
+    write-none-requires
+    same-length
+    returns
+    same-length-2
+    returns-2)

@@ -1,0 +1,53 @@
+-- `listing_parts::labelled_line::write_path_line` writes the line of what the labels answer: the list holds every path. Assumes nothing.
+use Prim.Native.Nat.{ℕ}
+use mathlib.Core.Path.{ap}
+use lib.ListN.{replicate, length-replicate}
+use Rattle.text.specs.laws.TextLaws.{written-as}
+use Rattle.listing_lines.specs.Listing.{pathLine}
+use Rattle.listing_parts.specs.laws.LabelledLineLaws.{labels-answer}
+use borrow.Author.Needs.{needs}
+use Rattle.listing_parts.proofs.labelled_line.write_path_line.Statement.{statement}
+use Rattle.listing_parts.proofs.labelled_line.write_path_line.Tie as tie
+
+slice-aggregate-labelled-path : tie.Need-slice-aggregate-labelled-path
+slice-aggregate-labelled-path c = search needs
+
+labelled-path-requires : tie.Need-labelled-path-requires
+labelled-path-requires c κs = search needs
+
+slice-aggregate-write-path-answer : tie.Need-slice-aggregate-write-path-answer
+slice-aggregate-write-path-answer c = search needs
+
+write-path-answer-requires : tie.Need-write-path-answer-requires
+write-path-answer-requires c κs =
+    let at-labelled-path = c .before .before .before in
+    let at-start = at-labelled-path .before .before .before .before in
+    let answer = labels-answer (at-start .args .labels .now) (at-start .args .from) (at-start .pre .1) (replicate 64 0) _ (length-replicate {A = ℕ} 64 0) _
+    (at-labelled-path .labelled-path .ensures) in
+    (answer .0, search needs, at-start .pre .2)
+
+same-length : tie.Need-same-length
+same-length c = search needs
+
+returns : tie.Need-returns
+returns c =
+    let at-write-path-answer = c .before .before in
+    let at-labelled-path = at-write-path-answer .before .before .before .before in
+    let at-start = at-labelled-path .before .before .before .before in
+    let answer = labels-answer (at-start .args .labels .now) (at-start .args .from) (at-start .pre .1) (replicate 64 0) _ (length-replicate {A = ℕ} 64 0) _
+    (at-labelled-path .labelled-path .ensures) in (
+      written-as (at-write-path-answer .write-path-answer .ensures .0) _
+          (ap (pathLine (at-start .args .vid) (at-start .args .from) (at-start .args .to)) (answer .1)),
+      at-write-path-answer .write-path-answer .ensures .1,
+    )
+
+pub write-path-line-spec : {M : Type 1} → statement M
+write-path-line-spec =
+    tie.close
+    (tie.spec
+    slice-aggregate-labelled-path
+    labelled-path-requires
+    slice-aggregate-write-path-answer
+    write-path-answer-requires
+    same-length
+    returns)

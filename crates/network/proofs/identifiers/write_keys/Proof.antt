@@ -1,0 +1,78 @@
+-- `network::identifiers::write_keys` writes the masked identifier of each bridge. Assumes nothing.
+use Prim.Native.Nat.{ℕ, _-_}
+use mathlib.Core.Path.{ap, _∙_}
+use Rattle.rule.specs.Identifiers.{maskedBytes}
+use native.Mathlib.Omega.{arith}
+use Rattle.network.specs.Layout.{bridgesIn}
+use Rattle.network.specs.laws.IdentifierLaws.{Masking, masking-starts, masking-on, masking-ends}
+use borrow.Author.Needs.{needs}
+use Rattle.network.proofs.identifiers.write_keys.Statement.{statement}
+use Rattle.network.proofs.identifiers.write_keys.Tie as tie
+
+abbrev Inv-loop : tie.InvT-loop
+Inv-loop network mask keys₀ n u₀ keys u = Masking network mask keys₀ keys u
+
+abbrev μ-loop : tie.MeasureT-loop
+μ-loop network mask keys₀ n u₀ keys u = bridgesIn network - u
+
+-- src/identifiers.rt:34:9
+bridges-requires : tie.Need-bridges-requires Inv-loop μ-loop
+bridges-requires c κs = search needs
+
+-- src/identifiers.rt:36:5
+loop-holds : tie.Need-loop-holds Inv-loop μ-loop
+loop-holds c = masking-starts _ _ _
+
+-- src/identifiers.rt:37:37
+identifier-requires : tie.Need-identifier-requires Inv-loop μ-loop
+identifier-requires c κs = search needs
+
+-- src/identifiers.rt:37:19
+masked-identifier-requires : tie.Need-masked-identifier-requires Inv-loop μ-loop
+masked-identifier-requires c κs = search needs
+
+-- src/identifiers.rt:37:9
+mul-keys : tie.Need-mul-keys Inv-loop μ-loop
+mul-keys c = search needs
+
+-- src/identifiers.rt:37:9
+slice-write-keys : tie.Need-slice-write-keys Inv-loop μ-loop
+slice-write-keys c = search needs
+
+-- src/identifiers.rt:38:9
+add-u : tie.Need-add-u Inv-loop μ-loop
+add-u c = search needs
+
+-- src/identifiers.rt:36:5
+loop-less : tie.Need-loop-less Inv-loop μ-loop
+loop-less c = search needs
+
+-- src/identifiers.rt:36:5
+loop-again : tie.Need-loop-again Inv-loop μ-loop
+loop-again c = masking-on (c .before .before .before .loop .inv) (c .before .before .before .before .before .before .before .pre .2) _ (omega (arith, c .before .before .before .before .bridges .ensures)) (c .masked-identifier .ensures ∙ ap (λ (x : ℕ). maskedBytes 8 (c .before .before .before .before .before .before .before .args .mask) x) (c .before .identifier .ensures))
+
+-- src/identifiers.rt:30:1
+same-length : tie.Need-same-length Inv-loop μ-loop
+same-length c = search needs
+
+-- src/identifiers.rt:30:1
+returns : tie.Need-returns Inv-loop μ-loop
+returns c = masking-ends (c .before .loop .inv) (c .before .before .before .before .before .pre .2) (omega (arith, c .before .before .bridges .ensures))
+
+pub write-keys-spec : {M : Type 1} → statement M
+write-keys-spec =
+    tie.close
+    (tie.spec
+    Inv-loop
+    μ-loop
+    bridges-requires
+    loop-holds
+    identifier-requires
+    masked-identifier-requires
+    mul-keys
+    slice-write-keys
+    add-u
+    loop-less
+    loop-again
+    same-length
+    returns)

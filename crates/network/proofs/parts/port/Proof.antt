@@ -1,0 +1,27 @@
+-- `network::parts::port` reads a word of its part. Assumes nothing.
+use native.Mathlib.Omega.{arith}
+use mathlib.Core.Path.{sym, _∙_}
+use Rattle.network.specs.Layout.{portsAt}
+use Rattle.network.specs.laws.LayoutLaws.{part-at}
+use borrow.Author.Needs.{needs}
+use Rattle.network.proofs.parts.port.Statement.{statement}
+use Rattle.network.proofs.parts.port.Tie as tie
+
+-- src/parts.rt:59:13
+add-result : tie.Need-add-result
+add-result c = search needs
+
+-- src/parts.rt:59:5
+mul-result : tie.Need-mul-result
+mul-result c = search needs
+
+-- src/parts.rt:59:5
+shared-slice-read-result : tie.Need-shared-slice-read-result
+shared-slice-read-result c = search needs
+
+-- src/parts.rt:55:1
+returns : tie.Need-returns
+returns c = sym (part-at (c .before .args .network .now) portsAt 512 (c .before .args .i) (omega arith))
+
+pub port-spec : {M : Type 1} → statement M
+port-spec = tie.close (tie.spec add-result mul-result shared-slice-read-result returns)

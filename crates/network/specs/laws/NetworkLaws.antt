@@ -1,0 +1,158 @@
+-- The network of a plan stands for its graph, and its keys for those of an ECT index; and the network made of a checked table is that of
+-- its plan. Assumes nothing.
+use Prim.Native.Nat.{ℕ, _+_, _*_, _-_, _≤_, _<_}
+use native.Mathlib.Omega.{arith}
+use mathlib.Core.Path.{_≡_, refl, sym, ap, _∙_, subst}
+use mathlib.Core.List.{List, _++_}
+use mathlib.Core.Option.{Option, none, some}
+use lib.Dec.{T}
+use lib.Seq.{getD-set-same, getD-set-other}
+use lib.ListN.{length, getD, set, take, drop, length-set}
+use Rattle.lists.specs.Lists.{spliced}
+use Rattle.lists.specs.laws.Splices.{length-spliced, put-back, place-before, place-within}
+use Rattle.rule.specs.Words.{wordsOf}
+use Rattle.rule.specs.Plan.{Plan, bridgeAt}
+use Rattle.rule.specs.PlanLaws.{PlanLaws}
+use Rattle.rule.specs.Links.{Link, graphOf, hopLink, costOf}
+use Rattle.rule.specs.laws.LinkLaws.{hop-takes, hop-joined, joined-hop, graph-laws}
+use Rattle.rule.specs.Identifiers.{maskOf, maskedBytes, keyOf}
+use Rattle.rule.specs.laws.IdentifierLaws.{key-laws}
+use Rattle.table.specs.declared.shape.Shape.{Shape}
+use Rattle.table.specs.Positions.{planAt}
+use Rattle.ect.specs.laws.MaskLaws.{masked-by-index}
+use Rattle.tree.specs.Trees.{Represents, Keyed, Represented, IsTree}
+use Rattle.verdict.specs.Examination.{Checked}
+use Rattle.links.specs.Pairs.{Lowest}
+use Rattle.verdict.specs.laws.CheckedLaws.{bridges-counted, few-bridges}
+use Rattle.network.specs.Layout.{startsAt, neighboursAt, costsAt, identifiersAt, networkWords, bridgesIn, startsIn, neighboursIn, costsIn, portsIn, identifierIn}
+use Rattle.network.specs.laws.LayoutLaws.{part-length}
+use Rattle.network.specs.Neighbours.{NeighboursOf, Lists}
+use Rattle.network.specs.laws.NeighbourLaws.{room, neighbours-of-plan, lists-too}
+use Rattle.network.specs.Networks.{IdentifiersOf, NetworkOf, TableNetwork, IsNetwork, KeysOf, TreeIn}
+
+module _ (p : Plan) (L : PlanLaws p) where
+  -- "usable when that is below 16,777,215".
+  pub hop-usable : (u v : ℕ) → graphOf p .hop u v ≤ 16777214
+  hop-usable u v = go (hopLink (p .halfLinks) u v) refl
+    where
+      go : (o : Option Link) → hopLink (p .halfLinks) u v ≡ o → costOf o ≤ 16777214
+      go none e = omega arith
+      go (some l) e = omega (arith, hop-takes (p .halfLinks) u v l e .link .usable)
+
+  pub neighbours-represent :
+      {n : ℕ} {starts neighbours costs ports : List ℕ} →
+      length (p .bridges) ≡ n →
+      NeighboursOf p n starts neighbours costs ports →
+      n < length starts →
+      512 ≤ length neighbours →
+      512 ≤ length costs →
+      Represents (graphOf p) n starts neighbours costs
+  neighbours-represent e N s m c =
+      record {
+        size-is = e;
+        most = omega (arith, L .bridges .few);
+        laws = graph-laws p L;
+        all-between = λ u. tt;
+        hop-most = hop-usable;
+        has-starts = s;
+        in-order = N .in-order;
+        has-neighbours = λ u l. omega (arith, N .few u l);
+        has-costs = λ u l. omega (arith, N .few u l);
+        joined = λ u i l a b. let (k, f, g, h) = N .joined u i l a b in hop-joined p L u _ k f;
+        cost-is = λ u i l a b. let (k, f, g, h) = N .joined u i l a b in g ∙ sym (ap costOf f);
+        listed = λ u v l j. let (k, f) = joined-hop p L u v j in N .listed u v l k f;
+      }
+
+-- The keys that the masking writes are those of the index.
+module _ {net : List ℕ} (index mask : ℕ) (keys : List ℕ) (m : mask ≡ maskOf index) (K : KeysOf net mask keys) where
+  keyed : (p : Plan) → NetworkOf p net → Keyed (graphOf p) (keyOf p index) keys
+  keyed p B = record {
+    laws = key-laws p (B .laws) index;
+    has-keys = omega (arith, B .represents .size-is, K .has-keys);
+    key-is = λ u l.
+        let h : u < bridgesIn net = omega (arith, B .represents .size-is)
+        in K .held u h
+        ∙ ap (λ (x : ℕ). maskedBytes 8 x (identifierIn net u)) m
+        ∙ ap (maskedBytes 8 (maskOf index)) (B .identified u h)
+        ∙ masked-by-index index (bridgeAt p u .identifier);
+  }
+
+  -- The search over the parts of a network finds the tree of its plan.
+  module _ (n : ℕ) (counted : n ≡ bridgesIn net) where
+    pub network-represented : IsNetwork net → Represented n (startsIn net) (neighboursIn net) (costsIn net) keys
+    network-represented L =
+        record {
+          graph = graphOf (L .plan);
+          key = keyOf (L .plan) index;
+          represents = rw counted (L .network .represents);
+          keyed = keyed (L .plan) (L .network);
+        }
+
+    pub tree-in-network : (root : ℕ) (labels : List ℕ) → IsTree n (startsIn net) (neighboursIn net) (costsIn net) keys root labels
+        → TreeIn net index root labels
+    tree-in-network root labels t =
+        record { of-plan = λ p B. t .of-graph (graphOf p) (keyOf p index) (rw counted (B .represents)) (keyed p B) }
+
+-- The network made of a checked table is that of its plan: the hops were listed in `net`, then the identifiers written behind them, then
+-- the number of bridges in front.
+module _ {t : List ℕ} {s : Shape} (C : Checked t s) (few-links : s .«half_links» ≤ 512) {pairs net words : List ℕ}
+    (B : Lowest (planAt (wordsOf t) s .halfLinks) (planAt (wordsOf t) s .halfLinks) (s .bridges) pairs) (N : Lists pairs (s .bridges) net)
+    (size : length net ≡ networkWords) (I : IdentifiersOf (planAt (wordsOf t) s) (s .bridges) words)
+    (behind : length words ≡ length net - identifiersAt) where
+  abbrev written : List ℕ
+  written = take identifiersAt net ++ (words ++ drop (length net - identifiersAt) (drop identifiersAt net))
+
+  abbrev made : List ℕ
+  made = set written 0 (s .bridges)
+
+  written-is : written ≡ spliced net identifiersAt words
+  written-is = put-back net words identifiersAt (length net - identifiersAt) behind
+
+  written-length : length written ≡ length net
+  written-length = ap length written-is ∙ length-spliced net identifiersAt words (omega arith)
+
+  pub made-length : length made ≡ networkWords
+  made-length = length-set written 0 (s .bridges) ∙ written-length ∙ size
+
+  same : (i : ℕ) → startsAt ≤ i → i < identifiersAt → getD made i 0 ≡ getD net i 0
+  same i a b =
+      getD-set-other written 0 i (s .bridges) 0 (λ e. omega arith)
+      ∙ ap (λ (x : List ℕ). getD x i 0) written-is
+      ∙ place-before net identifiersAt words i 0 b (omega arith)
+
+  word-at : (j : ℕ) → j < length words → getD made (identifiersAt + j) 0 ≡ getD words j 0
+  word-at j l =
+      getD-set-other written 0 (identifiersAt + j) (s .bridges) 0 (λ e. omega arith)
+      ∙ ap (λ (x : List ℕ). getD x (identifiersAt + j) 0) written-is
+      ∙ place-within net identifiersAt words j 0 l (omega arith)
+
+  counted : bridgesIn made ≡ s .bridges
+  counted = getD-set-same written 0 (s .bridges) 0 (omega (arith, written-length))
+
+  hops-listed : NeighboursOf (planAt (wordsOf t) s) (s .bridges) (startsIn made) (neighboursIn made) (costsIn made) (portsIn made)
+  hops-listed = neighbours-of-plan C few-links B {net = made} (lists-too (room C few-links B) {net = net} {net′ = made} same N)
+
+  pub network-of-table : NetworkOf (planAt (wordsOf t) s) made
+  network-of-table = record {
+    size = omega (arith, made-length);
+    laws = C .laws;
+    represents = subst (λ (n : ℕ). Represents (graphOf (planAt (wordsOf t) s)) n (startsIn made) (neighboursIn made) (costsIn made)) (sym counted)
+        (neighbours-represent (planAt (wordsOf t) s) (C .laws) (bridges-counted C) hops-listed
+        (omega (arith, part-length made startsAt 65 (omega (arith, made-length)), few-bridges C))
+        (omega (arith, part-length made neighboursAt 512 (omega (arith, made-length))))
+        (omega (arith, part-length made costsAt 512 (omega (arith, made-length)))));
+    hops = subst (λ (n : ℕ). NeighboursOf (planAt (wordsOf t) s) n (startsIn made) (neighboursIn made) (costsIn made) (portsIn made)) (sym counted) hops-listed;
+    identified = λ u l.
+        let h : u < s .bridges = omega (arith, counted)
+        in let first : getD made (identifiersAt + 2 * u) 0 ≡ getD words (2 * u) 0 = word-at (2 * u) (omega (arith, few-bridges C))
+        in let second : getD made (identifiersAt + (2 * u + 1)) 0 ≡ getD words (2 * u + 1) 0 = word-at (2 * u + 1) (omega (arith, few-bridges C))
+        in let third : getD made (identifiersAt + 2 * u + 1) 0 ≡ getD made (identifiersAt + (2 * u + 1)) 0 = ap (λ (i : ℕ). getD made i 0) (omega arith)
+        in omega (arith, first, second, third, I .held u h);
+  }
+
+-- A checked table's network has its bridges.
+pub bridges-in-table : {t net : List ℕ} {s : Shape} → TableNetwork t s net → bridgesIn net ≡ s .bridges
+bridges-in-table T = sym (T .network .represents .size-is) ∙ bridges-counted (T .checked)
+
+pub is-network : {t net : List ℕ} {s : Shape} → TableNetwork t s net → IsNetwork net
+is-network {t} {net} {s} T = record { plan = planAt (wordsOf t) s; network = T .network }

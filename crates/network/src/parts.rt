@@ -1,0 +1,71 @@
+// The parts of a network, and what is read of them. No other crate knows where a part begins.
+use rule::kinds::MOST_BRIDGES;
+use rule::kinds::MOST_HALF_LINKS;
+use rule::number::two_words;
+ghost use mathlib.Core.Path.{_≡_};
+ghost use Prim.Native.Nat.{_≤_, _<_};
+ghost use lib.ListN.{length, getD};
+ghost use Rattle.network.specs.Layout.{networkWords, bridgesIn, startsIn, neighboursIn, portsIn, identifierIn};
+
+// How many bridges there are.
+pub const BRIDGES: usize = 0;
+// For each bridge, and one more, the place of its first hop.
+pub const STARTS: usize = BRIDGES + 1;
+// For each hop the bridge at its other end, its cost and its near port.
+pub const NEIGHBOURS: usize = STARTS + MOST_BRIDGES + 1;
+
+pub const COSTS: usize = NEIGHBOURS + MOST_HALF_LINKS;
+
+pub const PORTS: usize = COSTS + MOST_HALF_LINKS;
+// For each bridge its identifier, two words.
+pub const IDENTIFIERS: usize = PORTS + MOST_HALF_LINKS;
+// The words of a network.
+pub const NETWORK: usize = IDENTIFIERS + 2 * MOST_BRIDGES;
+
+fn wide(word: u32) -> usize
+    ensures { λ r. ⌜ r ≡ word ⌝ }
+{
+    word as usize
+}
+
+pub fn bridges(network: &[u32]) -> usize
+    requires { ⌜ networkWords ≤ length (now network) ⌝ }
+    ensures { λ r. ⌜ r ≡ bridgesIn (now (network .entry)) ⌝ }
+{
+    wide(network[BRIDGES])
+}
+
+// The place of the first hop of the bridge `u`, which is the place after the last hop of the bridge before it.
+pub fn first_hop(network: &[u32], u: usize) -> usize
+    requires { ⌜ (networkWords ≤ length (now network)) × (u < 65) ⌝ }
+    ensures { λ r. ⌜ r ≡ getD (startsIn (now (network .entry))) u 0 ⌝ }
+{
+    wide(network[STARTS + u])
+}
+
+// The bridge at the other end of the hop at the place `i`.
+pub fn neighbour(network: &[u32], i: usize) -> usize
+    requires { ⌜ (networkWords ≤ length (now network)) × (i < 512) ⌝ }
+    ensures { λ r. ⌜ r ≡ getD (neighboursIn (now (network .entry))) i 0 ⌝ }
+{
+    wide(network[NEIGHBOURS + i])
+}
+
+// Its near port.
+pub fn port(network: &[u32], i: usize) -> u32
+    requires { ⌜ (networkWords ≤ length (now network)) × (i < 512) ⌝ }
+    ensures { λ r. ⌜ r ≡ getD (portsIn (now (network .entry))) i 0 ⌝ }
+{
+    network[PORTS + i]
+}
+
+// The identifier of the bridge `u`.
+pub fn identifier(network: &[u32], u: usize) -> u64
+    requires { ⌜ (networkWords ≤ length (now network)) × (u < 64) ⌝ }
+    ensures { λ r. ⌜ r ≡ identifierIn (now (network .entry)) u ⌝ }
+{
+    two_words(
+        network[IDENTIFIERS + 2 * u],
+        network[IDENTIFIERS + 2 * u + 1],
+    )
+}

@@ -1,0 +1,29 @@
+-- `path::branches::branch_cost` gives the cost of a label, or 0. Assumes nothing.
+use mathlib.Core.Path.{refl}
+use borrow.Author.Tests.{eq-eqb, ne-eqb}
+use Rattle.rule.specs.Measures.{noPathCost}
+use Rattle.rule.specs.laws.MeasureLaws.{no-path, a-path}
+use borrow.Author.Needs.{needs}
+use Rattle.path.proofs.branches.branch_cost.Statement.{statement}
+use Rattle.path.proofs.branches.branch_cost.Tie as tie
+
+cost-at-requires : tie.Need-cost-at-requires
+cost-at-requires c κs = search needs
+
+is-no-path-requires : tie.Need-is-no-path-requires
+is-no-path-requires c κs = search needs
+
+returns : tie.Need-returns
+returns c =
+    let at-is-no-path = c .before in
+    let at-cost-at = at-is-no-path .before in
+    rw (eq-eqb _ noPathCost (no-path (at-cost-at .cost-at .ensures) (at-is-no-path .is-no-path .ensures) (c .if1 .taken))) refl
+
+returns-2 : tie.Need-returns-2
+returns-2 c =
+    let at-is-no-path = c .before in
+    let at-cost-at = at-is-no-path .before in
+    rw (ne-eqb _ noPathCost (a-path (at-cost-at .cost-at .ensures) (at-is-no-path .is-no-path .ensures) (c .if1 .left))) (at-cost-at .cost-at .ensures)
+
+pub branch-cost-spec : {M : Type 1} → statement M
+branch-cost-spec = tie.close (tie.spec cost-at-requires is-no-path-requires returns returns-2)

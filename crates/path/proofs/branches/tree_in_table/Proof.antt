@@ -1,0 +1,56 @@
+-- `path::branches::tree_in_table` answers by the tree that the call names. Assumes nothing.
+use borrow.Author.Needs.{needs}
+use native.Mathlib.Omega.{arith}
+use mathlib.Core.Path.{sym, ap, _∙_}
+use Rattle.rule.specs.Words.{wordsOf}
+use Rattle.rule.specs.Calls.{lentToThree}
+use Rattle.table.specs.Positions.{planAt}
+use Rattle.verdict.specs.laws.CheckedLaws.{bridges-counted, few-bridges}
+use Rattle.path.specs.laws.PlanCalls.{no-branches-named, named-branches}
+use Rattle.path.proofs.branches.tree_in_table.Statement.{statement}
+use Rattle.path.proofs.branches.tree_in_table.Tie as tie
+
+slice-aggregate-named-tree : tie.Need-slice-aggregate-named-tree
+slice-aggregate-named-tree c = search needs
+
+named-tree-requires : tie.Need-named-tree-requires
+named-tree-requires c κs = search needs
+
+refused-requires : tie.Need-refused-requires
+refused-requires c κs = search needs
+
+returns : tie.Need-returns
+returns c = no-branches-named (planAt (wordsOf (c .before .before .before .before .before .before .before .before .before .before .args .table .now)) (c .before .before .before .before .before .before .before .before .before .before .args .s)) (c .before .before .before .before .before .before .before .before .before .before .pre .0 .laws) (c .before .before .before .before .before .before .before .before .before .before .args .vid) (c .before .before .before .before .before .before .before .before .before .before .args .from) (c .before .before .before .named-tree .ensures) _ (c .refused .ensures) (c .before .before .before .before .before .before .before .before .before .before .args .costs .now) (c .before .before .before .before .before .before .before .before .before .before .args .hops .now) (c .before .before .before .before .before .before .before .before .before .before .args .lasts .now) (c .before .if1 .taken)
+
+slice-aggregate-labelled-branches : tie.Need-slice-aggregate-labelled-branches
+slice-aggregate-labelled-branches c = search needs
+
+labelled-branches-requires : tie.Need-labelled-branches-requires
+labelled-branches-requires c κs = (omega arith, few-bridges (c .before .before .before .before .before .before .before .before .before .before .before .before .before .pre .0))
+
+same-length : tie.Need-same-length
+same-length c = search needs
+
+same-length-2 : tie.Need-same-length-2
+same-length-2 c = search needs
+
+same-length-3 : tie.Need-same-length-3
+same-length-3 c = search needs
+
+returns-2 : tie.Need-returns-2
+returns-2 c = (c .before .before .before .before .before .before .labelled-branches .ensures) ∙ ap (lentToThree (c .before .before .before .before .before .before .before .before .before .before .before .before .before .before .before .before .before .before .before .before .args .costs .now) (c .before .before .before .before .before .before .before .before .before .before .before .before .before .before .before .before .before .before .before .before .args .hops .now) (c .before .before .before .before .before .before .before .before .before .before .before .before .before .before .before .before .before .before .before .before .args .lasts .now)) (named-branches (planAt (wordsOf (c .before .before .before .before .before .before .before .before .before .before .before .before .before .before .before .before .before .before .before .before .args .table .now)) (c .before .before .before .before .before .before .before .before .before .before .before .before .before .before .before .before .before .before .before .before .args .s)) (c .before .before .before .before .before .before .before .before .before .before .before .before .before .before .before .before .before .before .before .before .pre .0 .laws) (c .before .before .before .before .before .before .before .before .before .before .before .before .before .before .before .before .before .before .before .before .args .vid) (c .before .before .before .before .before .before .before .before .before .before .before .before .before .before .before .before .before .before .before .before .args .from) (c .before .before .before .before .before .before .before .before .before .before .before .before .before .named-tree .ensures) _ (sym (bridges-counted (c .before .before .before .before .before .before .before .before .before .before .before .before .before .before .before .before .before .before .before .before .pre .0))) (c .before .before .before .before .before .before .before .before .before .before .before .if1 .left))
+
+pub tree-in-table-spec : {M : Type 1} → statement M
+tree-in-table-spec =
+    tie.close
+    (tie.spec
+    slice-aggregate-named-tree
+    named-tree-requires
+    refused-requires
+    returns
+    slice-aggregate-labelled-branches
+    labelled-branches-requires
+    same-length
+    same-length-2
+    same-length-3
+    returns-2)

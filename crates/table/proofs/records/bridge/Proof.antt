@@ -1,0 +1,24 @@
+-- `table::records::bridge` reads the record where it stands. Assumes nothing.
+use native.Mathlib.Omega.{arith}
+use Prim.Native.Nat.{ℕ, _+_, _*_}
+use mathlib.Core.Path.{_≡_, ap, _∙_}
+use lib.ListN.{drop}
+use Rattle.rule.specs.Words.{wordsOf}
+use Rattle.rule.specs.Records.{bridgeOf}
+use borrow.Author.Needs.{needs}
+use Rattle.table.proofs.records.bridge.Statement.{statement}
+use Rattle.table.proofs.records.bridge.Tie as tie
+
+mul-bridge-at : tie.Need-mul-bridge-at
+mul-bridge-at c = search needs
+
+bridge-at-requires : tie.Need-bridge-at-requires
+bridge-at-requires c κs = search needs
+
+returns : tie.Need-returns
+returns c =
+    let e : 3 * (c .before .before .args .d) ≡ 0 + 3 * (c .before .before .args .d) = omega arith
+    in (c .bridge-at .ensures) ∙ ap (λ (w : ℕ). bridgeOf (drop w (wordsOf ((c .before .before .args .table .now))))) e
+
+pub bridge-spec : {M : Type 1} → statement M
+bridge-spec = tie.close (tie.spec mul-bridge-at bridge-at-requires returns)

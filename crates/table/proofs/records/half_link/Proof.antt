@@ -1,0 +1,34 @@
+-- `table::records::half_link` reads the record where it stands. Assumes nothing.
+use Prim.Native.Nat.{ℕ, _+_, _*_}
+use mathlib.Core.Path.{ap, _∙_}
+use lib.ListN.{drop}
+use Rattle.rule.specs.Words.{wordsOf}
+use Rattle.rule.specs.Records.{halfLinkOf}
+use borrow.Author.Needs.{needs}
+use Rattle.table.proofs.records.half_link.Statement.{statement}
+use Rattle.table.proofs.records.half_link.Tie as tie
+
+half-links-from-requires : tie.Need-half-links-from-requires
+half-links-from-requires c κs = search needs
+
+mul-half-link-at : tie.Need-mul-half-link-at
+mul-half-link-at c = search needs
+
+add-half-link-at : tie.Need-add-half-link-at
+add-half-link-at c = search needs
+
+half-link-at-requires : tie.Need-half-link-at-requires
+half-link-at-requires c κs = search needs
+
+returns : tie.Need-returns
+returns c = c .half-link-at .ensures ∙ ap (λ (w : ℕ). halfLinkOf (drop (w + 3 * c .before .before .before .args .i) (wordsOf (c .before .before .before .args .table .now)))) (c .before .half-links-from .ensures)
+
+pub half-link-spec : {M : Type 1} → statement M
+half-link-spec =
+    tie.close
+    (tie.spec
+    half-links-from-requires
+    mul-half-link-at
+    add-half-link-at
+    half-link-at-requires
+    returns)

@@ -1,0 +1,28 @@
+-- `table::records::vid` reads the record where it stands. Assumes nothing.
+use native.Mathlib.Omega.{arith}
+use Prim.Native.Nat.{ℕ, _+_, _*_}
+use mathlib.Core.Path.{_≡_, ap, _∙_}
+use lib.ListN.{drop}
+use Rattle.rule.specs.Words.{wordsOf}
+use Rattle.rule.specs.Records.{vidOf}
+use Rattle.table.specs.Positions.{vidsFrom}
+use borrow.Author.Needs.{needs}
+use Rattle.table.proofs.records.vid.Statement.{statement}
+use Rattle.table.proofs.records.vid.Tie as tie
+
+vids-from-requires : tie.Need-vids-from-requires
+vids-from-requires c κs = search needs
+
+add-vid-at : tie.Need-add-vid-at
+add-vid-at c = search needs
+
+vid-at-requires : tie.Need-vid-at-requires
+vid-at-requires c κs = search needs
+
+returns : tie.Need-returns
+returns c =
+    let e : (c .before .vids-from .result) + (c .before .before .before .args .k) ≡ vidsFrom ((c .before .before .before .args .s)) + 1 * (c .before .before .before .args .k) = omega (arith, (c .before .vids-from .ensures))
+    in (c .vid-at .ensures) ∙ ap (λ (w : ℕ). vidOf (drop w (wordsOf ((c .before .before .before .args .table .now))))) e
+
+pub vid-spec : {M : Type 1} → statement M
+vid-spec = tie.close (tie.spec vids-from-requires add-vid-at vid-at-requires returns)

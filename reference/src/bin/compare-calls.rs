@@ -1,0 +1,63 @@
+//! Compares what the program `probe_calls` answers with the reference: paths, costs,
+//! hops, trees and refusals with number, kind and word, and every place of the
+//! lent lists after each call. `--misread NAME` compares with a misreading, to
+//! show that it is noticed.
+
+use std::process::ExitCode;
+
+use reference::arguments::{Arguments, Usage};
+use reference::call_lines::{answer_lines, request, Question};
+use reference::comparing::{absent, Difference, Run};
+use reference::generate::questions::questions;
+use reference::program::Program;
+use reference::random::Random;
+
+const USAGE: Usage = Usage {
+    text: "compare-calls --program FILE [--seed N] [--first N] [--count N] [--misread NAME] [--require]",
+    values: &["program", "seed", "first", "count", "misread"],
+    flags: &["require"],
+};
+
+fn main() -> ExitCode {
+    let arguments = Arguments::of_process(&USAGE);
+    let program = arguments.required("program");
+    if let Some(code) = absent(program, arguments.has("require")) {
+        return code;
+    }
+    let run = Run::of(&arguments);
+    let rules = arguments.rules();
+    let mut probe = match Program::start("compare-calls", &[program]) {
+        Ok(probe) => probe,
+        Err(why) => arguments.refuse(&format!("{program} does not start: {why}")),
+    };
+    let mut asked = 0;
+    let code = run.compare("compare-calls", &mut |case| {
+        let questions = questions(&case.table, &mut Random::for_case(!run.seed, case.number));
+        asked += questions.len();
+        let expected = answer_lines(rules, &case.table, &questions);
+        let tried = probe.ask(&request(&case.table, &questions), questions.len());
+        let tried = tried.unwrap_or_else(|why| vec![format!("no answer: {why}")]);
+        difference(&questions, &expected, &tried)
+    });
+    if code != ExitCode::SUCCESS {
+        return code;
+    }
+    if let Err(report) = probe.end() {
+        println!("{report}");
+        return ExitCode::FAILURE;
+    }
+    println!("compare-calls: all {asked} questions agree");
+    ExitCode::SUCCESS
+}
+
+/// The first question of which the lines differ.
+fn difference(questions: &[Question], expected: &[String], tried: &[String]) -> Result<(), Difference> {
+    for (place, question) in questions.iter().enumerate() {
+        let [reference, tried] = [expected, tried].map(|lines| lines.get(place).map_or("", String::as_str));
+        if reference != tried {
+            let shown = |line: &str| format!("{question:?}\n{line}");
+            return Err(Difference { reference: shown(reference), tried: shown(tried) });
+        }
+    }
+    Ok(())
+}
