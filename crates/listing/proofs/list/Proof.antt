@@ -6,43 +6,33 @@ use borrow.Author.Needs.{needs}
 use Rattle.listing.proofs.list.Statement.{statement}
 use Rattle.listing.proofs.list.Tie as tie
 
--- src/main.rt:67:38
 slice-aggregate-begin-listing : tie.Need-slice-aggregate-begin-listing
 slice-aggregate-begin-listing c = search needs
 
--- src/main.rt:67:52
 slice-aggregate-begin-listing-2 : tie.Need-slice-aggregate-begin-listing-2
 slice-aggregate-begin-listing-2 c = search needs
 
--- src/main.rt:67:9
 begin-listing-requires : tie.Need-begin-listing-requires
 begin-listing-requires c κs = (omega arith, omega arith, λ i l. getD-replicate {A = ℕ} 328704 i 0 0 (omega arith))
 
--- src/main.rt:70:9
 slice-aggregate-print-parts : tie.Need-slice-aggregate-print-parts
 slice-aggregate-print-parts c = search needs
 
--- src/main.rt:72:9
 slice-aggregate-print-parts-2 : tie.Need-slice-aggregate-print-parts-2
 slice-aggregate-print-parts-2 c = search needs
 
--- src/main.rt:73:9
 slice-aggregate-print-parts-3 : tie.Need-slice-aggregate-print-parts-3
 slice-aggregate-print-parts-3 c = search needs
 
--- src/main.rt:74:9
 slice-aggregate-print-parts-4 : tie.Need-slice-aggregate-print-parts-4
 slice-aggregate-print-parts-4 c = search needs
 
--- src/main.rt:75:9
 slice-aggregate-print-parts-5 : tie.Need-slice-aggregate-print-parts-5
 slice-aggregate-print-parts-5 c = search needs
 
--- src/main.rt:68:5
 print-parts-requires : tie.Need-print-parts-requires
 print-parts-requires c κs = (c .before .before .before .before .before .before .begin-listing .ensures .1, (omega arith, omega arith, omega arith))
 
--- src/main.rt:61:1
 returns : tie.Need-returns
 returns c = search needs
 

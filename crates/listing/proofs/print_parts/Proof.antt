@@ -16,82 +16,63 @@ Inv-loop table network path-ids₀ store₀ words₀ out₀ progress₀ path-ids
 abbrev μ-loop : tie.MeasureT-loop
 μ-loop table network path-ids₀ store₀ words₀ out₀ progress₀ path-ids store words out progress = partsLeft table progress
 
--- src/main.rt:44:5
 loop-holds : tie.Need-loop-holds Inv-loop μ-loop
 loop-holds c = (c .before .before .before .before .before .before .pre .0, refl, refl, refl, refl)
 
--- src/main.rt:45:13
 next-part-requires : tie.Need-next-part-requires Inv-loop μ-loop
 next-part-requires c κs = (
   c .before .before .before .before .loop .inv .0,
   (omega (arith, c .before .before .before .before .loop .inv .1, c .before .before .before .before .before .before .before .before .before .before .before .pre .1 .0), omega (arith, c .before .before .before .before .loop .inv .3, c .before .before .before .before .before .before .before .before .before .before .before .pre .1 .1), omega (arith, c .before .before .before .before .loop .inv .4, c .before .before .before .before .before .before .before .before .before .before .before .pre .1 .2)),
 )
 
--- src/main.rt:47:30
 enum-known-next : tie.Need-enum-known-next Inv-loop μ-loop
 enum-known-next c = search needs
 
--- src/main.rt:48:27
 slice-reshare-prefix-print : tie.Need-slice-reshare-prefix-print Inv-loop μ-loop
 slice-reshare-prefix-print c = part-fits (c .before .before .before .before .before .before .before .before .before .before .before .before .before .before .before .before .before .before .before .before .before .before .before .args .table .now) (c .before .before .before .before .before .before .before .before .before .before .before .before .before .before .before .before .loop .progress) (c .before .next .given .1) _ (c .before .before .before .before .before .before .before .before .before .before .before .next-part .ensures .0)
 
--- src/main.rt:48:27
 slice-aggregate-print : tie.Need-slice-aggregate-print Inv-loop μ-loop
 slice-aggregate-print c = simp length-take (omega (arith, part-fits (c .before .before .before .before .before .before .before .before .before .before .before .before .before .before .before .before .before .before .before .before .before .before .before .before .args .table .now) (c .before .before .before .before .before .before .before .before .before .before .before .before .before .before .before .before .before .loop .progress) (c .before .before .next .given .1) _ (c .before .before .before .before .before .before .before .before .before .before .before .before .next-part .ensures .0)))
 
--- src/main.rt:48:21
 print-requires : tie.Need-print-requires Inv-loop μ-loop
 print-requires c κs = search needs
 
--- src/main.rt:49:21
 same-length : tie.Need-same-length Inv-loop μ-loop
 same-length c = search needs
 
--- src/main.rt:49:21
 same-length-2 : tie.Need-same-length-2 Inv-loop μ-loop
 same-length-2 c = search needs
 
--- src/main.rt:49:21
 same-length-3 : tie.Need-same-length-3 Inv-loop μ-loop
 same-length-3 c = search needs
 
--- src/main.rt:49:21
 same-length-4 : tie.Need-same-length-4 Inv-loop μ-loop
 same-length-4 c = search needs
 
--- src/main.rt:49:21
 returns : tie.Need-returns Inv-loop μ-loop
 returns c = search needs
 
--- src/main.rt:44:5
 loop-less : tie.Need-loop-less Inv-loop μ-loop
 loop-less c = (part-goes-on (c .before .before .before .before .before .before .before .before .before .before .before .before .before .before .before .before .before .before .before .before .before .before .before .before .before .before .args .table .now) (c .before .before .before .before .before .before .before .before .before .before .before .before .before .before .before .before .before .before .before .loop .progress) (c .before .before .before .before .next .given .1) _ _ (c .before .before .before .before .before .before .before .before .before .before .before .before .before .before .next-part .ensures .1)) .1
 
--- src/main.rt:44:5
 loop-again : tie.Need-loop-again Inv-loop μ-loop
 loop-again c = ((part-goes-on (c .before .before .before .before .before .before .before .before .before .before .before .before .before .before .before .before .before .before .before .before .before .before .before .before .before .before .args .table .now) (c .before .before .before .before .before .before .before .before .before .before .before .before .before .before .before .before .before .before .before .loop .progress) (c .before .before .before .before .next .given .1) _ _ (c .before .before .before .before .before .before .before .before .before .before .before .before .before .before .next-part .ensures .1)) .0, search needs, search needs, search needs, search needs)
 
--- src/main.rt:54:17
 enum-told : tie.Need-enum-told Inv-loop μ-loop
 enum-told c = search needs
 
--- src/main.rt:54:17
 same-length-5 : tie.Need-same-length-5 Inv-loop μ-loop
 same-length-5 c = search needs
 
--- src/main.rt:54:17
 same-length-6 : tie.Need-same-length-6 Inv-loop μ-loop
 same-length-6 c = search needs
 
--- src/main.rt:54:17
 same-length-7 : tie.Need-same-length-7 Inv-loop μ-loop
 same-length-7 c = search needs
 
--- src/main.rt:54:17
 same-length-8 : tie.Need-same-length-8 Inv-loop μ-loop
 same-length-8 c = search needs
 
--- src/main.rt:54:17
 returns-2 : tie.Need-returns-2 Inv-loop μ-loop
 returns-2 c = search needs
 

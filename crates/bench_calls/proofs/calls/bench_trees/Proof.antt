@@ -9,44 +9,35 @@ use borrow.Author.Needs.{needs}
 use Rattle.bench_calls.proofs.calls.bench_trees.Statement.{statement}
 use Rattle.bench_calls.proofs.calls.bench_trees.Tie as tie
 
--- src/calls.rt:115:35
 slice-aggregate-examine : tie.Need-slice-aggregate-examine
 slice-aggregate-examine c = search needs
 
--- src/calls.rt:115:9
 examine-requires : tie.Need-examine-requires
 examine-requires c κs = no-keys-yet
 
--- src/calls.rt:117:28
 enum-known-examined : tie.Need-enum-known-examined
 enum-known-examined c = search needs
 
--- src/calls.rt:119:17
 returns : tie.Need-returns
 returns c =
     let many = how-many bridgeOf 3 0 (wordsOf (c .before .before .before .before .before .before .before .before .before .args .table .now)) (c .before .before .before .examined .given .0 .0 .bridges)
     in too-many (c .before .before .before .before .before .before .before .before .before .args .table .now) (c .before .before .before .before .before .before .examine .result) (c .before .before .before .before .before .before .examine .ensures .0) (c .before .before .before .before .before .before .before .before .before .args .count) _ (c .before .before .before .examined .given .1) (omega (arith, c .if1 .taken, many))
 
--- src/calls.rt:121:38
 slice-aggregate-trees-of-table : tie.Need-slice-aggregate-trees-of-table
 slice-aggregate-trees-of-table c = search needs
 
--- src/calls.rt:121:13
 trees-of-table-requires : tie.Need-trees-of-table-requires
 trees-of-table-requires c κs = let passed = c .before .before .before .before .before .before .before .examine .ensures .1 _ (c .before .before .before .before .examined .given .1) in (passed .0, omega (arith, c .before .if1 .left), passed .1)
 
--- src/calls.rt:124:13
 enum-known-examined-2 : tie.Need-enum-known-examined-2
 enum-known-examined-2 c = search needs
 
--- src/calls.rt:110:1
 returns-2 : tie.Need-returns-2
 returns-2 c =
     let many = how-many bridgeOf 3 0 (wordsOf (c .before .before .before .before .before .before .before .before .before .before .before .args .table .now)) (c .before .before .before .before .before .examined .given .0 .0 .bridges)
     in trees-made (c .before .before .before .before .before .before .before .before .before .before .before .args .table .now) (c .before .before .before .before .before .before .before .before .examine .result) (c .before .before .before .before .before .before .before .before .examine .ensures .0) (c .before .before .before .before .before .before .before .before .before .before .before .args .count) _ (c .before .before .before .before .before .examined .given .1)
     (omega (arith, c .before .before .if1 .left, many)) (c .trees-of-table .ensures)
 
--- src/calls.rt:110:1
 returns-3 : tie.Need-returns-3
 returns-3 c = trees-refused (c .before .before .before .before .before .before .before .args .table .now) (c .before .before .before .before .examine .result) (c .before .before .before .before .examine .ensures .0) (c .before .before .before .before .before .before .before .args .count) _ _ _ (c .before .examined2 .given .1)
 

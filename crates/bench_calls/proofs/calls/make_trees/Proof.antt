@@ -16,36 +16,28 @@ Inv-loop network count labels₀ path-ids₀ root₀ labels path-ids root =
 abbrev μ-loop : tie.MeasureT-loop
 μ-loop network count labels₀ path-ids₀ root₀ labels path-ids root = count - root
 
--- src/calls.rt:90:5
 loop-holds : tie.Need-loop-holds Inv-loop μ-loop
 loop-holds c = (refl, refl, omega arith, refl)
 
--- src/calls.rt:91:9
 tree-in-network-requires : tie.Need-tree-in-network-requires Inv-loop μ-loop
 tree-in-network-requires c κs =
     (c .before .before .before .before .before .before .before .pre .0, omega arith, omega arith, omega (arith, c .before .before .before .before .before .before .before .pre .1, c .before .before .loop-test .taken), omega (arith, c .before .before .before .before .before .before .before .pre .2, c .before .before .before .loop .inv .0), omega (arith, c .before .before .before .before .before .before .before .pre .3, c .before .before .before .loop .inv .1))
 
--- src/calls.rt:92:9
 add-root : tie.Need-add-root Inv-loop μ-loop
 add-root c = search needs
 
--- src/calls.rt:90:5
 loop-less : tie.Need-loop-less Inv-loop μ-loop
 loop-less c = search needs
 
--- src/calls.rt:90:5
 loop-again : tie.Need-loop-again Inv-loop μ-loop
 loop-again c = (search needs, search needs, omega (arith, c .before .before .before .before .before .before .before .loop-test .taken), next-tree _ _ _ _ (c .before .before .before .before .tree-in-network .ensures))
 
--- src/calls.rt:85:1
 same-length : tie.Need-same-length Inv-loop μ-loop
 same-length c = search needs
 
--- src/calls.rt:85:1
 same-length-2 : tie.Need-same-length-2 Inv-loop μ-loop
 same-length-2 c = search needs
 
--- src/calls.rt:85:1
 returns : tie.Need-returns Inv-loop μ-loop
 returns c = all-trees _ _ _ _ _ (c .before .loop .inv .2) (c .loop-test .left) (c .before .loop .inv .3)
 

@@ -7,39 +7,30 @@ use borrow.Author.Needs.{needs}
 use Rattle.bench_calls.proofs.calls.trees_of_table.Statement.{statement}
 use Rattle.bench_calls.proofs.calls.trees_of_table.Tie as tie
 
--- src/calls.rt:104:40
 slice-aggregate-make-network : tie.Need-slice-aggregate-make-network
 slice-aggregate-make-network c = search needs
 
--- src/calls.rt:104:5
 make-network-requires : tie.Need-make-network-requires
 make-network-requires c κs = search needs
 
--- src/calls.rt:105:16
 slice-aggregate-make-trees : tie.Need-slice-aggregate-make-trees
 slice-aggregate-make-trees c = search needs
 
--- src/calls.rt:105:33
 slice-aggregate-make-trees-2 : tie.Need-slice-aggregate-make-trees-2
 slice-aggregate-make-trees-2 c = search needs
 
--- src/calls.rt:105:46
 slice-aggregate-make-trees-3 : tie.Need-slice-aggregate-make-trees-3
 slice-aggregate-make-trees-3 c = search needs
 
--- src/calls.rt:105:5
 make-trees-requires : tie.Need-make-trees-requires
 make-trees-requires c κs = (is-network (c .before .before .before .before .make-network .ensures), omega (arith, bridges-in-table (c .before .before .before .before .make-network .ensures), c .before .before .before .before .before .before .before .before .pre .1), omega arith, omega arith)
 
--- src/calls.rt:106:13
 slice-aggregate-cost-at : tie.Need-slice-aggregate-cost-at
 slice-aggregate-cost-at c = search needs
 
--- src/calls.rt:106:5
 cost-at-requires : tie.Need-cost-at-requires
 cost-at-requires c κs = search needs
 
--- src/calls.rt:97:1
 returns : tie.Need-returns
 returns c =
     c .cost-at .ensures

@@ -13,59 +13,45 @@ Inv-loop labels hops b d c₀ c = Walking labels hops b d c
 abbrev μ-loop : tie.MeasureT-loop
 μ-loop labels hops b d c₀ c = labelAt labels c .hops
 
--- src/leaving.rt:17:8
 cost-at-requires : tie.Need-cost-at-requires Inv-loop μ-loop
 cost-at-requires c κs = omega (arith, c .before .before .pre .0 .inside, c .before .before .pre .0 .walkable .most, c .before .before .pre .1)
 
--- src/leaving.rt:17:8
 is-no-path-requires : tie.Need-is-no-path-requires Inv-loop μ-loop
 is-no-path-requires c κs = search needs
 
--- src/leaving.rt:18:9
 returns : tie.Need-returns Inv-loop μ-loop
 returns c = no-way _ _ _ _ (no-path (c .before .before .cost-at .ensures) (c .before .is-no-path .ensures) (c .if1 .taken))
 
--- src/leaving.rt:21:5
 loop-holds : tie.Need-loop-holds Inv-loop μ-loop
 loop-holds c = walking-starts _ _ _ _ (c .before .before .before .before .before .pre .0) (a-path (c .before .before .cost-at .ensures) (c .before .is-no-path .ensures) (c .if1 .left))
 
--- src/leaving.rt:21:11
 hops-at-requires : tie.Need-hops-at-requires Inv-loop μ-loop
 hops-at-requires c κs = omega (arith, walking-inside (c .loop .inv), c .before .before .before .before .before .before .pre .1)
 
--- src/leaving.rt:21:11
 differs-requires : tie.Need-differs-requires Inv-loop μ-loop
 differs-requires c κs = search needs
 
--- src/leaving.rt:22:13
 next-number-requires : tie.Need-next-number-requires Inv-loop μ-loop
 next-number-requires c κs = omega (arith, walking-inside (c .before .before .before .loop .inv), c .before .before .before .before .before .before .before .before .before .pre .1)
 
--- src/leaving.rt:24:20
 mul-result : tie.Need-mul-result Inv-loop μ-loop
 mul-result c = omega (arith, walking-inside (c .before .before .before .before .before .loop .inv))
 
--- src/leaving.rt:24:20
 shared-slice-read-result : tie.Need-shared-slice-read-result Inv-loop μ-loop
 shared-slice-read-result c = omega (arith, walking-inside (c .before .before .before .before .before .before .loop .inv), c .before .before .before .before .before .before .before .before .before .before .before .before .pre .2)
 
--- src/leaving.rt:24:13
 returns-2 : tie.Need-returns-2 Inv-loop μ-loop
 returns-2 c = walking-finds (c .before .before .before .before .before .before .loop .inv) (c .before .before .before .before .before .hops-at .ensures) (differ (c .before .before .before .before .differs .ensures) (c .before .before .before .if2 .taken)) _ (c .before .before .next-number .ensures) (c .before .if3 .taken)
 
--- src/leaving.rt:26:13
 cast-c : tie.Need-cast-c Inv-loop μ-loop
 cast-c c = omega (arith, walking-inside (walking-goes-on (c .before .before .before .before .before .loop .inv) (c .before .before .before .before .hops-at .ensures) (differ (c .before .before .before .differs .ensures) (c .before .before .if2 .taken)) _ (c .before .next-number .ensures) (c .if3 .left)))
 
--- src/leaving.rt:21:5
 loop-less : tie.Need-loop-less Inv-loop μ-loop
 loop-less c = fewer-hops (c .before .before .before .before .before .loop .inv) (c .before .before .before .before .hops-at .ensures) (differ (c .before .before .before .differs .ensures) (c .before .before .if2 .taken)) _ (c .before .next-number .ensures)
 
--- src/leaving.rt:21:5
 loop-again : tie.Need-loop-again Inv-loop μ-loop
 loop-again c = walking-goes-on (c .before .before .before .before .before .loop .inv) (c .before .before .before .before .hops-at .ensures) (differ (c .before .before .before .differs .ensures) (c .before .before .if2 .taken)) _ (c .before .next-number .ensures) (c .if3 .left)
 
--- src/leaving.rt:13:1
 returns-3 : tie.Need-returns-3 Inv-loop μ-loop
 returns-3 c = walking-ends (c .before .before .before .loop .inv) (c .before .before .hops-at .ensures) (agree (c .before .differs .ensures) (c .if2 .left))
 

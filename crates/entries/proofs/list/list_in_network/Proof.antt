@@ -10,35 +10,27 @@ use borrow.Author.Needs.{needs}
 use Rattle.entries.proofs.list.list_in_network.Statement.{statement}
 use Rattle.entries.proofs.list.list_in_network.Tie as tie
 
--- src/list.rt:49:27
 slice-aggregate-hop-ports : tie.Need-slice-aggregate-hop-ports
 slice-aggregate-hop-ports c = search needs
 
--- src/list.rt:49:5
 hop-ports-requires : tie.Need-hop-ports-requires
 hop-ports-requires c κs = (is-network (c .before .before .before .before .before .before .pre .0), in-network (c .before .before .before .before .before .before .pre .0) (c .before .before .before .before .before .before .args .b) (c .before .before .before .before .before .before .pre .1), omega (arith, bridges-in-table (c .before .before .before .before .before .before .pre .0), few-bridges (c .before .before .before .before .before .before .pre .0 .checked)))
 
--- src/list.rt:51:30
 slice-aggregate-rising-ports : tie.Need-slice-aggregate-rising-ports
 slice-aggregate-rising-ports c = search needs
 
--- src/list.rt:51:48
 slice-aggregate-rising-ports-2 : tie.Need-slice-aggregate-rising-ports-2
 slice-aggregate-rising-ports-2 c = search needs
 
--- src/list.rt:51:9
 rising-ports-requires : tie.Need-rising-ports-requires
 rising-ports-requires c κs = (in-range (c .before .before .before .before .before .before .before .before .before .before .pre .0) (c .before .before .before .before .before .before .before .before .before .before .args .b) (c .before .before .before .before .before .before .before .before .before .before .pre .1) (c .before .before .before .hop-ports .ensures), few-bridges (c .before .before .before .before .before .before .before .before .before .before .pre .0 .checked), omega (arith, few-bridges (c .before .before .before .before .before .before .before .before .before .before .pre .0 .checked)), omega (arith, few-bridges (c .before .before .before .before .before .before .before .before .before .before .pre .0 .checked)))
 
--- src/list.rt:53:34
 slice-aggregate-keep-egress-rows : tie.Need-slice-aggregate-keep-egress-rows
 slice-aggregate-keep-egress-rows c = search needs
 
--- src/list.rt:53:61
 slice-aggregate-keep-egress-rows-2 : tie.Need-slice-aggregate-keep-egress-rows-2
 slice-aggregate-keep-egress-rows-2 c = search needs
 
--- src/list.rt:53:5
 keep-egress-rows-requires : tie.Need-keep-egress-rows-requires
 keep-egress-rows-requires c κs = (
   hops-ready (c .before .before .before .before .before .before .before .before .before .before .before .before .before .before .before .before .pre .0) (c .before .before .before .before .before .before .before .before .before .before .before .before .before .before .before .before .args .b) (c .before .before .before .before .before .before .before .before .before .before .before .before .before .before .before .before .pre .1) (c .before .before .before .before .before .before .before .before .before .hop-ports .ensures) (omega arith),
@@ -47,38 +39,30 @@ keep-egress-rows-requires c κs = (
   no-rows _ _ _ _ (omega arith) (omega (arith, bridges-in-table (c .before .before .before .before .before .before .before .before .before .before .before .before .before .before .before .before .pre .0), few-bridges (c .before .before .before .before .before .before .before .before .before .before .before .before .before .before .before .before .pre .0 .checked))) (λ i l. getD-replicate {A = ℕ} 6144 i 0 0 (omega arith)),
 )
 
--- src/list.rt:54:26
 slice-aggregate-whole-list : tie.Need-slice-aggregate-whole-list
 slice-aggregate-whole-list c = search needs
 
--- src/list.rt:54:33
 array-share-prefix-rises : tie.Need-array-share-prefix-rises
 array-share-prefix-rises c = search needs
 
--- src/list.rt:54:33
 slice-aggregate-whole-list-2 : tie.Need-slice-aggregate-whole-list-2
 slice-aggregate-whole-list-2 c = simp length-take (omega (arith, c .before .before .before .before .before .before .before .before .before .before .before .before .before .rising-ports .ensures .1))
 
--- src/list.rt:54:5
 whole-list-requires : tie.Need-whole-list-requires
 whole-list-requires c κs = (
   ((c .before .before .before .before .before .before .before .before .before .before .before .before .before .before .before .before .before .before .before .before .before .before .before .before .before .pre .0 .checked), c .before .before .before .before .before .before .before .before .keep-egress-rows .ensures .0 .places, c .before .before .before .before .before .before .before .before .before .before .before .before .before .before .before .before .before .before .before .before .before .before .before .before .before .pre .1),
   whole-room (c .before .before .before .before .before .before .before .before .before .before .before .before .before .before .before .before .before .before .before .before .before .before .before .before .before .pre .0) (c .before .before .before .before .before .before .before .before .before .before .before .before .before .before .before .before .before .before .before .before .before .before .before .before .before .args .b) (c .before .before .before .before .before .before .before .before .before .before .before .before .before .before .before .before .before .before .before .before .before .before .before .before .before .pre .1) (c .before .before .before .before .before .before .before .before .before .before .before .before .before .before .before .before .before .before .hop-ports .ensures) (c .before .before .before .before .before .before .before .before .before .before .before .before .before .before .rising-ports .ensures .0) (c .before .before .before .before .before .before .before .before .keep-egress-rows .ensures .0) (c .before .before .before .before .before .before .before .before .before .before .before .before .before .before .before .before .before .before .before .before .before .before .before .before .before .args .words .now) (c .before .before .before .before .before .before .before .before .before .before .before .before .before .before .before .before .before .before .before .before .before .before .before .before .before .pre .4),
 )
 
--- src/list.rt:35:1
 same-length : tie.Need-same-length
 same-length c = search needs
 
--- src/list.rt:35:1
 same-length-2 : tie.Need-same-length-2
 same-length-2 c = search needs
 
--- src/list.rt:35:1
 same-length-3 : tie.Need-same-length-3
 same-length-3 c = search needs
 
--- src/list.rt:35:1
 returns : tie.Need-returns
 returns c = (whole-written (c .before .before .before .before .before .before .before .before .before .before .before .before .before .before .before .before .before .before .before .before .before .before .before .before .before .before .before .before .pre .0) (c .before .before .before .before .before .before .before .before .before .before .before .before .before .before .before .before .before .before .before .before .before .before .before .before .before .before .before .before .args .b) (c .before .before .before .before .before .before .before .before .before .before .before .before .before .before .before .before .before .before .before .before .before .before .before .before .before .before .before .before .pre .1) (c .before .before .before .before .before .before .before .before .before .before .before .before .before .before .before .before .before .before .before .before .before .hop-ports .ensures) (c .before .before .before .before .before .before .before .before .before .before .before .before .before .before .before .before .before .rising-ports .ensures .0) (c .before .before .before .before .before .before .before .before .before .before .before .keep-egress-rows .ensures .0) (c .before .before .whole-list .ensures), c .before .before .before .before .before .before .before .before .before .before .before .keep-egress-rows .ensures .1)
 

@@ -7,35 +7,27 @@ use borrow.Author.Needs.{needs}
 use Rattle.entries.proofs.list.list_of_table.Statement.{statement}
 use Rattle.entries.proofs.list.list_of_table.Tie as tie
 
--- src/list.rt:63:40
 slice-aggregate-make-network : tie.Need-slice-aggregate-make-network
 slice-aggregate-make-network c = search needs
 
--- src/list.rt:63:5
 make-network-requires : tie.Need-make-network-requires
 make-network-requires c κs = search needs
 
--- src/list.rt:66:31
 slice-aggregate-list-in-network : tie.Need-slice-aggregate-list-in-network
 slice-aggregate-list-in-network c = search needs
 
--- src/list.rt:66:44
 slice-aggregate-list-in-network-2 : tie.Need-slice-aggregate-list-in-network-2
 slice-aggregate-list-in-network-2 c = search needs
 
--- src/list.rt:66:59
 slice-aggregate-list-in-network-3 : tie.Need-slice-aggregate-list-in-network-3
 slice-aggregate-list-in-network-3 c = search needs
 
--- src/list.rt:66:5
 list-in-network-requires : tie.Need-list-in-network-requires
 list-in-network-requires c κs = (c .before .before .before .before .before .make-network .ensures, c .before .before .before .before .before .before .before .before .before .before .pre .1, omega arith, no-trees _ _ (omega arith) (λ i l. getD-replicate {A = ℕ} 321 i 0 0 (omega arith)), c .before .before .before .before .before .before .before .before .before .before .pre .2)
 
--- src/list.rt:58:1
 same-length : tie.Need-same-length
 same-length c = search needs
 
--- src/list.rt:58:1
 returns : tie.Need-returns
 returns c = search needs
 

@@ -21,11 +21,9 @@ Inv-loop table s network hops b path-ids₀ store₀ rows₀ count₀ j₀ path-
 abbrev μ-loop : tie.MeasureT-loop
 μ-loop table s network hops b path-ids₀ store₀ rows₀ count₀ j₀ path-ids store rows count j = s .members - j
 
--- src/needed.rt:82:9
 keep-own-egress-rows-requires : tie.Need-keep-own-egress-rows-requires Inv-loop μ-loop
 keep-own-egress-rows-requires c κs = c .before .before .before .before .before .before .before .before .before .pre
 
--- src/needed.rt:84:5
 loop-holds : tie.Need-loop-holds Inv-loop μ-loop
 loop-holds c = (
   members-start (c .before .before .before .before .before .before .before .before .before .before .before .before .before .before .before .before .pre .0) (c .before .before .before .before .before .before .keep-own-egress-rows .ensures .0) (c .before .before .before .before .before .before .keep-own-egress-rows .ensures .1 .0 .1) (c .before .before .before .before .before .before .keep-own-egress-rows .ensures .1 .0 .2),
@@ -34,27 +32,21 @@ loop-holds c = (
   c .before .before .before .before .before .before .keep-own-egress-rows .ensures .1 .1,
 )
 
--- src/needed.rt:85:13
 member-requires : tie.Need-member-requires Inv-loop μ-loop
 member-requires c κs = ((c .before .before .before .before .before .before .before .before .before .before .before .before .before .before .before .before .before .before .before .pre .0 .table-network .checked) .whole, c .if1 .taken)
 
--- src/needed.rt:86:17
 cast-a : tie.Need-cast-a Inv-loop μ-loop
 cast-a c = search needs
 
--- src/needed.rt:87:13
 transmitter-index-requires : tie.Need-transmitter-index-requires Inv-loop μ-loop
 transmitter-index-requires c κs = (c .before .before .before .before .before .before .before .before .before .before .before .before .before .before .before .before .before .before .before .before .before .pre .0 .table-network .checked) .whole
 
--- src/needed.rt:89:13
 add-j : tie.Need-add-j Inv-loop μ-loop
 add-j c = search needs
 
--- src/needed.rt:84:5
 loop-less : tie.Need-loop-less Inv-loop μ-loop
 loop-less c = search needs
 
--- src/needed.rt:84:5
 loop-again : tie.Need-loop-again Inv-loop μ-loop
 loop-again c = (
   members-go-on (c .before .before .before .before .before .before .before .before .before .before .before .before .before .before .before .before .before .before .before .before .before .before .before .pre .0) (c .before .before .before .before .before .before .loop .inv .0) (c .before .before .before .before .if1 .taken) (c .before .before .before .before .before .before .loop .inv .0 .held) (kept-all _) (silent (member-silent (c .before .before .before .before .before .before .before .before .before .before .before .before .before .before .before .before .before .before .before .before .before .before .before .pre .0 .table-network .checked) (c .before .before .before .before .before .before .loop .j) (c .before .before .before .before .if1 .taken) _ (c .before .before .before .member .ensures) _ (c .before .transmitter-index .ensures) (c .if2 .taken))) (omega arith),
@@ -63,11 +55,9 @@ loop-again c = (
   c .before .before .before .before .before .before .loop .inv .3,
 )
 
--- src/needed.rt:95:13
 cast-keep-egress-row : tie.Need-cast-keep-egress-row Inv-loop μ-loop
 cast-keep-egress-row c = omega (arith, c .before .before .before .before .before .before .before .before .before .before .before .before .before .before .before .before .before .before .before .before .before .before .before .pre .0 .known, few-bridges (c .before .before .before .before .before .before .before .before .before .before .before .before .before .before .before .before .before .before .before .before .before .before .before .pre .0 .table-network .checked))
 
--- src/needed.rt:92:9
 keep-egress-row-requires : tie.Need-keep-egress-row-requires Inv-loop μ-loop
 keep-egress-row-requires c κs =
     let fits = index-fits (c .before .before .before .before .before .before .before .before .before .before .before .before .before .before .before .before .before .before .before .before .before .before .before .before .before .before .pre .0 .table-network .checked) (c .before .before .before .before .before .before .before .before .before .loop .j) (c .before .before .before .before .before .before .before .if1 .taken)
@@ -83,15 +73,12 @@ keep-egress-row-requires c κs =
       ),
     )
 
--- src/needed.rt:103:9
 add-j-2 : tie.Need-add-j-2 Inv-loop μ-loop
 add-j-2 c = search needs
 
--- src/needed.rt:84:5
 loop-less-2 : tie.Need-loop-less-2 Inv-loop μ-loop
 loop-less-2 c = search needs
 
--- src/needed.rt:84:5
 loop-again-2 : tie.Need-loop-again-2 Inv-loop μ-loop
 loop-again-2 c = (
   members-go-on (c .before .before .before .before .before .before .before .before .before .before .before .before .before .before .before .before .before .before .before .before .before .before .before .before .before .before .before .before .before .before .before .before .before .pre .0) (c .before .before .before .before .before .before .before .before .before .before .before .before .before .before .before .before .loop .inv .0) (c .before .before .before .before .before .before .before .before .before .before .before .before .before .before .if1 .taken) (c .before .before .before .before .before .before .keep-egress-row .ensures .0) (c .before .before .before .before .before .before .keep-egress-row .ensures .1 .0 .0)
@@ -101,19 +88,15 @@ loop-again-2 c = (
   c .before .before .before .before .before .before .keep-egress-row .ensures .1 .1,
 )
 
--- src/needed.rt:68:1
 same-length : tie.Need-same-length Inv-loop μ-loop
 same-length c = search needs
 
--- src/needed.rt:68:1
 same-length-2 : tie.Need-same-length-2 Inv-loop μ-loop
 same-length-2 c = search needs
 
--- src/needed.rt:68:1
 same-length-3 : tie.Need-same-length-3 Inv-loop μ-loop
 same-length-3 c = c .before .before .loop .inv .0 .kept .same-length ∙ c .before .before .before .before .before .before .before .before .before .keep-own-egress-rows .ensures .1 .0 .0 .same-length
 
--- src/needed.rt:68:1
 returns : tie.Need-returns Inv-loop μ-loop
 returns c = (members-end (c .before .before .before .before .before .before .before .before .before .before .before .before .before .before .before .before .before .before .before .pre .0) (c .before .before .loop .inv .0) (c .if1 .left), c .before .before .loop .inv .3)
 

@@ -20,19 +20,15 @@ Inv-loop table s network hops b path-ids₀ store₀ rows₀ count₀ k₀ path-
 abbrev μ-loop : tie.MeasureT-loop
 μ-loop table s network hops b path-ids₀ store₀ rows₀ count₀ k₀ path-ids store rows count k = s .vids - k
 
--- src/needed.rt:38:5
 loop-holds : tie.Need-loop-holds Inv-loop μ-loop
 loop-holds c = (own-starts (c .before .before .before .before .before .before .pre .0) (c .before .before .before .before .before .before .pre .3), refl, refl, c .before .before .before .before .before .before .pre .2)
 
--- src/needed.rt:39:13
 vid-requires : tie.Need-vid-requires Inv-loop μ-loop
 vid-requires c κs = (c .before .before .before .before .before .before .before .before .before .pre .0 .table-network .checked .whole, c .if1 .taken)
 
--- src/needed.rt:43:13
 cast-keep-egress-row : tie.Need-cast-keep-egress-row Inv-loop μ-loop
 cast-keep-egress-row c = omega (arith, c .before .before .before .before .before .before .before .before .before .before .pre .0 .known, few-bridges (c .before .before .before .before .before .before .before .before .before .before .pre .0 .table-network .checked))
 
--- src/needed.rt:40:9
 keep-egress-row-requires : tie.Need-keep-egress-row-requires Inv-loop μ-loop
 keep-egress-row-requires c κs = (
   (is-network (c .before .before .before .before .before .before .before .before .before .before .before .before .before .pre .0 .table-network), c .before .before .before .before .before .before .before .before .before .before .before .before .before .pre .0 .has-hops, omega (arith, c .before .before .before .before .before .before .before .before .before .before .before .before .before .pre .1, c .before .before .before .before .before .before .loop .inv .1), c .before .before .before .before .before .before .loop .inv .3),
@@ -45,15 +41,12 @@ keep-egress-row-requires c κs = (
   ),
 )
 
--- src/needed.rt:51:9
 add-k : tie.Need-add-k Inv-loop μ-loop
 add-k c = search needs
 
--- src/needed.rt:38:5
 loop-less : tie.Need-loop-less Inv-loop μ-loop
 loop-less c = search needs
 
--- src/needed.rt:38:5
 loop-again : tie.Need-loop-again Inv-loop μ-loop
 loop-again c = (
   own-goes-on (c .before .before .before .before .before .before .before .before .before .before .before .before .before .before .before .before .before .before .before .before .pre .0) (c .before .before .before .before .before .before .before .before .before .before .before .before .before .loop .inv .0) (c .before .before .before .before .before .before .before .before .before .before .before .if1 .taken) (c .before .before .before .before .before .before .keep-egress-row .ensures .0) (c .before .before .before .before .before .before .keep-egress-row .ensures .1 .0 .0)
@@ -63,19 +56,15 @@ loop-again c = (
   c .before .before .before .before .before .before .keep-egress-row .ensures .1 .1,
 )
 
--- src/needed.rt:21:1
 same-length : tie.Need-same-length Inv-loop μ-loop
 same-length c = search needs
 
--- src/needed.rt:21:1
 same-length-2 : tie.Need-same-length-2 Inv-loop μ-loop
 same-length-2 c = search needs
 
--- src/needed.rt:21:1
 same-length-3 : tie.Need-same-length-3 Inv-loop μ-loop
 same-length-3 c = c .before .before .loop .inv .0 .kept .same-length
 
--- src/needed.rt:21:1
 returns : tie.Need-returns Inv-loop μ-loop
 returns c = (
   c .before .before .loop .inv .0 .held,

@@ -10,15 +10,12 @@ use borrow.Author.Needs.{needs}
 use Rattle.entries.proofs.needed.transmitter_index.Statement.{statement}
 use Rattle.entries.proofs.needed.transmitter_index.Tie as tie
 
--- src/needed.rt:62:9
 returns : tie.Need-returns
 returns c = sym (ap (λ (b : Bool). cond b (indexOf (vidRecord (planAt (wordsOf (c .before .before .before .args .table .now)) (c .before .before .before .args .s)) (c .before .before .before .args .m .vid))) 0) (not-true (c .before .before .before .args .m .transmits) (c .if1 .taken)))
 
--- src/needed.rt:64:5
 index-of-requires : tie.Need-index-of-requires
 index-of-requires c κs = search needs
 
--- src/needed.rt:57:1
 returns-2 : tie.Need-returns-2
 returns-2 c = c .index-of .ensures ∙ sym (ap (λ (b : Bool). cond b (indexOf (vidRecord (planAt (wordsOf (c .before .before .before .before .args .table .now)) (c .before .before .before .before .args .s)) (c .before .before .before .before .args .m .vid))) 0) (not-false (c .before .before .before .before .args .m .transmits) (c .before .if1 .left)))
 

@@ -11,31 +11,24 @@ Inv-loop table s link-index pairs₀ i₀ pairs i = Offering table s pairs₀ pa
 abbrev μ-loop : tie.MeasureT-loop
 μ-loop table s link-index pairs₀ i₀ pairs i = s .«half_links» - i
 
--- src/pairs.rt:72:5
 loop-holds : tie.Need-loop-holds Inv-loop μ-loop
 loop-holds c = offering-starts (c .before .before .before .pre .0) (c .before .before .before .pre .1)
 
--- src/pairs.rt:73:9
 offer-requires : tie.Need-offer-requires Inv-loop μ-loop
 offer-requires c κs = (c .before .before .before .before .before .before .before .pre .0, c .before .if1 .taken, c .before .before .before .loop .inv .so-far .size, c .before .before .before .before .before .before .before .pre .2)
 
--- src/pairs.rt:74:9
 add-i : tie.Need-add-i Inv-loop μ-loop
 add-i c = search needs
 
--- src/pairs.rt:72:5
 loop-less : tie.Need-loop-less Inv-loop μ-loop
 loop-less c = search needs
 
--- src/pairs.rt:72:5
 loop-again : tie.Need-loop-again Inv-loop μ-loop
 loop-again c = offering-goes-on (c .before .before .before .before .before .before .before .before .before .before .pre .0) (c .before .before .before .before .before .before .loop .inv) (c .before .before .before .before .if1 .taken) _ (c .before .before .offer .ensures)
 
--- src/pairs.rt:67:1
 same-length : tie.Need-same-length Inv-loop μ-loop
 same-length c = search needs
 
--- src/pairs.rt:67:1
 returns : tie.Need-returns Inv-loop μ-loop
 returns c = offering-ends (c .before .before .before .before .before .before .pre .0) (c .before .before .loop .inv) (c .if1 .left)
 

@@ -8,83 +8,65 @@ use borrow.Author.Needs.{needs}
 use Rattle.listing_parts.proofs.part.write_part.Statement.{statement}
 use Rattle.listing_parts.proofs.part.write_part.Tie as tie
 
--- src/part.rt:44:9
 write-counts-requires : tie.Need-write-counts-requires
 write-counts-requires c κs = search needs
 
--- src/part.rt:44:9
 same-length : tie.Need-same-length
 same-length c = search needs
 
--- src/part.rt:44:9
 returns : tie.Need-returns
 returns c =
     (c .before .before .before .before .before .before .before .before .before .before .before .pre .1 .1, (counts-part (wordsOf (c .before .before .before .before .before .before .before .before .before .before .before .args .table .now)) (c .before .before .before .before .before .before .before .before .before .before .before .args .s) (c .before .before .before .before .if1 .taken) (c .before .before .before .before .before .before .before .before .before .before .before .pre .0 .1) (c .before .before .write-counts .ensures .0), omega (arith, c .before .before .write-counts .ensures .1)))
 
--- src/part.rt:46:16
 sub-pair : tie.Need-sub-pair
 sub-pair c = search needs
 
--- src/part.rt:47:17
 mul-pairs : tie.Need-mul-pairs
 mul-pairs c = omega (arith, few-pairs (c .before .before .before .before .before .before .before .before .args .s .vids) (c .before .before .before .before .before .before .before .before .args .s .bridges) (few-vids (c .before .before .before .before .before .before .before .before .pre .0 .0 .checked)) (few-bridges (c .before .before .before .before .before .before .before .before .pre .0 .0 .checked)))
 
--- src/part.rt:53:13
 div-write-path-lines : tie.Need-div-write-path-lines
 div-write-path-lines c = some-bridge (wordsOf (c .before .before .before .before .before .before .before .before .before .before .args .table .now)) (c .before .before .before .before .before .before .before .before .before .before .args .s) (c .before .before .before .before .before .before .before .before .before .before .args .part) (c .before .before .before .if1 .left) (c .before .if2 .taken)
 
--- src/part.rt:54:13
 rem-write-path-lines : tie.Need-rem-write-path-lines
 rem-write-path-lines c = some-bridge (wordsOf (c .before .before .before .before .before .before .before .before .before .before .before .args .table .now)) (c .before .before .before .before .before .before .before .before .before .before .before .args .s) (c .before .before .before .before .before .before .before .before .before .before .before .args .part) (c .before .before .before .before .if1 .left) (c .before .before .if2 .taken)
 
--- src/part.rt:49:9
 write-path-lines-requires : tie.Need-write-path-lines-requires
 write-path-lines-requires c κs = (
   (c .before .before .before .before .before .before .before .before .before .before .before .before .before .before .pre .0 .0, known-vid (wordsOf (c .before .before .before .before .before .before .before .before .before .before .before .before .before .before .args .table .now)) (c .before .before .before .before .before .before .before .before .before .before .before .before .before .before .args .s) (c .before .before .before .before .before .before .before .before .before .before .before .before .before .before .args .part) (c .before .before .before .before .before .before .before .if1 .left) (c .before .before .before .before .before .if2 .taken), known-from (wordsOf (c .before .before .before .before .before .before .before .before .before .before .before .before .before .before .args .table .now)) (c .before .before .before .before .before .before .before .before .before .before .before .before .before .before .args .s) (c .before .before .before .before .before .before .before .before .before .before .before .before .before .before .args .part) (c .before .before .before .before .before .before .before .if1 .left) (c .before .before .before .before .before .if2 .taken)),
   (c .before .before .before .before .before .before .before .before .before .before .before .before .before .before .pre .1 .0, c .before .before .before .before .before .before .before .before .before .before .before .before .before .before .pre .1 .1, omega (arith, few-bridges (c .before .before .before .before .before .before .before .before .before .before .before .before .before .before .pre .0 .0 .checked), c .before .before .before .before .before .before .before .before .before .before .before .before .before .before .pre .1 .3)),
 )
 
--- src/part.rt:49:9
 same-length-2 : tie.Need-same-length-2
 same-length-2 c = search needs
 
--- src/part.rt:49:9
 same-length-3 : tie.Need-same-length-3
 same-length-3 c = search needs
 
--- src/part.rt:49:9
 same-length-4 : tie.Need-same-length-4
 same-length-4 c = search needs
 
--- src/part.rt:49:9
 returns-2 : tie.Need-returns-2
 returns-2 c = (
   c .before .before .before .before .before .before .write-path-lines .ensures .0,
   (path-lines-part (wordsOf (c .before .before .before .before .before .before .before .before .before .before .before .before .before .before .before .before .before .before .before .before .before .args .table .now)) (c .before .before .before .before .before .before .before .before .before .before .before .before .before .before .before .before .before .before .before .before .before .args .s) (c .before .before .before .before .before .before .before .before .before .before .before .before .before .before .before .before .before .before .before .before .before .args .part) (c .before .before .before .before .before .before .before .before .before .before .before .before .before .before .if1 .left) (c .before .before .before .before .before .before .before .before .before .before .before .before .if2 .taken) (c .before .before .before .before .before .before .write-path-lines .ensures .1 .0), omega (arith, c .before .before .before .before .before .before .write-path-lines .ensures .1 .1, few-bridges (c .before .before .before .before .before .before .before .before .before .before .before .before .before .before .before .before .before .before .before .before .before .pre .0 .0 .checked))),
 )
 
--- src/part.rt:60:5
 write-entry-lines-of-requires : tie.Need-write-entry-lines-of-requires
 write-entry-lines-of-requires c κs =
     ((c .before .before .before .before .before .before .before .before .before .before .before .before .before .pre .0 .0, known-bridge (wordsOf (c .before .before .before .before .before .before .before .before .before .before .before .before .before .args .table .now)) (c .before .before .before .before .before .before .before .before .before .before .before .before .before .args .s) (c .before .before .before .before .before .before .before .before .before .before .before .before .before .args .part) (c .before .before .before .before .before .before .if1 .left) (c .before .before .before .before .if2 .left) (c .before .before .before .before .before .before .before .before .before .before .before .before .before .pre .0 .2), c .before .before .before .before .before .before .before .before .before .before .before .before .before .pre .1 .2, c .before .before .before .before .before .before .before .before .before .before .before .before .before .pre .1 .3), (c .before .before .before .before .before .before .before .before .before .before .before .before .before .pre .1 .0, c .before .before .before .before .before .before .before .before .before .before .before .before .before .pre .1 .1))
 
--- src/part.rt:27:1
 same-length-5 : tie.Need-same-length-5
 same-length-5 c = search needs
 
--- src/part.rt:27:1
 same-length-6 : tie.Need-same-length-6
 same-length-6 c = search needs
 
--- src/part.rt:27:1
 same-length-7 : tie.Need-same-length-7
 same-length-7 c = search needs
 
--- src/part.rt:27:1
 same-length-8 : tie.Need-same-length-8
 same-length-8 c = search needs
 
--- src/part.rt:27:1
 returns-3 : tie.Need-returns-3
 returns-3 c = (
   c .before .before .before .before .before .before .before .before .write-entry-lines-of .ensures .0,

@@ -25,23 +25,18 @@ Inv-loop table s network k from path-ids₀ store₀ out₀ v next₀ to₀ path
 abbrev μ-loop : tie.MeasureT-loop
 μ-loop table s network k from path-ids₀ store₀ out₀ v next₀ to₀ path-ids store out next to = s .bridges - to
 
--- src/path_lines.rt:34:9
 vid-requires : tie.Need-vid-requires Inv-loop μ-loop
 vid-requires c κs = ((c .before .before .before .before .before .pre .0 .0) .checked .whole, c .before .before .before .before .before .pre .0 .1)
 
--- src/path_lines.rt:37:5
 loop-holds : tie.Need-loop-holds Inv-loop μ-loop
 loop-holds c = (few-starts _ 764 _ _ 0, c .before .before .before .before .before .before .pre .1 .1, refl, refl)
 
--- src/path_lines.rt:39:13
 add-to : tie.Need-add-to Inv-loop μ-loop
 add-to c = search needs
 
--- src/path_lines.rt:37:5
 loop-less : tie.Need-loop-less Inv-loop μ-loop
 loop-less c = search needs
 
--- src/path_lines.rt:37:5
 loop-again : tie.Need-loop-again Inv-loop μ-loop
 loop-again c = (
   few-goes-on (c .before .before .before .loop .inv .0) (omega (arith, c .before .before .before .before .before .before .before .before .before .before .pre .1 .2)) (c .before .if1 .taken)
@@ -52,42 +47,33 @@ loop-again c = (
   c .before .before .before .loop .inv .3,
 )
 
--- src/path_lines.rt:42:13
 kept-tree-requires : tie.Need-kept-tree-requires Inv-loop μ-loop
 kept-tree-requires c κs = (
   (is-network (c .before .before .before .before .before .before .before .before .before .before .before .before .pre .0 .0), index-fits (c .before .before .before .before .before .before .before .before .before .before .before .before .pre .0 .0) (c .before .before .before .before .before .before .before .before .before .before .before .before .args .k) (c .before .before .before .before .before .before .before .before .before .before .before .before .pre .0 .1) _ (c .before .before .before .before .before .before .vid .ensures) .0, index-fits (c .before .before .before .before .before .before .before .before .before .before .before .before .pre .0 .0) (c .before .before .before .before .before .before .before .before .before .before .before .before .args .k) (c .before .before .before .before .before .before .before .before .before .before .before .before .pre .0 .1) _ (c .before .before .before .before .before .before .vid .ensures) .1, omega (arith, c .before .before .before .if1 .taken, bridges-in-table (c .before .before .before .before .before .before .before .before .before .before .before .before .pre .0 .0))),
   (omega (arith, c .before .before .before .before .before .before .before .before .before .before .before .before .pre .1 .0, c .before .before .before .before .before .loop .inv .2), c .before .before .before .before .before .loop .inv .1),
 )
 
--- src/path_lines.rt:44:27
 add-write-path-line : tie.Need-add-write-path-line Inv-loop μ-loop
 add-write-path-line c = omega (arith, c .before .before .before .before .kept-tree .ensures .1 .0, c .before .store .given, c .before .before .before .before .before .before .before .before .before .before .loop .inv .3, c .before .before .before .before .before .before .before .before .before .before .before .before .before .before .before .before .before .good)
 
--- src/path_lines.rt:44:13
 mul-write-path-line : tie.Need-mul-write-path-line Inv-loop μ-loop
 mul-write-path-line c = omega (arith, c .before .before .before .before .kept-tree .ensures .1 .0, c .before .store .given, c .before .before .before .before .before .before .before .before .before .before .loop .inv .3, c .before .before .before .before .before .before .before .before .before .before .before .before .before .before .before .before .before .good)
 
--- src/path_lines.rt:44:13
 sub-write-path-line : tie.Need-sub-write-path-line Inv-loop μ-loop
 sub-write-path-line c = search needs
 
--- src/path_lines.rt:44:13
 part-write-path-line-start : tie.Need-part-write-path-line-start Inv-loop μ-loop
 part-write-path-line-start c = search needs
 
--- src/path_lines.rt:44:13
 part-write-path-line-end : tie.Need-part-write-path-line-end Inv-loop μ-loop
 part-write-path-line-end c = search needs
 
--- src/path_lines.rt:46:13
 cast-write-path-line : tie.Need-cast-write-path-line Inv-loop μ-loop
 cast-write-path-line c = omega (arith, c .before .before .before .before .before .before .before .before .before .before .before .before .before .before .before .before .before .before .before .pre .0 .2, few-bridges ((c .before .before .before .before .before .before .before .before .before .before .before .before .before .before .before .before .before .before .before .pre .0 .0) .checked))
 
--- src/path_lines.rt:47:13
 cast-write-path-line-2 : tie.Need-cast-write-path-line-2 Inv-loop μ-loop
 cast-write-path-line-2 c = omega (arith, c .before .before .before .before .before .before .before .before .before .before .if1 .taken, few-bridges ((c .before .before .before .before .before .before .before .before .before .before .before .before .before .before .before .before .before .before .before .pre .0 .0) .checked))
 
--- src/path_lines.rt:43:9
 write-path-line-requires : tie.Need-write-path-line-requires Inv-loop μ-loop
 write-path-line-requires c κs = (
   simp (length-take, length-drop) (omega (arith, c .before .before .before .before .before .before .before .kept-tree .ensures .1 .0)),
@@ -95,15 +81,12 @@ write-path-line-requires c κs = (
   few-room (c .before .before .before .before .before .before .before .before .before .before .before .before .before .loop .inv .0) (omega (arith, c .before .before .before .before .before .before .before .before .before .before .before .before .before .before .before .before .before .before .before .before .pre .1 .2)) (c .before .before .before .before .before .before .before .before .before .before .before .if1 .taken),
 )
 
--- src/path_lines.rt:51:9
 add-to-2 : tie.Need-add-to-2 Inv-loop μ-loop
 add-to-2 c = search needs
 
--- src/path_lines.rt:37:5
 loop-less-2 : tie.Need-loop-less-2 Inv-loop μ-loop
 loop-less-2 c = search needs
 
--- src/path_lines.rt:37:5
 loop-again-2 : tie.Need-loop-again-2 Inv-loop μ-loop
 loop-again-2 c = (
   few-goes-on (c .before .before .before .before .before .before .before .before .before .before .before .before .before .before .before .before .loop .inv .0) (omega (arith, c .before .before .before .before .before .before .before .before .before .before .before .before .before .before .before .before .before .before .before .before .before .before .before .pre .1 .2)) (c .before .before .before .before .before .before .before .before .before .before .before .before .before .before .if1 .taken)
@@ -113,19 +96,15 @@ loop-again-2 c = (
   search needs,
 )
 
--- src/path_lines.rt:19:1
 same-length : tie.Need-same-length Inv-loop μ-loop
 same-length c = search needs
 
--- src/path_lines.rt:19:1
 same-length-2 : tie.Need-same-length-2 Inv-loop μ-loop
 same-length-2 c = search needs
 
--- src/path_lines.rt:19:1
 same-length-3 : tie.Need-same-length-3 Inv-loop μ-loop
 same-length-3 c = c .before .before .loop .inv .0 .same-length
 
--- src/path_lines.rt:19:1
 returns : tie.Need-returns Inv-loop μ-loop
 returns c = (c .before .before .loop .inv .1, pairs-written (c .before .before .before .before .before .before .before .before .before .pre .0 .0) (vidNumber (wordsOf (c .before .before .before .before .before .before .before .before .before .args .table .now)) (c .before .before .before .before .before .before .before .before .before .args .s) (c .before .before .before .before .before .before .before .before .before .args .k) .vid) (c .before .before .before .before .before .before .before .before .before .args .from) (c .before .before .loop .inv .0) (c .before .before .before .before .before .before .before .before .before .pre .1 .2) (c .if1 .left))
 

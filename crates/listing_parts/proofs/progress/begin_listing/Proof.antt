@@ -6,49 +6,38 @@ use borrow.Author.Needs.{needs}
 use Rattle.listing_parts.proofs.progress.begin_listing.Statement.{statement}
 use Rattle.listing_parts.proofs.progress.begin_listing.Tie as tie
 
--- src/progress.rt:56:35
 slice-aggregate-examine : tie.Need-slice-aggregate-examine
 slice-aggregate-examine c = search needs
 
--- src/progress.rt:56:9
 examine-requires : tie.Need-examine-requires
 examine-requires c κs = no-keys-yet
 
--- src/progress.rt:58:28
 enum-known-examined : tie.Need-enum-known-examined
 enum-known-examined c = search needs
 
--- src/progress.rt:59:36
 slice-aggregate-make-network : tie.Need-slice-aggregate-make-network
 slice-aggregate-make-network c = search needs
 
--- src/progress.rt:59:13
 make-network-requires : tie.Need-make-network-requires
 make-network-requires c κs = let passed = c .before .before .before .before .before .before .examine .ensures .1 _ (c .before .before .before .examined .given .1) in (passed .0, passed .1, c .before .before .before .before .before .before .before .before .before .before .before .pre .0)
 
--- src/progress.rt:62:42
 slice-aggregate-counts : tie.Need-slice-aggregate-counts
 slice-aggregate-counts c = search needs
 
--- src/progress.rt:62:25
 counts-requires : tie.Need-counts-requires
 counts-requires c κs = c .before .before .before .before .before .before .before .before .before .before .examine .ensures .1 _ (c .before .before .before .before .before .before .before .examined .given .1)
 
--- src/progress.rt:66:29
 enum-known-examined-2 : tie.Need-enum-known-examined-2
 enum-known-examined-2 c = search needs
 
--- src/progress.rt:50:1
 same-length : tie.Need-same-length
 same-length c = search needs
 
--- src/progress.rt:50:1
 returns : tie.Need-returns
 returns c =
     begun-accepted (c .before .before .before .before .before .before .before .before .before .before .before .before .before .before .before .before .args .table .now) (c .before .before .before .before .before .before .before .before .before .before .before .examine .result) (c .before .before .before .before .before .before .before .before .before .before .before .examine .ensures .0) _ (c .before .before .before .before .before .before .before .before .examined .given .1) (c .before .before .before .before .make-network .ensures)
     (no-trees _ _ (c .before .before .before .before .before .before .before .before .before .before .before .before .before .before .before .before .pre .1) (c .before .before .before .before .before .before .before .before .before .before .before .before .before .before .before .before .pre .2)) (c .counts .result) (c .counts .ensures)
 
--- src/progress.rt:50:1
 returns-2 : tie.Need-returns-2
 returns-2 c = begun-refused (c .before .before .before .before .before .before .before .before .before .args .table .now) (c .before .before .before .before .examine .result) (c .before .before .before .before .examine .ensures .0) _ _ _ (c .before .examined2 .given .1) _
 

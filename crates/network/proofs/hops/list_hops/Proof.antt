@@ -14,111 +14,84 @@ Inv-loop pairs n u from network₀ end k₀ at₀ network k at = Row pairs netwo
 abbrev μ-loop : tie.MeasureT-loop
 μ-loop pairs n u from network₀ end k₀ at₀ network k at = 64 * u + 64 - k
 
--- src/hops.rt:20:15
 mul-end : tie.Need-mul-end Inv-loop μ-loop
 mul-end c = search needs
 
--- src/hops.rt:20:15
 add-end : tie.Need-add-end Inv-loop μ-loop
 add-end c = search needs
 
--- src/hops.rt:21:17
 mul-k : tie.Need-mul-k Inv-loop μ-loop
 mul-k c = search needs
 
--- src/hops.rt:23:5
 loop-holds : tie.Need-loop-holds Inv-loop μ-loop
 loop-holds c = row-starts (c .before .before .pre .2) (64 * c .before .before .args .u + 64) (omega arith)
 
--- src/hops.rt:24:19
 mul-hop : tie.Need-mul-hop Inv-loop μ-loop
 mul-hop c = search needs
 
--- src/hops.rt:24:19
 shared-slice-read-hop : tie.Need-shared-slice-read-hop Inv-loop μ-loop
 shared-slice-read-hop c = search needs
 
--- src/hops.rt:26:13
 add-k : tie.Need-add-k Inv-loop μ-loop
 add-k c = search needs
 
--- src/hops.rt:23:5
 loop-less : tie.Need-loop-less Inv-loop μ-loop
 loop-less c = search needs
 
--- src/hops.rt:23:5
 loop-again : tie.Need-loop-again Inv-loop μ-loop
 loop-again c = row-passes (c .before .before .before .loop .inv) (c .before .before .loop-test .taken) (c .if1 .taken)
 
--- src/hops.rt:29:36
 cast-network : tie.Need-cast-network Inv-loop μ-loop
 cast-network c = search needs
 
--- src/hops.rt:29:17
 add-network : tie.Need-add-network Inv-loop μ-loop
 add-network c = omega (arith, room-for-hop (c .before .before .before .loop .inv .listed) (c .if1 .left) (c .before .before .before .before .before .before .pre .0) (omega (arith, c .before .before .loop-test .taken, c .before .before .before .before .before .before .pre .1)))
 
--- src/hops.rt:29:9
 mul-network : tie.Need-mul-network Inv-loop μ-loop
 mul-network c = omega (arith, room-for-hop (c .before .before .before .loop .inv .listed) (c .if1 .left) (c .before .before .before .before .before .before .pre .0) (omega (arith, c .before .before .loop-test .taken, c .before .before .before .before .before .before .pre .1)))
 
--- src/hops.rt:29:9
 slice-write-network : tie.Need-slice-write-network Inv-loop μ-loop
 slice-write-network c = omega (arith, room-for-hop (c .before .before .before .loop .inv .listed) (c .if1 .left) (c .before .before .before .before .before .before .pre .0) (omega (arith, c .before .before .loop-test .taken, c .before .before .before .before .before .before .pre .1)), c .before .before .before .loop .inv .same-length, c .before .before .before .before .before .before .pre .3)
 
--- src/hops.rt:30:31
 cost-of-hop-requires : tie.Need-cost-of-hop-requires Inv-loop μ-loop
 cost-of-hop-requires c κs = c .before .before .before .before .before .before .pre .0 .narrow (c .before .before .before .loop .k) (omega (arith, c .before .before .loop-test .taken, c .before .before .before .before .before .before .pre .1)) (c .if1 .left)
 
--- src/hops.rt:30:17
 add-network-2 : tie.Need-add-network-2 Inv-loop μ-loop
 add-network-2 c = omega (arith, room-for-hop (c .before .before .before .before .loop .inv .listed) (c .before .if1 .left) (c .before .before .before .before .before .before .before .pre .0) (omega (arith, c .before .before .before .loop-test .taken, c .before .before .before .before .before .before .before .pre .1)))
 
--- src/hops.rt:30:9
 mul-network-2 : tie.Need-mul-network-2 Inv-loop μ-loop
 mul-network-2 c = omega (arith, room-for-hop (c .before .before .before .before .loop .inv .listed) (c .before .if1 .left) (c .before .before .before .before .before .before .before .pre .0) (omega (arith, c .before .before .before .loop-test .taken, c .before .before .before .before .before .before .before .pre .1)))
 
--- src/hops.rt:30:9
 slice-write-network-2 : tie.Need-slice-write-network-2 Inv-loop μ-loop
 slice-write-network-2 c = simp length-set (omega (arith, room-for-hop (c .before .before .before .before .loop .inv .listed) (c .before .if1 .left) (c .before .before .before .before .before .before .before .pre .0) (omega (arith, c .before .before .before .loop-test .taken, c .before .before .before .before .before .before .before .pre .1)), c .before .before .before .before .loop .inv .same-length, c .before .before .before .before .before .before .before .pre .3))
 
--- src/hops.rt:31:31
 port-of-hop-requires : tie.Need-port-of-hop-requires Inv-loop μ-loop
 port-of-hop-requires c κs = search needs
 
--- src/hops.rt:31:17
 add-network-3 : tie.Need-add-network-3 Inv-loop μ-loop
 add-network-3 c = omega (arith, room-for-hop (c .before .before .before .before .before .loop .inv .listed) (c .before .before .if1 .left) (c .before .before .before .before .before .before .before .before .pre .0) (omega (arith, c .before .before .before .before .loop-test .taken, c .before .before .before .before .before .before .before .before .pre .1)))
 
--- src/hops.rt:31:9
 mul-network-3 : tie.Need-mul-network-3 Inv-loop μ-loop
 mul-network-3 c = omega (arith, room-for-hop (c .before .before .before .before .before .loop .inv .listed) (c .before .before .if1 .left) (c .before .before .before .before .before .before .before .before .pre .0) (omega (arith, c .before .before .before .before .loop-test .taken, c .before .before .before .before .before .before .before .before .pre .1)))
 
--- src/hops.rt:31:9
 slice-write-network-3 : tie.Need-slice-write-network-3 Inv-loop μ-loop
 slice-write-network-3 c = simp length-set (omega (arith, room-for-hop (c .before .before .before .before .before .loop .inv .listed) (c .before .before .if1 .left) (c .before .before .before .before .before .before .before .before .pre .0) (omega (arith, c .before .before .before .before .loop-test .taken, c .before .before .before .before .before .before .before .before .pre .1)), c .before .before .before .before .before .loop .inv .same-length, c .before .before .before .before .before .before .before .before .pre .3))
 
--- src/hops.rt:32:9
 add-at : tie.Need-add-at Inv-loop μ-loop
 add-at c = omega (arith, room-for-hop (c .before .before .before .before .before .loop .inv .listed) (c .before .before .if1 .left) (c .before .before .before .before .before .before .before .before .pre .0) (omega (arith, c .before .before .before .before .loop-test .taken, c .before .before .before .before .before .before .before .before .pre .1)))
 
--- src/hops.rt:33:9
 add-k-2 : tie.Need-add-k-2 Inv-loop μ-loop
 add-k-2 c = search needs
 
--- src/hops.rt:23:5
 loop-less-2 : tie.Need-loop-less-2 Inv-loop μ-loop
 loop-less-2 c = search needs
 
--- src/hops.rt:23:5
 loop-again-2 : tie.Need-loop-again-2 Inv-loop μ-loop
 loop-again-2 c = row-takes (c .before .before .before .before .before .loop .inv) (c .before .before .before .before .loop-test .taken) (c .before .before .if1 .left) (room-for-hop (c .before .before .before .before .before .loop .inv .listed) (c .before .before .if1 .left) (c .before .before .before .before .before .before .before .before .pre .0) (omega (arith, c .before .before .before .before .loop-test .taken, c .before .before .before .before .before .before .before .before .pre .1))) (c .before .before .before .before .before .before .before .before .pre .3) _ _ (c .before .cost-of-hop .ensures) (c .port-of-hop .ensures)
 
--- src/hops.rt:16:1
 same-length : tie.Need-same-length Inv-loop μ-loop
 same-length c = search needs
 
--- src/hops.rt:16:1
 returns : tie.Need-returns Inv-loop μ-loop
 returns c = row-ends (c .before .loop .inv) (c .loop-test .left)
 

@@ -14,67 +14,51 @@ Inv-loop table s words₀ u₀ words u = Identifying (wordsOf table) s words₀ 
 abbrev μ-loop : tie.MeasureT-loop
 μ-loop table s words₀ u₀ words u = s .bridges - u
 
--- src/identifiers.rt:21:5
 loop-holds : tie.Need-loop-holds Inv-loop μ-loop
 loop-holds c = identifying-starts _ _ _
 
--- src/identifiers.rt:22:13
 bridge-requires : tie.Need-bridge-requires Inv-loop μ-loop
 bridge-requires c κs = search needs
 
--- src/identifiers.rt:23:24
 cast-words : tie.Need-cast-words Inv-loop μ-loop
 cast-words c = search needs
 
--- src/identifiers.rt:23:15
 mul-words : tie.Need-mul-words Inv-loop μ-loop
 mul-words c = search needs
 
--- src/identifiers.rt:23:9
 mul-words-2 : tie.Need-mul-words-2 Inv-loop μ-loop
 mul-words-2 c = search needs
 
--- src/identifiers.rt:23:9
 slice-write-words : tie.Need-slice-write-words Inv-loop μ-loop
 slice-write-words c = search needs
 
--- src/identifiers.rt:24:28
 cast-words-2 : tie.Need-cast-words-2 Inv-loop μ-loop
 cast-words-2 c = search needs
 
--- src/identifiers.rt:24:15
 mul-words-3 : tie.Need-mul-words-3 Inv-loop μ-loop
 mul-words-3 c = search needs
 
--- src/identifiers.rt:24:15
 add-words : tie.Need-add-words Inv-loop μ-loop
 add-words c = search needs
 
--- src/identifiers.rt:24:9
 mul-words-4 : tie.Need-mul-words-4 Inv-loop μ-loop
 mul-words-4 c = search needs
 
--- src/identifiers.rt:24:9
 slice-write-words-2 : tie.Need-slice-write-words-2 Inv-loop μ-loop
 slice-write-words-2 c = simp length-set (omega (arith, c .before .before .before .before .before .loop .inv .same-length, c .before .before .before .if1 .taken, c .before .before .before .before .before .before .before .before .pre .1))
 
--- src/identifiers.rt:25:9
 add-u : tie.Need-add-u Inv-loop μ-loop
 add-u c = search needs
 
--- src/identifiers.rt:21:5
 loop-less : tie.Need-loop-less Inv-loop μ-loop
 loop-less c = search needs
 
--- src/identifiers.rt:21:5
 loop-again : tie.Need-loop-again Inv-loop μ-loop
 loop-again c = identifying-on (c .before .before .before .before .before .loop .inv) _ (c .before .before .before .if1 .taken) (c .before .before .before .before .before .before .before .before .pre .1) (c .before .before .bridge .ensures)
 
--- src/identifiers.rt:16:1
 same-length : tie.Need-same-length Inv-loop μ-loop
 same-length c = search needs
 
--- src/identifiers.rt:16:1
 returns : tie.Need-returns Inv-loop μ-loop
 returns c = identifying-ends (c .before .before .loop .inv) (c .if1 .left)
 

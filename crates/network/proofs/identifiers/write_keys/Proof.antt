@@ -15,47 +15,36 @@ Inv-loop network mask keys₀ n u₀ keys u = Masking network mask keys₀ keys 
 abbrev μ-loop : tie.MeasureT-loop
 μ-loop network mask keys₀ n u₀ keys u = bridgesIn network - u
 
--- src/identifiers.rt:34:9
 bridges-requires : tie.Need-bridges-requires Inv-loop μ-loop
 bridges-requires c κs = search needs
 
--- src/identifiers.rt:36:5
 loop-holds : tie.Need-loop-holds Inv-loop μ-loop
 loop-holds c = masking-starts _ _ _
 
--- src/identifiers.rt:37:37
 identifier-requires : tie.Need-identifier-requires Inv-loop μ-loop
 identifier-requires c κs = search needs
 
--- src/identifiers.rt:37:19
 masked-identifier-requires : tie.Need-masked-identifier-requires Inv-loop μ-loop
 masked-identifier-requires c κs = search needs
 
--- src/identifiers.rt:37:9
 mul-keys : tie.Need-mul-keys Inv-loop μ-loop
 mul-keys c = search needs
 
--- src/identifiers.rt:37:9
 slice-write-keys : tie.Need-slice-write-keys Inv-loop μ-loop
 slice-write-keys c = search needs
 
--- src/identifiers.rt:38:9
 add-u : tie.Need-add-u Inv-loop μ-loop
 add-u c = search needs
 
--- src/identifiers.rt:36:5
 loop-less : tie.Need-loop-less Inv-loop μ-loop
 loop-less c = search needs
 
--- src/identifiers.rt:36:5
 loop-again : tie.Need-loop-again Inv-loop μ-loop
 loop-again c = masking-on (c .before .before .before .loop .inv) (c .before .before .before .before .before .before .before .pre .2) _ (omega (arith, c .before .before .before .before .bridges .ensures)) (c .masked-identifier .ensures ∙ ap (λ (x : ℕ). maskedBytes 8 (c .before .before .before .before .before .before .before .args .mask) x) (c .before .identifier .ensures))
 
--- src/identifiers.rt:30:1
 same-length : tie.Need-same-length Inv-loop μ-loop
 same-length c = search needs
 
--- src/identifiers.rt:30:1
 returns : tie.Need-returns Inv-loop μ-loop
 returns c = masking-ends (c .before .loop .inv) (c .before .before .before .before .before .pre .2) (omega (arith, c .before .before .bridges .ensures))
 

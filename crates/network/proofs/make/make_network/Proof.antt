@@ -12,11 +12,9 @@ use borrow.Author.Needs.{needs}
 use Rattle.network.proofs.make.make_network.Statement.{statement}
 use Rattle.network.proofs.make.make_network.Tie as tie
 
--- src/make.rt:22:39
 slice-aggregate-lowest-hops : tie.Need-slice-aggregate-lowest-hops
 slice-aggregate-lowest-hops c = search needs
 
--- src/make.rt:22:5
 lowest-hops-requires : tie.Need-lowest-hops-requires
 lowest-hops-requires c κs = (
   c .before .before .before .before .pre .0,
@@ -24,43 +22,33 @@ lowest-hops-requires c κs = (
   c .before .before .before .before .pre .1,
 )
 
--- src/make.rt:23:21
 slice-aggregate-list-neighbours : tie.Need-slice-aggregate-list-neighbours
 slice-aggregate-list-neighbours c = search needs
 
--- src/make.rt:23:5
 list-neighbours-requires : tie.Need-list-neighbours-requires
 list-neighbours-requires c κs = (room (c .before .before .before .before .before .before .before .before .pre .0) (c .before .before .before .before .before .before .before .before .pre .1 .indexed .few) (c .before .before .before .lowest-hops .ensures), omega (arith, c .before .before .before .before .before .before .before .before .pre .2))
 
--- src/make.rt:24:33
 sub-write-identifiers : tie.Need-sub-write-identifiers
 sub-write-identifiers c = search needs
 
--- src/make.rt:24:33
 part-write-identifiers-start : tie.Need-part-write-identifiers-start
 part-write-identifiers-start c = search needs
 
--- src/make.rt:24:33
 part-write-identifiers-end : tie.Need-part-write-identifiers-end
 part-write-identifiers-end c = search needs
 
--- src/make.rt:24:5
 write-identifiers-requires : tie.Need-write-identifiers-requires
 write-identifiers-requires c κs = (c .before .before .before .before .before .before .before .before .before .before .before .before .pre .0 .whole, simp (length-take, length-drop) (omega (arith, c .before .before .before .list-neighbours .ensures .1, c .before .before .before .before .before .before .before .before .before .before .before .before .pre .2, few-bridges (c .before .before .before .before .before .before .before .before .before .before .before .before .pre .0))))
 
--- src/make.rt:25:24
 cast-network : tie.Need-cast-network
 cast-network c = search needs
 
--- src/make.rt:25:5
 slice-write-network : tie.Need-slice-write-network
 slice-write-network c = search needs
 
--- src/make.rt:17:1
 same-length : tie.Need-same-length
 same-length c = made-length (c .before .before .before .before .before .before .before .before .before .before .before .before .before .before .before .before .pre .0) (c .before .before .before .before .before .before .before .before .before .before .before .before .before .before .before .before .pre .1 .indexed .few) (c .before .before .before .before .before .before .before .before .before .before .before .lowest-hops .ensures) (c .before .before .before .before .before .before .before .list-neighbours .ensures .0) (c .before .before .before .before .before .before .before .list-neighbours .ensures .1 ∙ c .before .before .before .before .before .before .before .before .before .before .before .before .before .before .before .before .pre .2) (c .before .before .before .write-identifiers .ensures) (search needs) ∙ sym (c .before .before .before .before .before .before .before .before .before .before .before .before .before .before .before .before .pre .2)
 
--- src/make.rt:17:1
 returns : tie.Need-returns
 returns c = record { checked = c .before .before .before .before .before .before .before .before .before .before .before .before .before .before .before .before .pre .0; network = network-of-table (c .before .before .before .before .before .before .before .before .before .before .before .before .before .before .before .before .pre .0) (c .before .before .before .before .before .before .before .before .before .before .before .before .before .before .before .before .pre .1 .indexed .few) (c .before .before .before .before .before .before .before .before .before .before .before .lowest-hops .ensures) (c .before .before .before .before .before .before .before .list-neighbours .ensures .0) (c .before .before .before .before .before .before .before .list-neighbours .ensures .1 ∙ c .before .before .before .before .before .before .before .before .before .before .before .before .before .before .before .before .pre .2) (c .before .before .before .write-identifiers .ensures) (search needs) }
 

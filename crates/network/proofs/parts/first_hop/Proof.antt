@@ -7,23 +7,18 @@ use borrow.Author.Needs.{needs}
 use Rattle.network.proofs.parts.first_hop.Statement.{statement}
 use Rattle.network.proofs.parts.first_hop.Tie as tie
 
--- src/parts.rt:43:18
 add-wide : tie.Need-add-wide
 add-wide c = search needs
 
--- src/parts.rt:43:10
 mul-wide : tie.Need-mul-wide
 mul-wide c = search needs
 
--- src/parts.rt:43:10
 shared-slice-read-wide : tie.Need-shared-slice-read-wide
 shared-slice-read-wide c = search needs
 
--- src/parts.rt:43:5
 wide-requires : tie.Need-wide-requires
 wide-requires c κs = search needs
 
--- src/parts.rt:39:1
 returns : tie.Need-returns
 returns c = c .wide .ensures ∙ sym (part-at (c .before .before .before .args .network .now) startsAt 65 (c .before .before .before .args .u) (omega arith))
 

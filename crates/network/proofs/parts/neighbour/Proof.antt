@@ -7,23 +7,18 @@ use borrow.Author.Needs.{needs}
 use Rattle.network.proofs.parts.neighbour.Statement.{statement}
 use Rattle.network.proofs.parts.neighbour.Tie as tie
 
--- src/parts.rt:51:18
 add-wide : tie.Need-add-wide
 add-wide c = search needs
 
--- src/parts.rt:51:10
 mul-wide : tie.Need-mul-wide
 mul-wide c = search needs
 
--- src/parts.rt:51:10
 shared-slice-read-wide : tie.Need-shared-slice-read-wide
 shared-slice-read-wide c = search needs
 
--- src/parts.rt:51:5
 wide-requires : tie.Need-wide-requires
 wide-requires c κs = search needs
 
--- src/parts.rt:47:1
 returns : tie.Need-returns
 returns c = c .wide .ensures ∙ sym (part-at (c .before .before .before .args .network .now) neighboursAt 512 (c .before .before .before .args .i) (omega arith))
 

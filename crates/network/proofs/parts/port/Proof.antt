@@ -7,19 +7,15 @@ use borrow.Author.Needs.{needs}
 use Rattle.network.proofs.parts.port.Statement.{statement}
 use Rattle.network.proofs.parts.port.Tie as tie
 
--- src/parts.rt:59:13
 add-result : tie.Need-add-result
 add-result c = search needs
 
--- src/parts.rt:59:5
 mul-result : tie.Need-mul-result
 mul-result c = search needs
 
--- src/parts.rt:59:5
 shared-slice-read-result : tie.Need-shared-slice-read-result
 shared-slice-read-result c = search needs
 
--- src/parts.rt:55:1
 returns : tie.Need-returns
 returns c = sym (part-at (c .before .args .network .now) portsAt 512 (c .before .args .i) (omega arith))
 

@@ -5,31 +5,24 @@ use borrow.Author.Needs.{needs}
 use Rattle.network.proofs.plan_tree.tree_of_table.Statement.{statement}
 use Rattle.network.proofs.plan_tree.tree_of_table.Tie as tie
 
--- src/plan_tree.rt:65:40
 slice-aggregate-make-network : tie.Need-slice-aggregate-make-network
 slice-aggregate-make-network c = search needs
 
--- src/plan_tree.rt:65:5
 make-network-requires : tie.Need-make-network-requires
 make-network-requires c κs = search needs
 
--- src/plan_tree.rt:66:21
 slice-aggregate-tree-in-network : tie.Need-slice-aggregate-tree-in-network
 slice-aggregate-tree-in-network c = search needs
 
--- src/plan_tree.rt:66:52
 slice-aggregate-tree-in-network-2 : tie.Need-slice-aggregate-tree-in-network-2
 slice-aggregate-tree-in-network-2 c = search needs
 
--- src/plan_tree.rt:66:5
 tree-in-network-requires : tie.Need-tree-in-network-requires
 tree-in-network-requires c κs = (is-network (c .before .before .before .before .make-network .ensures), c .before .before .before .before .before .before .before .before .before .pre .1, c .before .before .before .before .before .before .before .before .before .pre .2, omega (arith, bridges-in-table (c .before .before .before .before .make-network .ensures), c .before .before .before .before .before .before .before .before .before .pre .3), c .before .before .before .before .before .before .before .before .before .pre .4, search needs)
 
--- src/plan_tree.rt:52:1
 same-length : tie.Need-same-length
 same-length c = search needs
 
--- src/plan_tree.rt:52:1
 returns : tie.Need-returns
 returns c = c .before .before .before .tree-in-network .ensures .of-plan _ (c .before .before .before .before .before .before .before .before .make-network .ensures .network)
 

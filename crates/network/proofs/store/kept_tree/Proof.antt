@@ -5,99 +5,75 @@ use borrow.Author.Needs.{needs}
 use Rattle.network.proofs.store.kept_tree.Statement.{statement}
 use Rattle.network.proofs.store.kept_tree.Tie as tie
 
--- src/store.rt:39:17
 sub-slot : tie.Need-sub-slot
 sub-slot c = search needs
 
--- src/store.rt:39:16
 mul-slot : tie.Need-mul-slot
 mul-slot c = search needs
 
--- src/store.rt:39:16
 add-slot : tie.Need-add-slot
 add-slot c = search needs
 
--- src/store.rt:40:9
 line-of-requires : tie.Need-line-of-requires
 line-of-requires c κs = search needs
 
--- src/store.rt:41:14
 mul-at : tie.Need-mul-at
 mul-at c = search needs
 
--- src/store.rt:42:17
 add-place : tie.Need-add-place
 add-place c = search needs
 
--- src/store.rt:43:8
 mul-if1 : tie.Need-mul-if1
 mul-if1 c = search needs
 
--- src/store.rt:43:8
 slice-read-if1 : tie.Need-slice-read-if1
 slice-read-if1 c = search needs
 
--- src/store.rt:43:21
 cast-if1 : tie.Need-cast-if1
 cast-if1 c = search needs
 
--- src/store.rt:43:21
 add-if1 : tie.Need-add-if1
 add-if1 c = search needs
 
--- src/store.rt:44:9
 returns : tie.Need-returns
 returns c = (c .before .before .before .before .before .before .pre .1 .1, (omega (arith, c .before .before .before .before .before .before .pre .1 .1 .has-line, c .before .before .line-of .ensures .1), tree-there (c .before .before .before .before .before .before .pre .1 .1) (c .before .before .before .before .before .before .args .index) (c .before .before .before .before .before .before .args .root) (c .before .before .before .before .before .before .pre .0 .1) (c .before .before .before .before .before .before .pre .0 .2) (c .before .before .before .before .before .before .pre .0 .3) (c .before .before .line-of .result) (c .before .before .line-of .ensures .0) (c .if1 .taken)))
 
--- src/store.rt:50:27
 add-tree-in-network : tie.Need-add-tree-in-network
 add-tree-in-network c = search needs
 
--- src/store.rt:50:9
 mul-tree-in-network : tie.Need-mul-tree-in-network
 mul-tree-in-network c = search needs
 
--- src/store.rt:50:9
 sub-tree-in-network : tie.Need-sub-tree-in-network
 sub-tree-in-network c = search needs
 
--- src/store.rt:50:9
 part-tree-in-network-start : tie.Need-part-tree-in-network-start
 part-tree-in-network-start c = search needs
 
--- src/store.rt:50:9
 part-tree-in-network-end : tie.Need-part-tree-in-network-end
 part-tree-in-network-end c = search needs
 
--- src/store.rt:46:5
 tree-in-network-requires : tie.Need-tree-in-network-requires
 tree-in-network-requires c κs = search needs
 
--- src/store.rt:53:17
 cast-store : tie.Need-cast-store
 cast-store c = search needs
 
--- src/store.rt:53:17
 add-store : tie.Need-add-store
 add-store c = search needs
 
--- src/store.rt:53:5
 mul-store : tie.Need-mul-store
 mul-store c = search needs
 
--- src/store.rt:53:5
 slice-write-store : tie.Need-slice-write-store
 slice-write-store c = search needs
 
--- src/store.rt:27:1
 same-length : tie.Need-same-length
 same-length c = search needs
 
--- src/store.rt:27:1
 same-length-2 : tie.Need-same-length-2
 same-length-2 c = search needs
 
--- src/store.rt:27:1
 returns-2 : tie.Need-returns-2
 returns-2 c =
     let kept = tree-kept (c .before .before .before .before .before .before .before .before .before .before .before .before .before .pre .1 .1) (c .before .before .before .before .before .before .before .before .before .before .before .before .before .args .index) (c .before .before .before .before .before .before .before .before .before .before .before .before .before .args .root) (c .before .before .before .before .before .before .before .before .before .before .before .before .before .pre .0 .1) (c .before .before .before .before .before .before .before .before .before .before .before .before .before .pre .0 .2) (c .before .before .before .before .before .before .before .before .before .before .before .before .before .pre .0 .3) (c .before .before .before .before .before .before .before .before .before .before .before .before .before .pre .0 .0 .network .represents .most) (c .before .before .before .before .before .before .before .before .before .line-of .result) (c .before .before .before .before .before .before .before .before .before .line-of .ensures .1) _ (search needs) (c .before .before .before .before .tree-in-network .ensures)

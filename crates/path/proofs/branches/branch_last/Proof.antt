@@ -7,23 +7,18 @@ use borrow.Author.Needs.{needs}
 use Rattle.path.proofs.branches.branch_last.Statement.{statement}
 use Rattle.path.proofs.branches.branch_last.Tie as tie
 
--- src/branches.rt:55:8
 cost-at-requires : tie.Need-cost-at-requires
 cost-at-requires c κs = search needs
 
--- src/branches.rt:55:8
 is-no-path-requires : tie.Need-is-no-path-requires
 is-no-path-requires c κs = search needs
 
--- src/branches.rt:56:9
 returns : tie.Need-returns
 returns c = rw (eq-eqb _ noPathCost (no-path (c .before .before .cost-at .ensures) (c .before .is-no-path .ensures) (c .if1 .taken))) refl
 
--- src/branches.rt:58:5
 next-number-requires : tie.Need-next-number-requires
 next-number-requires c κs = search needs
 
--- src/branches.rt:51:1
 returns-2 : tie.Need-returns-2
 returns-2 c = rw (ne-eqb _ noPathCost (a-path (c .before .before .before .cost-at .ensures) (c .before .before .is-no-path .ensures) (c .before .if1 .left))) (c .next-number .ensures)
 

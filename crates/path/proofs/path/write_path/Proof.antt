@@ -12,43 +12,33 @@ Inv-loop labels from count list₀ i₀ u₀ list i u = Following labels list₀
 abbrev μ-loop : tie.MeasureT-loop
 μ-loop labels from count list₀ i₀ u₀ list i u = count - i
 
--- src/path.rt:33:5
 loop-holds : tie.Need-loop-holds Inv-loop μ-loop
 loop-holds c = following-starts _ _ _ _
 
--- src/path.rt:34:9
 mul-list : tie.Need-mul-list Inv-loop μ-loop
 mul-list c = search needs
 
--- src/path.rt:34:9
 slice-write-list : tie.Need-slice-write-list Inv-loop μ-loop
 slice-write-list c = omega (arith, c .before .before .before .before .pre .2, c .before .loop .inv .same-length, c .loop-test .taken)
 
--- src/path.rt:35:33
 cast-next-number : tie.Need-cast-next-number Inv-loop μ-loop
 cast-next-number c = omega (arith, following-inside (c .before .loop .inv) (c .before .before .before .before .pre .1) (c .loop-test .taken))
 
--- src/path.rt:35:9
 next-number-requires : tie.Need-next-number-requires Inv-loop μ-loop
 next-number-requires c κs = omega (arith, c .before .before .before .before .pre .0, following-inside (c .before .loop .inv) (c .before .before .before .before .pre .1) (c .loop-test .taken))
 
--- src/path.rt:36:9
 add-i : tie.Need-add-i Inv-loop μ-loop
 add-i c = search needs
 
--- src/path.rt:33:5
 loop-less : tie.Need-loop-less Inv-loop μ-loop
 loop-less c = search needs
 
--- src/path.rt:33:5
 loop-again : tie.Need-loop-again Inv-loop μ-loop
 loop-again c = following-on (c .before .before .loop .inv) _ (c .before .before .before .before .before .pre .2) (c .before .loop-test .taken) (c .next-number .ensures)
 
--- src/path.rt:27:1
 same-length : tie.Need-same-length Inv-loop μ-loop
 same-length c = search needs
 
--- src/path.rt:27:1
 returns : tie.Need-returns Inv-loop μ-loop
 returns c = following-ends (c .before .loop .inv) (c .loop-test .left)
 
