@@ -24,7 +24,12 @@ array-share-prefix-line : tie.Need-array-share-prefix-line
 array-share-prefix-line c = search needs
 
 slice-aggregate-write-all : tie.Need-slice-aggregate-write-all
-slice-aggregate-write-all c = simp length-take (omega (arith, (c .before .before .before .before .before .before .write-word .ensures .end-is), (c .before .before .write-check .ensures .1), (c .before .before .before .before .before .before .before .before .before .before .pre)))
+slice-aggregate-write-all c =
+    let at-write-check = c .before .before in
+    let at-write-word = at-write-check .before .before .before .before in
+    let at-start = at-write-word .before .before .before .before in
+    let (_, write-check-bound) = at-write-check .write-check .ensures in
+    simp length-take (omega (arith, (at-write-word .write-word .ensures .end-is), write-check-bound, (at-start .pre)))
 
 write-all-requires : tie.Need-write-all-requires
 write-all-requires c κs = search needs
@@ -35,13 +40,5 @@ returns c = search needs
 pub print-check-spec : {M : Type 1} → statement M
 print-check-spec =
     tie.close
-    (tie.spec
-    slice-aggregate-write-word
-    write-word-requires
-    check-requires
-    slice-aggregate-write-check
-    write-check-requires
-    array-share-prefix-line
-    slice-aggregate-write-all
-    write-all-requires
-    returns)
+    (tie.spec slice-aggregate-write-word write-word-requires check-requires slice-aggregate-write-check write-check-requires
+    array-share-prefix-line slice-aggregate-write-all write-all-requires returns)

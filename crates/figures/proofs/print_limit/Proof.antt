@@ -27,7 +27,9 @@ array-share-prefix-table : tie.Need-array-share-prefix-table
 array-share-prefix-table c = search needs
 
 slice-aggregate-print-check : tie.Need-slice-aggregate-print-check
-slice-aggregate-print-check c = simp length-take (omega (arith, (c .before .words-read .ensures), (c .before .before .before .before .before .before .pre)))
+slice-aggregate-print-check c =
+    let at-start = c .before .before .before .before .before .before in
+    simp length-take (omega (arith, (c .before .words-read .ensures), (at-start .pre)))
 
 print-check-requires : tie.Need-print-check-requires
 print-check-requires c κs = search needs
@@ -38,14 +40,5 @@ returns c = search needs
 pub print-limit-spec : {M : Type 1} → statement M
 print-limit-spec =
     tie.close
-    (tie.spec
-    slice-aggregate-write-table
-    write-table-requires
-    words-read-requires
-    add-bytes
-    add-bytes-2
-    mul-bytes
-    array-share-prefix-table
-    slice-aggregate-print-check
-    print-check-requires
-    returns)
+    (tie.spec slice-aggregate-write-table write-table-requires words-read-requires add-bytes add-bytes-2 mul-bytes array-share-prefix-table
+    slice-aggregate-print-check print-check-requires returns)

@@ -31,7 +31,10 @@ slice-aggregate-print-parts-5 : tie.Need-slice-aggregate-print-parts-5
 slice-aggregate-print-parts-5 c = search needs
 
 print-parts-requires : tie.Need-print-parts-requires
-print-parts-requires c κs = (c .before .before .before .before .before .before .begin-listing .ensures .1, (omega arith, omega arith, omega arith))
+print-parts-requires c κs =
+    let at-begin-listing = c .before .before .before .before .before .before in
+    let (_, underway) = at-begin-listing .begin-listing .ensures in
+    (underway, (omega arith, omega arith, omega arith))
 
 returns : tie.Need-returns
 returns c = search needs
@@ -39,14 +42,6 @@ returns c = search needs
 pub list-spec : {M : Type 1} → statement M
 list-spec =
     tie.close
-    (tie.spec
-    slice-aggregate-begin-listing
-    slice-aggregate-begin-listing-2
-    begin-listing-requires
-    slice-aggregate-print-parts
-    slice-aggregate-print-parts-2
-    slice-aggregate-print-parts-3
-    slice-aggregate-print-parts-4
-    slice-aggregate-print-parts-5
-    print-parts-requires
-    returns)
+    (tie.spec slice-aggregate-begin-listing slice-aggregate-begin-listing-2 begin-listing-requires slice-aggregate-print-parts
+    slice-aggregate-print-parts-2 slice-aggregate-print-parts-3 slice-aggregate-print-parts-4 slice-aggregate-print-parts-5
+    print-parts-requires returns)

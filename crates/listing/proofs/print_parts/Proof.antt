@@ -17,22 +17,40 @@ abbrev μ-loop : tie.MeasureT-loop
 μ-loop table network path-ids₀ store₀ words₀ out₀ progress₀ path-ids store words out progress = partsLeft table progress
 
 loop-holds : tie.Need-loop-holds Inv-loop μ-loop
-loop-holds c = (c .before .before .before .before .before .before .pre .0, refl, refl, refl, refl)
+loop-holds c =
+    let at-start = c .before .before .before .before .before .before in
+    let (underway, _) = at-start .pre in
+    (underway, refl, refl, refl, refl)
 
 next-part-requires : tie.Need-next-part-requires Inv-loop μ-loop
-next-part-requires c κs = (
-  c .before .before .before .before .loop .inv .0,
-  (omega (arith, c .before .before .before .before .loop .inv .1, c .before .before .before .before .before .before .before .before .before .before .before .pre .1 .0), omega (arith, c .before .before .before .before .loop .inv .3, c .before .before .before .before .before .before .before .before .before .before .before .pre .1 .1), omega (arith, c .before .before .before .before .loop .inv .4, c .before .before .before .before .before .before .before .before .before .before .before .pre .1 .2)),
-)
+next-part-requires c κs =
+    let at-loop = c .before .before .before .before in
+    let at-start = at-loop .before .before .before .before .before .before .before in
+    let (underway, path-ids-length, _, words-length, out-length) = at-loop .loop .inv in
+    let (_, (path-ids-room, words-room, out-room)) = at-start .pre in (
+      underway,
+      (omega (arith, path-ids-length, path-ids-room), omega (arith, words-length, words-room), omega (arith, out-length, out-room)),
+    )
 
 enum-known-next : tie.Need-enum-known-next Inv-loop μ-loop
 enum-known-next c = search needs
 
 slice-reshare-prefix-print : tie.Need-slice-reshare-prefix-print Inv-loop μ-loop
-slice-reshare-prefix-print c = part-fits (c .before .before .before .before .before .before .before .before .before .before .before .before .before .before .before .before .before .before .before .before .before .before .before .args .table .now) (c .before .before .before .before .before .before .before .before .before .before .before .before .before .before .before .before .loop .progress) (c .before .next .given .1) _ (c .before .before .before .before .before .before .before .before .before .before .before .next-part .ensures .0)
+slice-reshare-prefix-print c =
+    let at-next-part = c .before .before .before .before .before .before .before .before .before .before .before in
+    let at-loop = at-next-part .before .before .before .before .before in
+    let at-start = at-loop .before .before .before .before .before .before .before in
+    let (next-of, _) = at-next-part .next-part .ensures in
+    part-fits (at-start .args .table .now) (at-loop .loop .progress) (c .before .next .given .1) _ next-of
 
 slice-aggregate-print : tie.Need-slice-aggregate-print Inv-loop μ-loop
-slice-aggregate-print c = simp length-take (omega (arith, part-fits (c .before .before .before .before .before .before .before .before .before .before .before .before .before .before .before .before .before .before .before .before .before .before .before .before .args .table .now) (c .before .before .before .before .before .before .before .before .before .before .before .before .before .before .before .before .before .loop .progress) (c .before .before .next .given .1) _ (c .before .before .before .before .before .before .before .before .before .before .before .before .next-part .ensures .0)))
+slice-aggregate-print c =
+    let at-next = c .before .before in
+    let at-next-part = at-next .before .before .before .before .before .before .before .before .before .before in
+    let at-loop = at-next-part .before .before .before .before .before in
+    let at-start = at-loop .before .before .before .before .before .before .before in
+    let (next-of, _) = at-next-part .next-part .ensures in
+    simp length-take (omega (arith, part-fits (at-start .args .table .now) (at-loop .loop .progress) (at-next .next .given .1) _ next-of))
 
 print-requires : tie.Need-print-requires Inv-loop μ-loop
 print-requires c κs = search needs
@@ -53,10 +71,27 @@ returns : tie.Need-returns Inv-loop μ-loop
 returns c = search needs
 
 loop-less : tie.Need-loop-less Inv-loop μ-loop
-loop-less c = (part-goes-on (c .before .before .before .before .before .before .before .before .before .before .before .before .before .before .before .before .before .before .before .before .before .before .before .before .before .before .args .table .now) (c .before .before .before .before .before .before .before .before .before .before .before .before .before .before .before .before .before .before .before .loop .progress) (c .before .before .before .before .next .given .1) _ _ (c .before .before .before .before .before .before .before .before .before .before .before .before .before .before .next-part .ensures .1)) .1
+loop-less c =
+    let at-next = c .before .before .before .before in
+    let at-next-part = at-next .before .before .before .before .before .before .before .before .before .before in
+    let at-loop = at-next-part .before .before .before .before .before in
+    let at-start = at-loop .before .before .before .before .before .before .before in
+    let (_, goes-on) = at-next-part .next-part .ensures in
+    (part-goes-on (at-start .args .table .now) (at-loop .loop .progress) (at-next .next .given .1) _ _ goes-on) .1
 
 loop-again : tie.Need-loop-again Inv-loop μ-loop
-loop-again c = ((part-goes-on (c .before .before .before .before .before .before .before .before .before .before .before .before .before .before .before .before .before .before .before .before .before .before .before .before .before .before .args .table .now) (c .before .before .before .before .before .before .before .before .before .before .before .before .before .before .before .before .before .before .before .loop .progress) (c .before .before .before .before .next .given .1) _ _ (c .before .before .before .before .before .before .before .before .before .before .before .before .before .before .next-part .ensures .1)) .0, search needs, search needs, search needs, search needs)
+loop-again c = (
+  let at-next = c .before .before .before .before in
+      let at-next-part = at-next .before .before .before .before .before .before .before .before .before .before in
+      let at-loop = at-next-part .before .before .before .before .before in
+      let at-start = at-loop .before .before .before .before .before .before .before in
+      let (_, goes-on) = at-next-part .next-part .ensures in
+      (part-goes-on (at-start .args .table .now) (at-loop .loop .progress) (at-next .next .given .1) _ _ goes-on) .0,
+  search needs,
+  search needs,
+  search needs,
+  search needs,
+)
 
 enum-told : tie.Need-enum-told Inv-loop μ-loop
 enum-told c = search needs
@@ -79,25 +114,6 @@ returns-2 c = search needs
 pub print-parts-spec : {M : Type 1} → statement M
 print-parts-spec =
     tie.close
-    (tie.spec
-    Inv-loop
-    μ-loop
-    loop-holds
-    next-part-requires
-    enum-known-next
-    slice-reshare-prefix-print
-    slice-aggregate-print
-    print-requires
-    same-length
-    same-length-2
-    same-length-3
-    same-length-4
-    returns
-    loop-less
-    loop-again
-    enum-told
-    same-length-5
-    same-length-6
-    same-length-7
-    same-length-8
-    returns-2)
+    (tie.spec Inv-loop μ-loop loop-holds next-part-requires enum-known-next slice-reshare-prefix-print slice-aggregate-print print-requires
+    same-length same-length-2 same-length-3 same-length-4 returns loop-less loop-again enum-told same-length-5 same-length-6 same-length-7
+    same-length-8 returns-2)

@@ -15,7 +15,10 @@ array-share-prefix-line : tie.Need-array-share-prefix-line
 array-share-prefix-line c = omega (arith, (c .before .write-asked-entries .ensures .1))
 
 slice-aggregate-write-all : tie.Need-slice-aggregate-write-all
-slice-aggregate-write-all c = simp length-take (omega (arith, (c .before .before .write-asked-entries .ensures .1)))
+slice-aggregate-write-all c =
+    let at-write-asked-entries = c .before .before in
+    let (_, write-asked-entries-bound) = at-write-asked-entries .write-asked-entries .ensures in
+    simp length-take (omega (arith, write-asked-entries-bound))
 
 write-all-requires : tie.Need-write-all-requires
 write-all-requires c κs = search needs
@@ -26,10 +29,5 @@ returns c = search needs
 pub answer-entries-spec : {M : Type 1} → statement M
 answer-entries-spec =
     tie.close
-    (tie.spec
-    slice-aggregate-write-asked-entries
-    write-asked-entries-requires
-    array-share-prefix-line
-    slice-aggregate-write-all
-    write-all-requires
-    returns)
+    (tie.spec slice-aggregate-write-asked-entries write-asked-entries-requires array-share-prefix-line slice-aggregate-write-all
+    write-all-requires returns)

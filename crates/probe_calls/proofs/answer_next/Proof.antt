@@ -21,13 +21,14 @@ enum-known-next c = search needs
 
 array-share-prefix-table : tie.Need-array-share-prefix-table
 array-share-prefix-table c =
-    let at-next = c .before in
-    omega (arith, ap lengthOf (at-next .next .given .1), at-next .before .before .before .next-table .ensures)
+    let at-next-table = c .before .before .before .before in
+    omega (arith, ap lengthOf (c .before .next .given .1), at-next-table .next-table .ensures)
 
 slice-aggregate-answer-table : tie.Need-slice-aggregate-answer-table
 slice-aggregate-answer-table c =
     let at-next = c .before .before in
-    simp length-take (omega (arith, ap lengthOf (at-next .next .given .1), at-next .before .before .before .next-table .ensures))
+    let at-next-table = at-next .before .before .before in
+    simp length-take (omega (arith, ap lengthOf (at-next .next .given .1), at-next-table .next-table .ensures))
 
 answer-table-requires : tie.Need-answer-table-requires
 answer-table-requires c κs = search needs
@@ -44,14 +45,5 @@ returns-2 c = search needs
 pub answer-next-spec : {M : Type 1} → statement M
 answer-next-spec =
     tie.close
-    (tie.spec
-    slice-aggregate-next-table
-    slice-aggregate-next-table-2
-    next-table-requires
-    enum-known-next
-    array-share-prefix-table
-    slice-aggregate-answer-table
-    answer-table-requires
-    enum-told
-    returns
-    returns-2)
+    (tie.spec slice-aggregate-next-table slice-aggregate-next-table-2 next-table-requires enum-known-next array-share-prefix-table
+    slice-aggregate-answer-table answer-table-requires enum-told returns returns-2)

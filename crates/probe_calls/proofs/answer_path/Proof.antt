@@ -15,7 +15,10 @@ array-share-prefix-line : tie.Need-array-share-prefix-line
 array-share-prefix-line c = search needs
 
 slice-aggregate-write-all : tie.Need-slice-aggregate-write-all
-slice-aggregate-write-all c = simp length-take (omega (arith, (c .before .before .write-asked-path .ensures .1)))
+slice-aggregate-write-all c =
+    let at-write-asked-path = c .before .before in
+    let (_, write-asked-path-bound) = at-write-asked-path .write-asked-path .ensures in
+    simp length-take (omega (arith, write-asked-path-bound))
 
 write-all-requires : tie.Need-write-all-requires
 write-all-requires c κs = search needs
@@ -26,10 +29,5 @@ returns c = search needs
 pub answer-path-spec : {M : Type 1} → statement M
 answer-path-spec =
     tie.close
-    (tie.spec
-    slice-aggregate-write-asked-path
-    write-asked-path-requires
-    array-share-prefix-line
-    slice-aggregate-write-all
-    write-all-requires
-    returns)
+    (tie.spec slice-aggregate-write-asked-path write-asked-path-requires array-share-prefix-line slice-aggregate-write-all
+    write-all-requires returns)

@@ -51,19 +51,5 @@ returns-3 c = search needs
 pub answer-questions-spec : {M : Type 1} → statement M
 answer-questions-spec =
     tie.close
-    (tie.spec
-    Inv-loop
-    μ-loop
-    loop-holds
-    slice-aggregate-read-bytes
-    read-bytes-requires
-    slice-aggregate-refuse
-    refuse-requires
-    returns
-    slice-aggregate-answer-words
-    answer-words-requires
-    returns-2
-    sub-left
-    loop-less
-    loop-again
-    returns-3)
+    (tie.spec Inv-loop μ-loop loop-holds slice-aggregate-read-bytes read-bytes-requires slice-aggregate-refuse refuse-requires returns
+    slice-aggregate-answer-words answer-words-requires returns-2 sub-left loop-less loop-again returns-3)

@@ -15,7 +15,10 @@ array-share-prefix-line : tie.Need-array-share-prefix-line
 array-share-prefix-line c = search needs
 
 slice-aggregate-write-all : tie.Need-slice-aggregate-write-all
-slice-aggregate-write-all c = simp length-take (omega (arith, (c .before .before .write-answer .ensures .1)))
+slice-aggregate-write-all c =
+    let at-write-answer = c .before .before in
+    let (_, write-answer-bound) = at-write-answer .write-answer .ensures in
+    simp length-take (omega (arith, write-answer-bound))
 
 write-all-requires : tie.Need-write-all-requires
 write-all-requires c κs = search needs
@@ -26,10 +29,5 @@ returns c = search needs
 pub answer-table-spec : {M : Type 1} → statement M
 answer-table-spec =
     tie.close
-    (tie.spec
-    slice-aggregate-write-answer
-    write-answer-requires
-    array-share-prefix-line
-    slice-aggregate-write-all
-    write-all-requires
+    (tie.spec slice-aggregate-write-answer write-answer-requires array-share-prefix-line slice-aggregate-write-all write-all-requires
     returns)

@@ -22,25 +22,19 @@ enum-known-answer-2 c = search needs
 
 returns : tie.Need-returns
 returns c =
-    let at-call = c .before .before .before .before in
-    let at-start = at-call .before .before .before in
-    entries-number (at-start .args .table .now) (at-start .args .bridge) (at-call .entries .result) _ (at-call .entries .ensures)
+    let at-entries = c .before .before .before .before in
+    let at-start = at-entries .before .before .before in
+    entries-number (at-start .args .table .now) (at-start .args .bridge) (at-entries .entries .result) _ (at-entries .entries .ensures)
     (sym (ap (λ (x : EntriesAnswer). numberOrRefusal (entriesValues x)) (c .before .answer .given .1)))
 
 returns-2 : tie.Need-returns-2
 returns-2 c =
-    let at-call = c .before .before .before .before in
-    let at-start = at-call .before .before .before in
-    entries-number (at-start .args .table .now) (at-start .args .bridge) (at-call .entries .result) _ (at-call .entries .ensures)
+    let at-entries = c .before .before .before .before in
+    let at-start = at-entries .before .before .before in
+    entries-number (at-start .args .table .now) (at-start .args .bridge) (at-entries .entries .result) _ (at-entries .entries .ensures)
     (sym (ap (λ (x : EntriesAnswer). numberOrRefusal (entriesValues x)) (c .before .answer2 .given .1)))
 
 pub bench-entries-spec : {M : Type 1} → statement M
 bench-entries-spec =
     tie.close
-    (tie.spec
-    slice-aggregate-entries
-    entries-requires
-    enum-known-answer
-    enum-known-answer-2
-    returns
-    returns-2)
+    (tie.spec slice-aggregate-entries entries-requires enum-known-answer enum-known-answer-2 returns returns-2)

@@ -22,25 +22,19 @@ enum-known-answer-2 c = search needs
 
 returns : tie.Need-returns
 returns c =
-    let at-call = c .before .before .before .before in
-    let at-start = at-call .before .before .before in
-    path-number (at-start .args .table .now) (at-start .args .vid) (at-start .args .from) (at-start .args .to) (at-call .path .result) _ (at-call .path .ensures)
-    (sym (ap (λ (x : PathAnswer). costOrRefusal (pathValues x)) (c .before .answer .given .1)))
+    let at-path = c .before .before .before .before in
+    let at-start = at-path .before .before .before in
+    path-number (at-start .args .table .now) (at-start .args .vid) (at-start .args .from) (at-start .args .to) (at-path .path .result) _
+    (at-path .path .ensures) (sym (ap (λ (x : PathAnswer). costOrRefusal (pathValues x)) (c .before .answer .given .1)))
 
 returns-2 : tie.Need-returns-2
 returns-2 c =
-    let at-call = c .before .before .before .before in
-    let at-start = at-call .before .before .before in
-    path-number (at-start .args .table .now) (at-start .args .vid) (at-start .args .from) (at-start .args .to) (at-call .path .result) _ (at-call .path .ensures)
-    (sym (ap (λ (x : PathAnswer). costOrRefusal (pathValues x)) (c .before .answer2 .given .1)))
+    let at-path = c .before .before .before .before in
+    let at-start = at-path .before .before .before in
+    path-number (at-start .args .table .now) (at-start .args .vid) (at-start .args .from) (at-start .args .to) (at-path .path .result) _
+    (at-path .path .ensures) (sym (ap (λ (x : PathAnswer). costOrRefusal (pathValues x)) (c .before .answer2 .given .1)))
 
 pub bench-path-spec : {M : Type 1} → statement M
 bench-path-spec =
     tie.close
-    (tie.spec
-    slice-aggregate-path
-    path-requires
-    enum-known-answer
-    enum-known-answer-2
-    returns
-    returns-2)
+    (tie.spec slice-aggregate-path path-requires enum-known-answer enum-known-answer-2 returns returns-2)

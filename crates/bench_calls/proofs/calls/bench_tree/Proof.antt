@@ -28,27 +28,20 @@ enum-known-answer-2 c = search needs
 
 returns : tie.Need-returns
 returns c =
-    let at-call = c .before .before .before .before .before .before in
-    let at-start = at-call .before .before .before .before .before in
-    tree-number (at-start .args .table .now) (at-start .args .vid) (at-start .args .from) (at-call .tree .result) _ _ _ (at-call .tree .ensures)
-    (sym (ap (λ (x : TreeAnswer). numberOrRefusal (treeValues x)) (c .before .answer .given .1)))
+    let at-tree = c .before .before .before .before .before .before in
+    let at-start = at-tree .before .before .before .before .before in
+    tree-number (at-start .args .table .now) (at-start .args .vid) (at-start .args .from) (at-tree .tree .result) _ _ _
+    (at-tree .tree .ensures) (sym (ap (λ (x : TreeAnswer). numberOrRefusal (treeValues x)) (c .before .answer .given .1)))
 
 returns-2 : tie.Need-returns-2
 returns-2 c =
-    let at-call = c .before .before .before .before .before .before in
-    let at-start = at-call .before .before .before .before .before in
-    tree-number (at-start .args .table .now) (at-start .args .vid) (at-start .args .from) (at-call .tree .result) _ _ _ (at-call .tree .ensures)
-    (sym (ap (λ (x : TreeAnswer). numberOrRefusal (treeValues x)) (c .before .answer2 .given .1)))
+    let at-tree = c .before .before .before .before .before .before in
+    let at-start = at-tree .before .before .before .before .before in
+    tree-number (at-start .args .table .now) (at-start .args .vid) (at-start .args .from) (at-tree .tree .result) _ _ _
+    (at-tree .tree .ensures) (sym (ap (λ (x : TreeAnswer). numberOrRefusal (treeValues x)) (c .before .answer2 .given .1)))
 
 pub bench-tree-spec : {M : Type 1} → statement M
 bench-tree-spec =
     tie.close
-    (tie.spec
-    slice-aggregate-tree
-    slice-aggregate-tree-2
-    slice-aggregate-tree-3
-    tree-requires
-    enum-known-answer
-    enum-known-answer-2
-    returns
+    (tie.spec slice-aggregate-tree slice-aggregate-tree-2 slice-aggregate-tree-3 tree-requires enum-known-answer enum-known-answer-2 returns
     returns-2)

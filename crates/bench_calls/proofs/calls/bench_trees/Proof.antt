@@ -20,37 +20,48 @@ enum-known-examined c = search needs
 
 returns : tie.Need-returns
 returns c =
-    let many = how-many bridgeOf 3 0 (wordsOf (c .before .before .before .before .before .before .before .before .before .args .table .now)) (c .before .before .before .examined .given .0 .0 .bridges)
-    in too-many (c .before .before .before .before .before .before .before .before .before .args .table .now) (c .before .before .before .before .before .before .examine .result) (c .before .before .before .before .before .before .examine .ensures .0) (c .before .before .before .before .before .before .before .before .before .args .count) _ (c .before .before .before .examined .given .1) (omega (arith, c .if1 .taken, many))
+    let at-examined = c .before .before .before in
+    let at-examine = at-examined .before .before .before in
+    let at-start = at-examine .before .before .before in
+    let (examine-is, _) = at-examine .examine .ensures in
+    let many = how-many bridgeOf 3 0 (wordsOf (at-start .args .table .now)) (at-examined .examined .given .0 .0 .bridges) in
+    too-many (at-start .args .table .now) (at-examine .examine .result) examine-is (at-start .args .count) _
+    (at-examined .examined .given .1) (omega (arith, c .if1 .taken, many))
 
 slice-aggregate-trees-of-table : tie.Need-slice-aggregate-trees-of-table
 slice-aggregate-trees-of-table c = search needs
 
 trees-of-table-requires : tie.Need-trees-of-table-requires
-trees-of-table-requires c κs = let passed = c .before .before .before .before .before .before .before .examine .ensures .1 _ (c .before .before .before .before .examined .given .1) in (passed .0, omega (arith, c .before .if1 .left), passed .1)
+trees-of-table-requires c κs =
+    let at-examined = c .before .before .before .before in
+    let at-examine = at-examined .before .before .before in
+    let (_, the-passed) = at-examine .examine .ensures in
+    let passed = the-passed _ (at-examined .examined .given .1) in (passed .0, omega (arith, c .before .if1 .left), passed .1)
 
 enum-known-examined-2 : tie.Need-enum-known-examined-2
 enum-known-examined-2 c = search needs
 
 returns-2 : tie.Need-returns-2
 returns-2 c =
-    let many = how-many bridgeOf 3 0 (wordsOf (c .before .before .before .before .before .before .before .before .before .before .before .args .table .now)) (c .before .before .before .before .before .examined .given .0 .0 .bridges)
-    in trees-made (c .before .before .before .before .before .before .before .before .before .before .before .args .table .now) (c .before .before .before .before .before .before .before .before .examine .result) (c .before .before .before .before .before .before .before .before .examine .ensures .0) (c .before .before .before .before .before .before .before .before .before .before .before .args .count) _ (c .before .before .before .before .before .examined .given .1)
-    (omega (arith, c .before .before .if1 .left, many)) (c .trees-of-table .ensures)
+    let at-if1 = c .before .before in
+    let at-examined = at-if1 .before .before .before in
+    let at-examine = at-examined .before .before .before in
+    let at-start = at-examine .before .before .before in
+    let (examine-is, _) = at-examine .examine .ensures in
+    let many = how-many bridgeOf 3 0 (wordsOf (at-start .args .table .now)) (at-examined .examined .given .0 .0 .bridges) in
+    trees-made (at-start .args .table .now) (at-examine .examine .result) examine-is (at-start .args .count) _
+    (at-examined .examined .given .1) (omega (arith, at-if1 .if1 .left, many)) (c .trees-of-table .ensures)
 
 returns-3 : tie.Need-returns-3
-returns-3 c = trees-refused (c .before .before .before .before .before .before .before .args .table .now) (c .before .before .before .before .examine .result) (c .before .before .before .before .examine .ensures .0) (c .before .before .before .before .before .before .before .args .count) _ _ _ (c .before .examined2 .given .1)
+returns-3 c =
+    let at-examine = c .before .before .before .before in
+    let at-start = at-examine .before .before .before in
+    let (examine-is, _) = at-examine .examine .ensures in
+    trees-refused (at-start .args .table .now) (at-examine .examine .result) examine-is (at-start .args .count) _ _ _
+    (c .before .examined2 .given .1)
 
 pub bench-trees-spec : {M : Type 1} → statement M
 bench-trees-spec =
     tie.close
-    (tie.spec
-    slice-aggregate-examine
-    examine-requires
-    enum-known-examined
-    returns
-    slice-aggregate-trees-of-table
-    trees-of-table-requires
-    enum-known-examined-2
-    returns-2
-    returns-3)
+    (tie.spec slice-aggregate-examine examine-requires enum-known-examined returns slice-aggregate-trees-of-table trees-of-table-requires
+    enum-known-examined-2 returns-2 returns-3)

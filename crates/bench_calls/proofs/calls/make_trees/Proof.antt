@@ -21,7 +21,18 @@ loop-holds c = (refl, refl, omega arith, refl)
 
 tree-in-network-requires : tie.Need-tree-in-network-requires Inv-loop μ-loop
 tree-in-network-requires c κs =
-    (c .before .before .before .before .before .before .before .pre .0, omega arith, omega arith, omega (arith, c .before .before .before .before .before .before .before .pre .1, c .before .before .loop-test .taken), omega (arith, c .before .before .before .before .before .before .before .pre .2, c .before .before .before .loop .inv .0), omega (arith, c .before .before .before .before .before .before .before .pre .3, c .before .before .before .loop .inv .1))
+    let at-loop-test = c .before .before in
+    let at-loop = at-loop-test .before in
+    let at-start = at-loop .before .before .before .before in
+    let (is-network, count-bound, labels-room, path-ids-room) = at-start .pre in
+    let (labels-length, path-ids-length, _, _) = at-loop .loop .inv in (
+      is-network,
+      omega arith,
+      omega arith,
+      omega (arith, count-bound, at-loop-test .loop-test .taken),
+      omega (arith, labels-room, labels-length),
+      omega (arith, path-ids-room, path-ids-length),
+    )
 
 add-root : tie.Need-add-root Inv-loop μ-loop
 add-root c = search needs
@@ -30,7 +41,12 @@ loop-less : tie.Need-loop-less Inv-loop μ-loop
 loop-less c = search needs
 
 loop-again : tie.Need-loop-again Inv-loop μ-loop
-loop-again c = (search needs, search needs, omega (arith, c .before .before .before .before .before .before .before .loop-test .taken), next-tree _ _ _ _ (c .before .before .before .before .tree-in-network .ensures))
+loop-again c = (
+  search needs,
+  search needs,
+  let at-loop-test = c .before .before .before .before .before .before .before in omega (arith, at-loop-test .loop-test .taken),
+  let at-tree-in-network = c .before .before .before .before in next-tree _ _ _ _ (at-tree-in-network .tree-in-network .ensures),
+)
 
 same-length : tie.Need-same-length Inv-loop μ-loop
 same-length c = search needs
@@ -44,14 +60,4 @@ returns c = all-trees _ _ _ _ _ (c .before .loop .inv .2) (c .loop-test .left) (
 pub make-trees-spec : {M : Type 1} → statement M
 make-trees-spec =
     tie.close
-    (tie.spec
-    Inv-loop
-    μ-loop
-    loop-holds
-    tree-in-network-requires
-    add-root
-    loop-less
-    loop-again
-    same-length
-    same-length-2
-    returns)
+    (tie.spec Inv-loop μ-loop loop-holds tree-in-network-requires add-root loop-less loop-again same-length same-length-2 returns)

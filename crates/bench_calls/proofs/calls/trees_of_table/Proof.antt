@@ -23,7 +23,15 @@ slice-aggregate-make-trees-3 : tie.Need-slice-aggregate-make-trees-3
 slice-aggregate-make-trees-3 c = search needs
 
 make-trees-requires : tie.Need-make-trees-requires
-make-trees-requires c κs = (is-network (c .before .before .before .before .make-network .ensures), omega (arith, bridges-in-table (c .before .before .before .before .make-network .ensures), c .before .before .before .before .before .before .before .before .pre .1), omega arith, omega arith)
+make-trees-requires c κs =
+    let at-make-network = c .before .before .before .before in
+    let at-start = at-make-network .before .before .before .before in
+    let (_, count-bound, _) = at-start .pre in (
+      is-network (at-make-network .make-network .ensures),
+      omega (arith, bridges-in-table (at-make-network .make-network .ensures), count-bound),
+      omega arith,
+      omega arith,
+    )
 
 slice-aggregate-cost-at : tie.Need-slice-aggregate-cost-at
 slice-aggregate-cost-at c = search needs
@@ -33,19 +41,16 @@ cost-at-requires c κs = search needs
 
 returns : tie.Need-returns
 returns c =
+    let at-make-trees = c .before .before .before .before in
+    let at-make-network = at-make-trees .before .before .before .before .before in
+    let at-start = at-make-network .before .before .before .before in
+    let (_, count-bound, _) = at-start .pre in
     c .cost-at .ensures
-    ∙ last-label _ (c .before .before .before .before .before .before .before .before .before .make-network .ensures .network) _ (c .before .before .before .before .before .before .before .before .before .before .before .before .before .args .count) (omega (arith, bridges-in-table (c .before .before .before .before .before .before .before .before .before .make-network .ensures), c .before .before .before .before .before .before .before .before .before .before .before .before .before .pre .1)) (c .before .before .before .before .make-trees .ensures)
+    ∙ last-label _ (at-make-network .make-network .ensures .network) _ (at-start .args .count)
+    (omega (arith, bridges-in-table (at-make-network .make-network .ensures), count-bound)) (at-make-trees .make-trees .ensures)
 
 pub trees-of-table-spec : {M : Type 1} → statement M
 trees-of-table-spec =
     tie.close
-    (tie.spec
-    slice-aggregate-make-network
-    make-network-requires
-    slice-aggregate-make-trees
-    slice-aggregate-make-trees-2
-    slice-aggregate-make-trees-3
-    make-trees-requires
-    slice-aggregate-cost-at
-    cost-at-requires
-    returns)
+    (tie.spec slice-aggregate-make-network make-network-requires slice-aggregate-make-trees slice-aggregate-make-trees-2
+    slice-aggregate-make-trees-3 make-trees-requires slice-aggregate-cost-at cost-at-requires returns)

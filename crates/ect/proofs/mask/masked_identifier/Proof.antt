@@ -11,7 +11,10 @@ spread-mask-requires : tie.Need-spread-mask-requires
 spread-mask-requires c κs = search needs
 
 returns : tie.Need-returns
-returns c = ap (bitXor (c .before .args .identifier)) (c .spread-mask .ensures) ∙ eight-bytes (c .before .args .mask) (c .before .args .identifier) (omega arith) (omega arith)
+returns c =
+    let at-start = c .before in
+    ap (bitXor (at-start .args .identifier)) (c .spread-mask .ensures)
+    ∙ eight-bytes (at-start .args .mask) (at-start .args .identifier) (omega arith) (omega arith)
 
 pub masked-identifier-spec : {M : Type 1} → statement M
 masked-identifier-spec = tie.close (tie.spec spread-mask-requires returns)

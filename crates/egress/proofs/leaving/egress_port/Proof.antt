@@ -14,64 +14,103 @@ abbrev μ-loop : tie.MeasureT-loop
 μ-loop labels hops b d c₀ c = labelAt labels c .hops
 
 cost-at-requires : tie.Need-cost-at-requires Inv-loop μ-loop
-cost-at-requires c κs = omega (arith, c .before .before .pre .0 .inside, c .before .before .pre .0 .walkable .most, c .before .before .pre .1)
+cost-at-requires c κs =
+    let at-start = c .before .before in
+    let (walkable-from, labels-room, _) = at-start .pre in
+    omega (arith, walkable-from .inside, walkable-from .walkable .most, labels-room)
 
 is-no-path-requires : tie.Need-is-no-path-requires Inv-loop μ-loop
 is-no-path-requires c κs = search needs
 
 returns : tie.Need-returns Inv-loop μ-loop
-returns c = no-way _ _ _ _ (no-path (c .before .before .cost-at .ensures) (c .before .is-no-path .ensures) (c .if1 .taken))
+returns c =
+    let at-cost-at = c .before .before in
+    no-way _ _ _ _ (no-path (at-cost-at .cost-at .ensures) (c .before .is-no-path .ensures) (c .if1 .taken))
 
 loop-holds : tie.Need-loop-holds Inv-loop μ-loop
-loop-holds c = walking-starts _ _ _ _ (c .before .before .before .before .before .pre .0) (a-path (c .before .before .cost-at .ensures) (c .before .is-no-path .ensures) (c .if1 .left))
+loop-holds c =
+    let at-cost-at = c .before .before in
+    let at-start = at-cost-at .before .before .before in
+    let (walkable-from, _, _) = at-start .pre in
+    walking-starts _ _ _ _ walkable-from (a-path (at-cost-at .cost-at .ensures) (c .before .is-no-path .ensures) (c .if1 .left))
 
 hops-at-requires : tie.Need-hops-at-requires Inv-loop μ-loop
-hops-at-requires c κs = omega (arith, walking-inside (c .loop .inv), c .before .before .before .before .before .before .pre .1)
+hops-at-requires c κs =
+    let at-start = c .before .before .before .before .before .before in
+    let (_, labels-room, _) = at-start .pre in
+    omega (arith, walking-inside (c .loop .inv), labels-room)
 
 differs-requires : tie.Need-differs-requires Inv-loop μ-loop
 differs-requires c κs = search needs
 
 next-number-requires : tie.Need-next-number-requires Inv-loop μ-loop
-next-number-requires c κs = omega (arith, walking-inside (c .before .before .before .loop .inv), c .before .before .before .before .before .before .before .before .before .pre .1)
+next-number-requires c κs =
+    let at-loop = c .before .before .before in
+    let at-start = at-loop .before .before .before .before .before .before in
+    let (_, labels-room, _) = at-start .pre in
+    omega (arith, walking-inside (at-loop .loop .inv), labels-room)
 
 mul-result : tie.Need-mul-result Inv-loop μ-loop
-mul-result c = omega (arith, walking-inside (c .before .before .before .before .before .loop .inv))
+mul-result c =
+    let at-loop = c .before .before .before .before .before in
+    omega (arith, walking-inside (at-loop .loop .inv))
 
 shared-slice-read-result : tie.Need-shared-slice-read-result Inv-loop μ-loop
-shared-slice-read-result c = omega (arith, walking-inside (c .before .before .before .before .before .before .loop .inv), c .before .before .before .before .before .before .before .before .before .before .before .before .pre .2)
+shared-slice-read-result c =
+    let at-loop = c .before .before .before .before .before .before in
+    let at-start = at-loop .before .before .before .before .before .before in
+    let (_, _, hops-room) = at-start .pre in
+    omega (arith, walking-inside (at-loop .loop .inv), hops-room)
 
 returns-2 : tie.Need-returns-2 Inv-loop μ-loop
-returns-2 c = walking-finds (c .before .before .before .before .before .before .loop .inv) (c .before .before .before .before .before .hops-at .ensures) (differ (c .before .before .before .before .differs .ensures) (c .before .before .before .if2 .taken)) _ (c .before .before .next-number .ensures) (c .before .if3 .taken)
+returns-2 c =
+    let at-next-number = c .before .before in
+    let at-if2 = at-next-number .before in
+    let at-differs = at-if2 .before in
+    let at-hops-at = at-differs .before in
+    let at-loop = at-hops-at .before in
+    walking-finds (at-loop .loop .inv) (at-hops-at .hops-at .ensures) (differ (at-differs .differs .ensures) (at-if2 .if2 .taken)) _
+    (at-next-number .next-number .ensures) (c .before .if3 .taken)
 
 cast-c : tie.Need-cast-c Inv-loop μ-loop
-cast-c c = omega (arith, walking-inside (walking-goes-on (c .before .before .before .before .before .loop .inv) (c .before .before .before .before .hops-at .ensures) (differ (c .before .before .before .differs .ensures) (c .before .before .if2 .taken)) _ (c .before .next-number .ensures) (c .if3 .left)))
+cast-c c =
+    let at-if2 = c .before .before in
+    let at-differs = at-if2 .before in
+    let at-hops-at = at-differs .before in
+    let at-loop = at-hops-at .before in
+    omega (
+      arith,
+      walking-inside
+          (walking-goes-on (at-loop .loop .inv) (at-hops-at .hops-at .ensures) (differ (at-differs .differs .ensures) (at-if2 .if2 .taken)) _
+          (c .before .next-number .ensures) (c .if3 .left)),
+    )
 
 loop-less : tie.Need-loop-less Inv-loop μ-loop
-loop-less c = fewer-hops (c .before .before .before .before .before .loop .inv) (c .before .before .before .before .hops-at .ensures) (differ (c .before .before .before .differs .ensures) (c .before .before .if2 .taken)) _ (c .before .next-number .ensures)
+loop-less c =
+    let at-if2 = c .before .before in
+    let at-differs = at-if2 .before in
+    let at-hops-at = at-differs .before in
+    let at-loop = at-hops-at .before in
+    fewer-hops (at-loop .loop .inv) (at-hops-at .hops-at .ensures) (differ (at-differs .differs .ensures) (at-if2 .if2 .taken)) _
+    (c .before .next-number .ensures)
 
 loop-again : tie.Need-loop-again Inv-loop μ-loop
-loop-again c = walking-goes-on (c .before .before .before .before .before .loop .inv) (c .before .before .before .before .hops-at .ensures) (differ (c .before .before .before .differs .ensures) (c .before .before .if2 .taken)) _ (c .before .next-number .ensures) (c .if3 .left)
+loop-again c =
+    let at-if2 = c .before .before in
+    let at-differs = at-if2 .before in
+    let at-hops-at = at-differs .before in
+    let at-loop = at-hops-at .before in
+    walking-goes-on (at-loop .loop .inv) (at-hops-at .hops-at .ensures) (differ (at-differs .differs .ensures) (at-if2 .if2 .taken)) _
+    (c .before .next-number .ensures) (c .if3 .left)
 
 returns-3 : tie.Need-returns-3 Inv-loop μ-loop
-returns-3 c = walking-ends (c .before .before .before .loop .inv) (c .before .before .hops-at .ensures) (agree (c .before .differs .ensures) (c .if2 .left))
+returns-3 c =
+    let at-hops-at = c .before .before in
+    let at-loop = at-hops-at .before in
+    walking-ends (at-loop .loop .inv) (at-hops-at .hops-at .ensures) (agree (c .before .differs .ensures) (c .if2 .left))
 
 pub egress-port-spec : {M : Type 1} → statement M
 egress-port-spec =
     tie.close
-    (tie.spec
-    Inv-loop
-    μ-loop
-    cost-at-requires
-    is-no-path-requires
-    returns
-    loop-holds
-    hops-at-requires
-    differs-requires
-    next-number-requires
-    mul-result
-    shared-slice-read-result
-    returns-2
-    cast-c
-    loop-less
-    loop-again
-    returns-3)
+    (tie.spec Inv-loop μ-loop cost-at-requires is-no-path-requires returns loop-holds hops-at-requires differs-requires next-number-requires
+    mul-result shared-slice-read-result returns-2 cast-c loop-less loop-again returns-3)

@@ -24,10 +24,16 @@ slice-read-if1 : tie.Need-slice-read-if1
 slice-read-if1 c = search needs
 
 returns : tie.Need-returns
-returns c = (c .before .before .before .before .before .before .before .pre .1 .4, ((kept-all _, record { there = omega (arith, c .if1 .taken) }, omega arith), c .before .before .before .before .before .before .before .pre .0 .3))
+returns c =
+    let at-start = c .before .before .before .before .before .before .before in
+    let ((_, _, _, trees-kept), (_, _, _, _, egress-rows-kept)) = at-start .pre in
+    (egress-rows-kept, ((kept-all _, record { there = omega (arith, c .if1 .taken) }, omega arith), trees-kept))
 
 kept-tree-requires : tie.Need-kept-tree-requires
-kept-tree-requires c κs = ((c .before .before .before .before .before .before .before .before .before .pre .0 .0, c .before .before .before .before .before .before .before .before .before .pre .1 .0, c .before .before .before .before .before .before .before .before .before .pre .1 .1, omega (arith, c .before .before .before .before .before .before .before .before .before .pre .1 .2)), (c .before .before .before .before .before .before .before .before .before .pre .0 .2, c .before .before .before .before .before .before .before .before .before .pre .0 .3))
+kept-tree-requires c κs =
+    let at-start = c .before .before .before .before .before .before .before .before .before in
+    let ((is-network, _, path-ids-room, trees-kept), (index-least, index-bound, a-bound, _, _)) = at-start .pre in
+    ((is-network, index-least, index-bound, omega (arith, a-bound)), (path-ids-room, trees-kept))
 
 mul-place : tie.Need-mul-place
 mul-place c = search needs
@@ -45,10 +51,18 @@ slice-write-egress-rows : tie.Need-slice-write-egress-rows
 slice-write-egress-rows c = search needs
 
 add-write-egress-row : tie.Need-add-write-egress-row
-add-write-egress-row c = omega (arith, (c .before .before .before .before .kept-tree .ensures .1 .0), (c .before .store .given), (c .before .before .before .before .before .before .before .before .before .before .before .before .before .before .good))
+add-write-egress-row c =
+    let at-kept-tree = c .before .before .before .before in
+    let at-good = at-kept-tree .before .before .before .before .before .before .before .before .before .before in
+    let (_, (kept-tree-bound, _)) = at-kept-tree .kept-tree .ensures in
+    omega (arith, kept-tree-bound, (c .before .store .given), (at-good .good))
 
 mul-write-egress-row : tie.Need-mul-write-egress-row
-mul-write-egress-row c = omega (arith, (c .before .before .before .before .kept-tree .ensures .1 .0), (c .before .store .given), (c .before .before .before .before .before .before .before .before .before .before .before .before .before .before .good))
+mul-write-egress-row c =
+    let at-kept-tree = c .before .before .before .before in
+    let at-good = at-kept-tree .before .before .before .before .before .before .before .before .before .before in
+    let (_, (kept-tree-bound, _)) = at-kept-tree .kept-tree .ensures in
+    omega (arith, kept-tree-bound, (c .before .store .given), (at-good .good))
 
 sub-write-egress-row : tie.Need-sub-write-egress-row
 sub-write-egress-row c = search needs
@@ -60,13 +74,32 @@ part-write-egress-row-end : tie.Need-part-write-egress-row-end
 part-write-egress-row-end c = search needs
 
 bridges-requires : tie.Need-bridges-requires
-bridges-requires c κs = c .before .before .before .before .before .before .before .before .before .before .before .before .before .before .before .before .pre .0 .0 .network .size
+bridges-requires c κs =
+    let at-start =
+    c .before .before .before .before .before .before .before .before .before .before .before .before .before .before .before .before in
+    let ((is-network, _, _, _), _) = at-start .pre in
+    is-network .network .size
 
 write-egress-row-requires : tie.Need-write-egress-row-requires
-write-egress-row-requires c κs = (walkable-by (c .before .before .before .before .before .before .before .before .before .before .before .before .before .before .before .before .before .before .pre .0 .0 .network) (c .before .before .before .before .before .before .before .before .before .before .before .before .before .before .before .before .before .before .args .index) _ ((lent-tree _ (c .before .before .before .before .before .before .before .before .kept-tree .result) (c .before .before .before .before .before .before .before .before .kept-tree .ensures .1 .1)) .of-plan (c .before .before .before .before .before .before .before .before .before .before .before .before .before .before .before .before .before .before .pre .0 .0 .plan) (c .before .before .before .before .before .before .before .before .before .before .before .before .before .before .before .before .before .before .pre .0 .0 .network)) _ (c .before .bridges .ensures), simp (length-take, length-drop) (omega (arith, c .before .before .before .before .before .before .before .before .kept-tree .ensures .1 .0)), c .before .before .before .before .before .before .before .before .before .before .before .before .before .before .before .before .before .before .pre .0 .1, simp length-set (omega (arith, c .before .before .before .before .before .before .before .before .before .before .before .before .before .before .before .before .before .before .pre .1 .4 .size, c .before .before .before .before .before .before .before .before .before .before .before .before .before .before .before .before .before .before .pre .1 .3, c .before .bridges .ensures, c .before .before .before .before .before .before .before .before .before .before .before .before .before .before .before .before .before .before .pre .0 .0 .network .represents .most)))
+write-egress-row-requires c κs =
+    let at-kept-tree = c .before .before .before .before .before .before .before .before in
+    let at-start = at-kept-tree .before .before .before .before .before .before .before .before .before .before in
+    let ((is-network, hops-room, _, _), (_, _, _, count-bound, egress-rows-kept)) = at-start .pre in
+    let (_, (kept-tree-bound, tree-in)) = at-kept-tree .kept-tree .ensures in
+    let network = is-network .network in (
+      walkable-by network (at-start .args .index) _
+          ((lent-tree _ (at-kept-tree .kept-tree .result) tree-in) .of-plan (is-network .plan) network) _ (c .before .bridges .ensures),
+      simp (length-take, length-drop) (omega (arith, kept-tree-bound)),
+      hops-room,
+      simp length-set (omega (arith, egress-rows-kept .size, count-bound, c .before .bridges .ensures, network .represents .most)),
+    )
 
 add-result : tie.Need-add-result
-add-result c = omega (arith, c .before .before .before .before .before .before .before .before .before .before .before .before .before .before .before .before .before .before .before .before .before .pre .1 .3)
+add-result c =
+    let at-start =
+    c .before .before .before .before .before .before .before .before .before .before .before .before .before .before .before .before .before .before .before .before .before in
+    let (_, (_, _, _, count-bound, _)) = at-start .pre in
+    omega (arith, count-bound)
 
 same-length : tie.Need-same-length
 same-length c = search needs
@@ -75,36 +108,48 @@ same-length-2 : tie.Need-same-length-2
 same-length-2 c = search needs
 
 same-length-3 : tie.Need-same-length-3
-same-length-3 c = rows-length (c .before .before .before .before .before .before .before .before .before .before .before .before .before .before .before .before .before .before .before .before .before .pre .1 .4) (c .before .before .before .before .before .before .before .before .before .before .before .before .before .before .before .before .before .before .before .before .before .pre .0 .0 .network .represents .most) (c .before .before .before .before .before .before .before .before .before .before .before .before .before .before .before .before .before .before .before .before .before .pre .1 .3) (c .before .before .before .before .before .before .before .before .before .before .before .before .before .before .before .before .before .before .before .before .before .args .index) (c .before .before .before .before .before .before .before .before .before .before .before .before .before .before .before .before .before .before .before .before .before .args .a) (c .before .before .before .before .before .before .before .before .before .before .before .before .before .before .before .before .before .before .before .before .before .pre .1 .0) (c .before .before .before .before .before .before .before .before .before .before .before .before .before .before .before .before .before .before .before .before .before .pre .1 .1) (c .before .before .before .before .before .before .before .before .before .before .before .before .before .before .before .before .before .before .before .before .before .pre .1 .2) (lent-tree _ (c .before .before .before .before .before .before .before .before .before .before .before .kept-tree .result) (c .before .before .before .before .before .before .before .before .before .before .before .kept-tree .ensures .1 .1)) _ (c .before .before .before .before .bridges .ensures) _ _ (c .before .before .write-egress-row .ensures)
+same-length-3 c =
+    let at-write-egress-row = c .before .before in
+    let at-bridges = at-write-egress-row .before .before in
+    let at-kept-tree = at-bridges .before .before .before .before .before .before .before in
+    let at-start = at-kept-tree .before .before .before .before .before .before .before .before .before .before in
+    let ((is-network, _, _, _), (index-least, index-bound, a-bound, count-bound, egress-rows-kept)) = at-start .pre in
+    let (_, (_, tree-in)) = at-kept-tree .kept-tree .ensures in
+    rows-length egress-rows-kept (is-network .network .represents .most) count-bound (at-start .args .index) (at-start .args .a) index-least
+    index-bound a-bound (lent-tree _ (at-kept-tree .kept-tree .result) tree-in) _ (at-bridges .bridges .ensures) _ _
+    (at-write-egress-row .write-egress-row .ensures)
 
 returns-2 : tie.Need-returns-2
-returns-2 c = (row-added (c .before .before .before .before .before .before .before .before .before .before .before .before .before .before .before .before .before .before .before .before .before .pre .1 .4) (c .before .before .before .before .before .before .before .before .before .before .before .before .before .before .before .before .before .before .before .before .before .pre .0 .0 .network .represents .most) (c .before .before .before .before .before .before .before .before .before .before .before .before .before .before .before .before .before .before .before .before .before .pre .1 .3) (c .before .before .before .before .before .before .before .before .before .before .before .before .before .before .before .before .before .before .before .before .before .args .index) (c .before .before .before .before .before .before .before .before .before .before .before .before .before .before .before .before .before .before .before .before .before .args .a) (c .before .before .before .before .before .before .before .before .before .before .before .before .before .before .before .before .before .before .before .before .before .pre .1 .0) (c .before .before .before .before .before .before .before .before .before .before .before .before .before .before .before .before .before .before .before .before .before .pre .1 .1) (c .before .before .before .before .before .before .before .before .before .before .before .before .before .before .before .before .before .before .before .before .before .pre .1 .2) (lent-tree _ (c .before .before .before .before .before .before .before .before .before .before .before .kept-tree .result) (c .before .before .before .before .before .before .before .before .before .before .before .kept-tree .ensures .1 .1)) _ (c .before .before .before .before .bridges .ensures) _ _ (c .before .before .write-egress-row .ensures), ((row-kept (c .before .before .before .before .before .before .before .before .before .before .before .before .before .before .before .before .before .before .before .before .before .pre .1 .4) (c .before .before .before .before .before .before .before .before .before .before .before .before .before .before .before .before .before .before .before .before .before .pre .0 .0 .network .represents .most) (c .before .before .before .before .before .before .before .before .before .before .before .before .before .before .before .before .before .before .before .before .before .pre .1 .3) (c .before .before .before .before .before .before .before .before .before .before .before .before .before .before .before .before .before .before .before .before .before .args .index) (c .before .before .before .before .before .before .before .before .before .before .before .before .before .before .before .before .before .before .before .before .before .args .a) (c .before .before .before .before .before .before .before .before .before .before .before .before .before .before .before .before .before .before .before .before .before .pre .1 .0) (c .before .before .before .before .before .before .before .before .before .before .before .before .before .before .before .before .before .before .before .before .before .pre .1 .1) (c .before .before .before .before .before .before .before .before .before .before .before .before .before .before .before .before .before .before .before .before .before .pre .1 .2) (lent-tree _ (c .before .before .before .before .before .before .before .before .before .before .before .kept-tree .result) (c .before .before .before .before .before .before .before .before .before .before .before .kept-tree .ensures .1 .1)) _ (c .before .before .before .before .bridges .ensures) _ _ (c .before .before .write-egress-row .ensures), row-there (c .before .before .before .before .before .before .before .before .before .before .before .before .before .before .before .before .before .before .before .before .before .pre .1 .4) (c .before .before .before .before .before .before .before .before .before .before .before .before .before .before .before .before .before .before .before .before .before .pre .0 .0 .network .represents .most) (c .before .before .before .before .before .before .before .before .before .before .before .before .before .before .before .before .before .before .before .before .before .pre .1 .3) (c .before .before .before .before .before .before .before .before .before .before .before .before .before .before .before .before .before .before .before .before .before .args .index) (c .before .before .before .before .before .before .before .before .before .before .before .before .before .before .before .before .before .before .before .before .before .args .a) (c .before .before .before .before .before .before .before .before .before .before .before .before .before .before .before .before .before .before .before .before .before .pre .1 .0) (c .before .before .before .before .before .before .before .before .before .before .before .before .before .before .before .before .before .before .before .before .before .pre .1 .1) (c .before .before .before .before .before .before .before .before .before .before .before .before .before .before .before .before .before .before .before .before .before .pre .1 .2) (lent-tree _ (c .before .before .before .before .before .before .before .before .before .before .before .kept-tree .result) (c .before .before .before .before .before .before .before .before .before .before .before .kept-tree .ensures .1 .1)) _ (c .before .before .before .before .bridges .ensures) _ _ (c .before .before .write-egress-row .ensures), omega arith), c .before .before .before .before .before .before .before .before .before .before .before .kept-tree .ensures .0))
+returns-2 c =
+    let at-write-egress-row = c .before .before in
+    let at-bridges = at-write-egress-row .before .before in
+    let at-kept-tree = at-bridges .before .before .before .before .before .before .before in
+    let at-start = at-kept-tree .before .before .before .before .before .before .before .before .before .before in
+    let ((is-network, _, _, _), (index-least, index-bound, a-bound, count-bound, egress-rows-kept)) = at-start .pre in
+    let (trees-kept, (_, tree-in)) = at-kept-tree .kept-tree .ensures in
+    let write-egress-row-ensures = at-write-egress-row .write-egress-row .ensures in
+    let most = is-network .network .represents .most in
+    let kept-tree-result = at-kept-tree .kept-tree .result in
+    let bridges-ensures = at-bridges .bridges .ensures in
+    let index = at-start .args .index in
+    let a = at-start .args .a in (
+      row-added egress-rows-kept most count-bound index a index-least index-bound a-bound (lent-tree _ kept-tree-result tree-in) _
+          bridges-ensures _ _ write-egress-row-ensures,
+      (
+        (
+          row-kept egress-rows-kept most count-bound index a index-least index-bound a-bound (lent-tree _ kept-tree-result tree-in) _
+              bridges-ensures _ _ write-egress-row-ensures,
+          row-there egress-rows-kept most count-bound index a index-least index-bound a-bound (lent-tree _ kept-tree-result tree-in) _
+              bridges-ensures _ _ write-egress-row-ensures,
+          omega arith,
+        ),
+        trees-kept,
+      ),
+    )
 
 pub keep-egress-row-spec : {M : Type 1} → statement M
 keep-egress-row-spec =
     tie.close
-    (tie.spec
-    sub-slot
-    mul-slot
-    add-slot
-    mul-if1
-    slice-read-if1
-    returns
-    kept-tree-requires
-    mul-place
-    add-place
-    cast-egress-rows
-    mul-egress-rows
-    slice-write-egress-rows
-    add-write-egress-row
-    mul-write-egress-row
-    sub-write-egress-row
-    part-write-egress-row-start
-    part-write-egress-row-end
-    bridges-requires
-    write-egress-row-requires
-    add-result
-    same-length
-    same-length-2
-    same-length-3
-    returns-2)
+    (tie.spec sub-slot mul-slot add-slot mul-if1 slice-read-if1 returns kept-tree-requires mul-place add-place cast-egress-rows
+    mul-egress-rows slice-write-egress-rows add-write-egress-row mul-write-egress-row sub-write-egress-row part-write-egress-row-start
+    part-write-egress-row-end bridges-requires write-egress-row-requires add-result same-length same-length-2 same-length-3 returns-2)

@@ -1,5 +1,4 @@
 -- `entries::list::copy` copies word after word. Assumes nothing.
-use native.Mathlib.Omega.{arith}
 use Prim.Native.Nat.{_-_}
 use lib.ListN.{length}
 use Rattle.entries.specs.laws.WholeLaws.{Copying, copying-starts, copying-length, copying-room, copying-goes-on, copying-ends}
@@ -26,7 +25,9 @@ mul-list-2 : tie.Need-mul-list-2 Inv-loop μ-loop
 mul-list-2 c = search needs
 
 slice-write-list : tie.Need-slice-write-list Inv-loop μ-loop
-slice-write-list c = copying-room ((c .before .before .loop .inv)) ((c .before .loop-test .taken))
+slice-write-list c =
+    let at-loop = c .before .before in
+    copying-room ((at-loop .loop .inv)) ((c .before .loop-test .taken))
 
 add-i : tie.Need-add-i Inv-loop μ-loop
 add-i c = search needs
@@ -35,7 +36,9 @@ loop-less : tie.Need-loop-less Inv-loop μ-loop
 loop-less c = search needs
 
 loop-again : tie.Need-loop-again Inv-loop μ-loop
-loop-again c = copying-goes-on ((c .before .before .loop .inv)) ((c .before .loop-test .taken))
+loop-again c =
+    let at-loop = c .before .before in
+    copying-goes-on ((at-loop .loop .inv)) ((c .before .loop-test .taken))
 
 same-length : tie.Need-same-length Inv-loop μ-loop
 same-length c = copying-length ((c .before .loop .inv))
@@ -46,16 +49,5 @@ returns c = copying-ends ((c .before .loop .inv)) ((c .loop-test .left))
 pub copy-spec : {M : Type 1} → statement M
 copy-spec =
     tie.close
-    (tie.spec
-    Inv-loop
-    μ-loop
-    loop-holds
-    mul-list
-    shared-slice-read-list
-    mul-list-2
-    slice-write-list
-    add-i
-    loop-less
-    loop-again
-    same-length
+    (tie.spec Inv-loop μ-loop loop-holds mul-list shared-slice-read-list mul-list-2 slice-write-list add-i loop-less loop-again same-length
     returns)

@@ -10,7 +10,10 @@ use Rattle.entries.proofs.list.entries_in_table.Statement.{statement}
 use Rattle.entries.proofs.list.entries_in_table.Tie as tie
 
 returns : tie.Need-returns
-returns c = lacks-bridge (c .before .before .before .before .before .pre .0) ((c .before .before .before .before .before .args .bridge)) ((c .if1 .taken)) ((c .before .before .before .before .before .args .list .now))
+returns c =
+    let at-start = c .before .before .before .before .before in
+    let (checked, _) = at-start .pre in
+    lacks-bridge checked ((at-start .args .bridge)) ((c .if1 .taken)) ((at-start .args .list .now))
 
 slice-aggregate-list-of-table : tie.Need-slice-aggregate-list-of-table
 slice-aggregate-list-of-table c = search needs
@@ -19,29 +22,46 @@ list-of-table-requires : tie.Need-list-of-table-requires
 list-of-table-requires c κs = search needs
 
 array-share-prefix-words : tie.Need-array-share-prefix-words
-array-share-prefix-words c = omega (arith, few-made (c .before .before .before .before .before .before .before .before .pre .0) ((c .before .before .before .before .before .before .before .before .args .bridge)) ((c .before .before .before .if1 .left)) ((c .before .list-of-table .ensures)))
+array-share-prefix-words c =
+    let at-if1 = c .before .before .before in
+    let at-start = at-if1 .before .before .before .before .before in
+    let (checked, _) = at-start .pre in
+    omega (arith, few-made checked ((at-start .args .bridge)) ((at-if1 .if1 .left)) ((c .before .list-of-table .ensures)))
 
 slice-aggregate-fitted : tie.Need-slice-aggregate-fitted
-slice-aggregate-fitted c = simp length-take (omega (arith, few-made (c .before .before .before .before .before .before .before .before .before .pre .0) ((c .before .before .before .before .before .before .before .before .before .args .bridge)) ((c .before .before .before .before .if1 .left)) ((c .before .before .list-of-table .ensures))))
+slice-aggregate-fitted c =
+    let at-list-of-table = c .before .before in
+    let at-if1 = at-list-of-table .before .before in
+    let at-start = at-if1 .before .before .before .before .before in
+    let (checked, _) = at-start .pre in
+    simp length-take
+    (omega (arith, few-made checked ((at-start .args .bridge)) ((at-if1 .if1 .left)) ((at-list-of-table .list-of-table .ensures))))
 
 fitted-requires : tie.Need-fitted-requires
-fitted-requires c κs = simp length-take (omega (arith, few-made (c .before .before .before .before .before .before .before .before .before .before .pre .0) ((c .before .before .before .before .before .before .before .before .before .before .args .bridge)) ((c .before .before .before .before .before .if1 .left)) ((c .before .before .before .list-of-table .ensures))))
+fitted-requires c κs =
+    let at-list-of-table = c .before .before .before in
+    let at-if1 = at-list-of-table .before .before in
+    let at-start = at-if1 .before .before .before .before .before in
+    let (checked, _) = at-start .pre in
+    simp length-take
+    (omega (arith, few-made checked ((at-start .args .bridge)) ((at-if1 .if1 .left)) ((at-list-of-table .list-of-table .ensures))))
 
 same-length : tie.Need-same-length
 same-length c = search needs
 
 returns-2 : tie.Need-returns-2
-returns-2 c = (c .before .before .fitted .ensures) ∙ ap (λ (o : Outcome (Written ℕ)). lentTo ((c .before .before .before .before .before .before .before .before .before .before .before .before .before .args .list .now)) o) (answer-made (c .before .before .before .before .before .before .before .before .before .before .before .before .before .pre .0) ((c .before .before .before .before .before .before .before .before .before .before .before .before .before .args .bridge)) ((c .before .before .before .before .before .before .before .before .if1 .left)) ((c .before .before .before .before .before .before .list-of-table .ensures)))
+returns-2 c =
+    let at-fitted = c .before .before in
+    let at-list-of-table = at-fitted .before .before .before .before in
+    let at-if1 = at-list-of-table .before .before in
+    let at-start = at-if1 .before .before .before .before .before in
+    let (checked, _) = at-start .pre in
+    (at-fitted .fitted .ensures)
+    ∙ ap (λ (o : Outcome (Written ℕ)). lentTo ((at-start .args .list .now)) o)
+    (answer-made checked ((at-start .args .bridge)) ((at-if1 .if1 .left)) ((at-list-of-table .list-of-table .ensures)))
 
 pub entries-in-table-spec : {M : Type 1} → statement M
 entries-in-table-spec =
     tie.close
-    (tie.spec
-    returns
-    slice-aggregate-list-of-table
-    list-of-table-requires
-    array-share-prefix-words
-    slice-aggregate-fitted
-    fitted-requires
-    same-length
-    returns-2)
+    (tie.spec returns slice-aggregate-list-of-table list-of-table-requires array-share-prefix-words slice-aggregate-fitted fitted-requires
+    same-length returns-2)

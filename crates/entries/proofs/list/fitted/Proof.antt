@@ -1,5 +1,4 @@
 -- `entries::list::fitted` refuses a list that is too short and copies to one that is not. Assumes nothing.
-use native.Mathlib.Omega.{arith}
 use Rattle.entries.specs.laws.WholeLaws.{fits-not, fits-in}
 use borrow.Author.Needs.{needs}
 use Rattle.entries.proofs.list.fitted.Statement.{statement}
@@ -7,7 +6,9 @@ use Rattle.entries.proofs.list.fitted.Tie as tie
 use Rattle.entries.proofs.list.copy.Reads as copy-reads
 
 returns : tie.Need-returns
-returns c = fits-not ((c .before .before .before .args .words .now)) ((c .before .before .before .args .list .now)) ((c .if1 .taken))
+returns c =
+    let at-start = c .before .before .before in
+    fits-not ((at-start .args .words .now)) ((at-start .args .list .now)) ((c .if1 .taken))
 
 copy-requires : tie.Need-copy-requires
 copy-requires c κs = search needs
@@ -19,7 +20,11 @@ same-length : tie.Need-same-length
 same-length c = search needs
 
 returns-2 : tie.Need-returns-2
-returns-2 c = fits-in ((c .before .before .before .before .before .before .before .args .words .now)) ((c .before .before .before .before .before .before .before .args .list .now)) ((c .before .before .before .before .if1 .left)) ((c .before .before .copy .ensures))
+returns-2 c =
+    let at-copy = c .before .before in
+    let at-if1 = at-copy .before .before in
+    let at-start = at-if1 .before .before .before in
+    fits-in ((at-start .args .words .now)) ((at-start .args .list .now)) ((at-if1 .if1 .left)) ((at-copy .copy .ensures))
 
 pub fitted-spec : {M : Type 1} → statement M
 fitted-spec = tie.close (tie.spec returns copy-requires cast-t10 same-length returns-2)

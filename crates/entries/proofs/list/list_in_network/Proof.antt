@@ -14,7 +14,13 @@ slice-aggregate-hop-ports : tie.Need-slice-aggregate-hop-ports
 slice-aggregate-hop-ports c = search needs
 
 hop-ports-requires : tie.Need-hop-ports-requires
-hop-ports-requires c κs = (is-network (c .before .before .before .before .before .before .pre .0), in-network (c .before .before .before .before .before .before .pre .0) (c .before .before .before .before .before .before .args .b) (c .before .before .before .before .before .before .pre .1), omega (arith, bridges-in-table (c .before .before .before .before .before .before .pre .0), few-bridges (c .before .before .before .before .before .before .pre .0 .checked)))
+hop-ports-requires c κs =
+    let at-start = c .before .before .before .before .before .before in
+    let (table-network, b-bound, _, _, _) = at-start .pre in (
+      is-network table-network,
+      in-network table-network (at-start .args .b) b-bound,
+      omega (arith, bridges-in-table table-network, few-bridges (table-network .checked)),
+    )
 
 slice-aggregate-rising-ports : tie.Need-slice-aggregate-rising-ports
 slice-aggregate-rising-ports c = search needs
@@ -23,7 +29,16 @@ slice-aggregate-rising-ports-2 : tie.Need-slice-aggregate-rising-ports-2
 slice-aggregate-rising-ports-2 c = search needs
 
 rising-ports-requires : tie.Need-rising-ports-requires
-rising-ports-requires c κs = (in-range (c .before .before .before .before .before .before .before .before .before .before .pre .0) (c .before .before .before .before .before .before .before .before .before .before .args .b) (c .before .before .before .before .before .before .before .before .before .before .pre .1) (c .before .before .before .hop-ports .ensures), few-bridges (c .before .before .before .before .before .before .before .before .before .before .pre .0 .checked), omega (arith, few-bridges (c .before .before .before .before .before .before .before .before .before .before .pre .0 .checked)), omega (arith, few-bridges (c .before .before .before .before .before .before .before .before .before .before .pre .0 .checked)))
+rising-ports-requires c κs =
+    let at-hop-ports = c .before .before .before in
+    let at-start = at-hop-ports .before .before .before .before .before .before .before in
+    let (table-network, b-bound, _, _, _) = at-start .pre in
+    let checked = table-network .checked in (
+      in-range table-network (at-start .args .b) b-bound (at-hop-ports .hop-ports .ensures),
+      few-bridges checked,
+      omega (arith, few-bridges checked),
+      omega (arith, few-bridges checked),
+    )
 
 slice-aggregate-keep-egress-rows : tie.Need-slice-aggregate-keep-egress-rows
 slice-aggregate-keep-egress-rows c = search needs
@@ -32,12 +47,16 @@ slice-aggregate-keep-egress-rows-2 : tie.Need-slice-aggregate-keep-egress-rows-2
 slice-aggregate-keep-egress-rows-2 c = search needs
 
 keep-egress-rows-requires : tie.Need-keep-egress-rows-requires
-keep-egress-rows-requires c κs = (
-  hops-ready (c .before .before .before .before .before .before .before .before .before .before .before .before .before .before .before .before .pre .0) (c .before .before .before .before .before .before .before .before .before .before .before .before .before .before .before .before .args .b) (c .before .before .before .before .before .before .before .before .before .before .before .before .before .before .before .before .pre .1) (c .before .before .before .before .before .before .before .before .before .hop-ports .ensures) (omega arith),
-  c .before .before .before .before .before .before .before .before .before .before .before .before .before .before .before .before .pre .2,
-  c .before .before .before .before .before .before .before .before .before .before .before .before .before .before .before .before .pre .3,
-  no-rows _ _ _ _ (omega arith) (omega (arith, bridges-in-table (c .before .before .before .before .before .before .before .before .before .before .before .before .before .before .before .before .pre .0), few-bridges (c .before .before .before .before .before .before .before .before .before .before .before .before .before .before .before .before .pre .0 .checked))) (λ i l. getD-replicate {A = ℕ} 6144 i 0 0 (omega arith)),
-)
+keep-egress-rows-requires c κs =
+    let at-hop-ports = c .before .before .before .before .before .before .before .before .before in
+    let at-start = at-hop-ports .before .before .before .before .before .before .before in
+    let (table-network, b-bound, path-ids-room, trees-kept, _) = at-start .pre in (
+      hops-ready table-network (at-start .args .b) b-bound (at-hop-ports .hop-ports .ensures) (omega arith),
+      path-ids-room,
+      trees-kept,
+      no-rows _ _ _ _ (omega arith) (omega (arith, bridges-in-table table-network, few-bridges (table-network .checked)))
+          (λ i l. getD-replicate {A = ℕ} 6144 i 0 0 (omega arith)),
+    )
 
 slice-aggregate-whole-list : tie.Need-slice-aggregate-whole-list
 slice-aggregate-whole-list c = search needs
@@ -46,13 +65,24 @@ array-share-prefix-rises : tie.Need-array-share-prefix-rises
 array-share-prefix-rises c = search needs
 
 slice-aggregate-whole-list-2 : tie.Need-slice-aggregate-whole-list-2
-slice-aggregate-whole-list-2 c = simp length-take (omega (arith, c .before .before .before .before .before .before .before .before .before .before .before .before .before .rising-ports .ensures .1))
+slice-aggregate-whole-list-2 c =
+    let at-rising-ports = c .before .before .before .before .before .before .before .before .before .before .before .before .before in
+    let (_, rising-ports-bound) = at-rising-ports .rising-ports .ensures in
+    simp length-take (omega (arith, rising-ports-bound))
 
 whole-list-requires : tie.Need-whole-list-requires
-whole-list-requires c κs = (
-  ((c .before .before .before .before .before .before .before .before .before .before .before .before .before .before .before .before .before .before .before .before .before .before .before .before .before .pre .0 .checked), c .before .before .before .before .before .before .before .before .keep-egress-rows .ensures .0 .places, c .before .before .before .before .before .before .before .before .before .before .before .before .before .before .before .before .before .before .before .before .before .before .before .before .before .pre .1),
-  whole-room (c .before .before .before .before .before .before .before .before .before .before .before .before .before .before .before .before .before .before .before .before .before .before .before .before .before .pre .0) (c .before .before .before .before .before .before .before .before .before .before .before .before .before .before .before .before .before .before .before .before .before .before .before .before .before .args .b) (c .before .before .before .before .before .before .before .before .before .before .before .before .before .before .before .before .before .before .before .before .before .before .before .before .before .pre .1) (c .before .before .before .before .before .before .before .before .before .before .before .before .before .before .before .before .before .before .hop-ports .ensures) (c .before .before .before .before .before .before .before .before .before .before .before .before .before .before .rising-ports .ensures .0) (c .before .before .before .before .before .before .before .before .keep-egress-rows .ensures .0) (c .before .before .before .before .before .before .before .before .before .before .before .before .before .before .before .before .before .before .before .before .before .before .before .before .before .args .words .now) (c .before .before .before .before .before .before .before .before .before .before .before .before .before .before .before .before .before .before .before .before .before .before .before .before .before .pre .4),
-)
+whole-list-requires c κs =
+    let at-keep-egress-rows = c .before .before .before .before .before .before .before .before in
+    let at-rising-ports = at-keep-egress-rows .before .before .before .before .before .before in
+    let at-hop-ports = at-rising-ports .before .before .before .before in
+    let at-start = at-hop-ports .before .before .before .before .before .before .before in
+    let (table-network, b-bound, _, _, words-room) = at-start .pre in
+    let (egress-rows-ready, _) = at-keep-egress-rows .keep-egress-rows .ensures in
+    let (rising-ports, _) = at-rising-ports .rising-ports .ensures in (
+      ((table-network .checked), egress-rows-ready .places, b-bound),
+      whole-room table-network (at-start .args .b) b-bound (at-hop-ports .hop-ports .ensures) rising-ports egress-rows-ready
+          (at-start .args .words .now) words-room,
+    )
 
 same-length : tie.Need-same-length
 same-length c = search needs
@@ -64,25 +94,23 @@ same-length-3 : tie.Need-same-length-3
 same-length-3 c = search needs
 
 returns : tie.Need-returns
-returns c = (whole-written (c .before .before .before .before .before .before .before .before .before .before .before .before .before .before .before .before .before .before .before .before .before .before .before .before .before .before .before .before .pre .0) (c .before .before .before .before .before .before .before .before .before .before .before .before .before .before .before .before .before .before .before .before .before .before .before .before .before .before .before .before .args .b) (c .before .before .before .before .before .before .before .before .before .before .before .before .before .before .before .before .before .before .before .before .before .before .before .before .before .before .before .before .pre .1) (c .before .before .before .before .before .before .before .before .before .before .before .before .before .before .before .before .before .before .before .before .before .hop-ports .ensures) (c .before .before .before .before .before .before .before .before .before .before .before .before .before .before .before .before .before .rising-ports .ensures .0) (c .before .before .before .before .before .before .before .before .before .before .before .keep-egress-rows .ensures .0) (c .before .before .whole-list .ensures), c .before .before .before .before .before .before .before .before .before .before .before .keep-egress-rows .ensures .1)
+returns c =
+    let at-whole-list = c .before .before in
+    let at-keep-egress-rows = at-whole-list .before .before .before .before .before .before .before .before .before in
+    let at-rising-ports = at-keep-egress-rows .before .before .before .before .before .before in
+    let at-hop-ports = at-rising-ports .before .before .before .before in
+    let at-start = at-hop-ports .before .before .before .before .before .before .before in
+    let (table-network, b-bound, _, _, _) = at-start .pre in
+    let (rising-ports, _) = at-rising-ports .rising-ports .ensures in
+    let (egress-rows-ready, trees-kept) = at-keep-egress-rows .keep-egress-rows .ensures in (
+      whole-written table-network (at-start .args .b) b-bound (at-hop-ports .hop-ports .ensures) rising-ports egress-rows-ready
+          (at-whole-list .whole-list .ensures),
+      trees-kept,
+    )
 
 pub list-in-network-spec : {M : Type 1} → statement M
 list-in-network-spec =
     tie.close
-    (tie.spec
-    slice-aggregate-hop-ports
-    hop-ports-requires
-    slice-aggregate-rising-ports
-    slice-aggregate-rising-ports-2
-    rising-ports-requires
-    slice-aggregate-keep-egress-rows
-    slice-aggregate-keep-egress-rows-2
-    keep-egress-rows-requires
-    slice-aggregate-whole-list
-    array-share-prefix-rises
-    slice-aggregate-whole-list-2
-    whole-list-requires
-    same-length
-    same-length-2
-    same-length-3
-    returns)
+    (tie.spec slice-aggregate-hop-ports hop-ports-requires slice-aggregate-rising-ports slice-aggregate-rising-ports-2 rising-ports-requires
+    slice-aggregate-keep-egress-rows slice-aggregate-keep-egress-rows-2 keep-egress-rows-requires slice-aggregate-whole-list
+    array-share-prefix-rises slice-aggregate-whole-list-2 whole-list-requires same-length same-length-2 same-length-3 returns)

@@ -23,7 +23,16 @@ slice-aggregate-list-in-network-3 : tie.Need-slice-aggregate-list-in-network-3
 slice-aggregate-list-in-network-3 c = search needs
 
 list-in-network-requires : tie.Need-list-in-network-requires
-list-in-network-requires c κs = (c .before .before .before .before .before .make-network .ensures, c .before .before .before .before .before .before .before .before .before .before .pre .1, omega arith, no-trees _ _ (omega arith) (λ i l. getD-replicate {A = ℕ} 321 i 0 0 (omega arith)), c .before .before .before .before .before .before .before .before .before .before .pre .2)
+list-in-network-requires c κs =
+    let at-make-network = c .before .before .before .before .before in
+    let at-start = at-make-network .before .before .before .before .before in
+    let (_, b-bound, words-room, _) = at-start .pre in (
+      at-make-network .make-network .ensures,
+      b-bound,
+      omega arith,
+      no-trees _ _ (omega arith) (λ i l. getD-replicate {A = ℕ} 321 i 0 0 (omega arith)),
+      words-room,
+    )
 
 same-length : tie.Need-same-length
 same-length c = search needs
@@ -34,12 +43,5 @@ returns c = search needs
 pub list-of-table-spec : {M : Type 1} → statement M
 list-of-table-spec =
     tie.close
-    (tie.spec
-    slice-aggregate-make-network
-    make-network-requires
-    slice-aggregate-list-in-network
-    slice-aggregate-list-in-network-2
-    slice-aggregate-list-in-network-3
-    list-in-network-requires
-    same-length
-    returns)
+    (tie.spec slice-aggregate-make-network make-network-requires slice-aggregate-list-in-network slice-aggregate-list-in-network-2
+    slice-aggregate-list-in-network-3 list-in-network-requires same-length returns)

@@ -22,24 +22,35 @@ abbrev μ-loop : tie.MeasureT-loop
 μ-loop table s network hops b path-ids₀ store₀ rows₀ count₀ j₀ path-ids store rows count j = s .members - j
 
 keep-own-egress-rows-requires : tie.Need-keep-own-egress-rows-requires Inv-loop μ-loop
-keep-own-egress-rows-requires c κs = c .before .before .before .before .before .before .before .before .before .pre
+keep-own-egress-rows-requires c κs =
+    let at-start = c .before .before .before .before .before .before .before .before .before in
+    at-start .pre
 
 loop-holds : tie.Need-loop-holds Inv-loop μ-loop
-loop-holds c = (
-  members-start (c .before .before .before .before .before .before .before .before .before .before .before .before .before .before .before .before .pre .0) (c .before .before .before .before .before .before .keep-own-egress-rows .ensures .0) (c .before .before .before .before .before .before .keep-own-egress-rows .ensures .1 .0 .1) (c .before .before .before .before .before .before .keep-own-egress-rows .ensures .1 .0 .2),
-  refl,
-  refl,
-  c .before .before .before .before .before .before .keep-own-egress-rows .ensures .1 .1,
-)
+loop-holds c =
+    let at-keep-own-egress-rows = c .before .before .before .before .before .before in
+    let at-start = at-keep-own-egress-rows .before .before .before .before .before .before .before .before .before .before in
+    let (hops-ready, _, _, _) = at-start .pre in
+    let (egress-rows-kept, ((_, own-egress-rows, keep-own-egress-rows-bound), trees-kept)) =
+    at-keep-own-egress-rows .keep-own-egress-rows .ensures in
+    (members-start hops-ready egress-rows-kept own-egress-rows keep-own-egress-rows-bound, refl, refl, trees-kept)
 
 member-requires : tie.Need-member-requires Inv-loop μ-loop
-member-requires c κs = ((c .before .before .before .before .before .before .before .before .before .before .before .before .before .before .before .before .before .before .before .pre .0 .table-network .checked) .whole, c .if1 .taken)
+member-requires c κs =
+    let at-start =
+    c .before .before .before .before .before .before .before .before .before .before .before .before .before .before .before .before .before .before .before in
+    let (hops-ready, _, _, _) = at-start .pre in
+    (hops-ready .table-network .checked .whole, c .if1 .taken)
 
 cast-a : tie.Need-cast-a Inv-loop μ-loop
 cast-a c = search needs
 
 transmitter-index-requires : tie.Need-transmitter-index-requires Inv-loop μ-loop
-transmitter-index-requires c κs = (c .before .before .before .before .before .before .before .before .before .before .before .before .before .before .before .before .before .before .before .before .before .pre .0 .table-network .checked) .whole
+transmitter-index-requires c κs =
+    let at-start =
+    c .before .before .before .before .before .before .before .before .before .before .before .before .before .before .before .before .before .before .before .before .before in
+    let (hops-ready, _, _, _) = at-start .pre in
+    hops-ready .table-network .checked .whole
 
 add-j : tie.Need-add-j Inv-loop μ-loop
 add-j c = search needs
@@ -48,28 +59,67 @@ loop-less : tie.Need-loop-less Inv-loop μ-loop
 loop-less c = search needs
 
 loop-again : tie.Need-loop-again Inv-loop μ-loop
-loop-again c = (
-  members-go-on (c .before .before .before .before .before .before .before .before .before .before .before .before .before .before .before .before .before .before .before .before .before .before .before .pre .0) (c .before .before .before .before .before .before .loop .inv .0) (c .before .before .before .before .if1 .taken) (c .before .before .before .before .before .before .loop .inv .0 .held) (kept-all _) (silent (member-silent (c .before .before .before .before .before .before .before .before .before .before .before .before .before .before .before .before .before .before .before .before .before .before .before .pre .0 .table-network .checked) (c .before .before .before .before .before .before .loop .j) (c .before .before .before .before .if1 .taken) _ (c .before .before .before .member .ensures) _ (c .before .transmitter-index .ensures) (c .if2 .taken))) (omega arith),
-  c .before .before .before .before .before .before .loop .inv .1,
-  c .before .before .before .before .before .before .loop .inv .2,
-  c .before .before .before .before .before .before .loop .inv .3,
-)
+loop-again c =
+    let at-member = c .before .before .before in
+    let at-if1 = at-member .before in
+    let at-loop = at-if1 .before .before in
+    let at-start =
+    at-loop .before .before .before .before .before .before .before .before .before .before .before .before .before .before .before .before .before in
+    let (hops-ready, _, _, _) = at-start .pre in
+    let (keeping-members, path-ids-length, store-length, trees-kept) = at-loop .loop .inv in (
+      members-go-on hops-ready keeping-members (at-if1 .if1 .taken) (keeping-members .held) (kept-all _)
+          (silent
+          (member-silent (hops-ready .table-network .checked) (at-loop .loop .j) (at-if1 .if1 .taken) _ (at-member .member .ensures) _
+          (c .before .transmitter-index .ensures) (c .if2 .taken)))
+          (omega arith),
+      path-ids-length,
+      store-length,
+      trees-kept,
+    )
 
 cast-keep-egress-row : tie.Need-cast-keep-egress-row Inv-loop μ-loop
-cast-keep-egress-row c = omega (arith, c .before .before .before .before .before .before .before .before .before .before .before .before .before .before .before .before .before .before .before .before .before .before .before .pre .0 .known, few-bridges (c .before .before .before .before .before .before .before .before .before .before .before .before .before .before .before .before .before .before .before .before .before .before .before .pre .0 .table-network .checked))
+cast-keep-egress-row c =
+    let at-start =
+    c .before .before .before .before .before .before .before .before .before .before .before .before .before .before .before .before .before .before .before .before .before .before .before in
+    let (hops-ready, _, _, _) = at-start .pre in
+    omega (arith, hops-ready .known, few-bridges (hops-ready .table-network .checked))
 
 keep-egress-row-requires : tie.Need-keep-egress-row-requires Inv-loop μ-loop
 keep-egress-row-requires c κs =
-    let fits = index-fits (c .before .before .before .before .before .before .before .before .before .before .before .before .before .before .before .before .before .before .before .before .before .before .before .before .before .before .pre .0 .table-network .checked) (c .before .before .before .before .before .before .before .before .before .loop .j) (c .before .before .before .before .before .before .before .if1 .taken)
-    in let index-is = member-index (c .before .before .before .before .before .before .before .before .before .before .before .before .before .before .before .before .before .before .before .before .before .before .before .before .before .before .pre .0 .table-network .checked) (c .before .before .before .before .before .before .before .before .before .loop .j) (c .before .before .before .before .before .before .before .if1 .taken) _ (c .before .before .before .before .before .before .member .ensures) _ (c .before .before .before .before .transmitter-index .ensures) (c .before .before .before .if2 .left)
-    in (
-      (is-network (c .before .before .before .before .before .before .before .before .before .before .before .before .before .before .before .before .before .before .before .before .before .before .before .before .before .before .pre .0 .table-network), c .before .before .before .before .before .before .before .before .before .before .before .before .before .before .before .before .before .before .before .before .before .before .before .before .before .before .pre .0 .has-hops, omega (arith, c .before .before .before .before .before .before .before .before .before .before .before .before .before .before .before .before .before .before .before .before .before .before .before .before .before .before .pre .1, c .before .before .before .before .before .before .before .before .before .loop .inv .1, c .before .before .before .before .before .before .before .before .before .before .before .before .before .before .before .path-ids .given), c .before .before .before .before .before .before .before .before .before .loop .inv .3),
+    let at-if2 = c .before .before .before in
+    let at-transmitter-index = at-if2 .before in
+    let at-member = at-transmitter-index .before .before in
+    let at-if1 = at-member .before in
+    let at-loop = at-if1 .before .before in
+    let at-path-ids = at-loop .before .before .before .before .before .before in
+    let at-start = at-path-ids .before .before .before .before .before .before .before .before .before .before .before in
+    let (hops-ready, path-ids-room, _, _) = at-start .pre in
+    let (keeping-members, path-ids-length, _, trees-kept) = at-loop .loop .inv in
+    let checked = hops-ready .table-network .checked in
+    let if1-taken = at-if1 .if1 .taken in
+    let j-at-loop = at-loop .loop .j in
+    let fits = index-fits checked j-at-loop if1-taken in
+    let index-is =
+    member-index checked j-at-loop if1-taken _ (at-member .member .ensures) _ (at-transmitter-index .transmitter-index .ensures)
+    (at-if2 .if2 .left) in (
+      (
+        is-network (hops-ready .table-network),
+        hops-ready .has-hops,
+        omega (arith, path-ids-room, path-ids-length, at-path-ids .path-ids .given),
+        trees-kept,
+      ),
       (
         omega (arith, fits .0, index-is),
         omega (arith, fits .1, index-is),
-        omega (arith, ap (λ (m : Member). m .bridge) (c .before .before .before .before .before .before .member .ensures), member-fits (c .before .before .before .before .before .before .before .before .before .before .before .before .before .before .before .before .before .before .before .before .before .before .before .before .before .before .pre .0 .table-network .checked) (c .before .before .before .before .before .before .before .before .before .loop .j) (c .before .before .before .before .before .before .before .if1 .taken) .bridge-known, bridges-counted (c .before .before .before .before .before .before .before .before .before .before .before .before .before .before .before .before .before .before .before .before .before .before .before .before .before .before .pre .0 .table-network .checked), bridges-in-table (c .before .before .before .before .before .before .before .before .before .before .before .before .before .before .before .before .before .before .before .before .before .before .before .before .before .before .pre .0 .table-network)),
-        members-room (c .before .before .before .before .before .before .before .before .before .before .before .before .before .before .before .before .before .before .before .before .before .before .before .before .before .before .pre .0) (c .before .before .before .before .before .before .before .before .before .loop .inv .0) (c .before .before .before .before .before .before .before .if1 .taken),
-        c .before .before .before .before .before .before .before .before .before .loop .inv .0 .held,
+        omega (
+          arith,
+          ap (λ (m : Member). m .bridge) (at-member .member .ensures),
+          member-fits checked j-at-loop if1-taken .bridge-known,
+          bridges-counted checked,
+          bridges-in-table (hops-ready .table-network),
+        ),
+        members-room hops-ready keeping-members if1-taken,
+        keeping-members .held,
       ),
     )
 
@@ -81,11 +131,28 @@ loop-less-2 c = search needs
 
 loop-again-2 : tie.Need-loop-again-2 Inv-loop μ-loop
 loop-again-2 c = (
-  members-go-on (c .before .before .before .before .before .before .before .before .before .before .before .before .before .before .before .before .before .before .before .before .before .before .before .before .before .before .before .before .before .before .before .before .before .pre .0) (c .before .before .before .before .before .before .before .before .before .before .before .before .before .before .before .before .loop .inv .0) (c .before .before .before .before .before .before .before .before .before .before .before .before .before .before .if1 .taken) (c .before .before .before .before .before .before .keep-egress-row .ensures .0) (c .before .before .before .before .before .before .keep-egress-row .ensures .1 .0 .0)
-      (transmitter-has (row-of (member-index (c .before .before .before .before .before .before .before .before .before .before .before .before .before .before .before .before .before .before .before .before .before .before .before .before .before .before .before .before .before .before .before .before .before .pre .0 .table-network .checked) (c .before .before .before .before .before .before .before .before .before .before .before .before .before .before .before .before .loop .j) (c .before .before .before .before .before .before .before .before .before .before .before .before .before .before .if1 .taken) _ (c .before .before .before .before .before .before .before .before .before .before .before .before .before .member .ensures) _ (c .before .before .before .before .before .before .before .before .before .before .before .transmitter-index .ensures) (c .before .before .before .before .before .before .before .before .before .before .if2 .left)) (ap (λ (m : Member). m .bridge) (c .before .before .before .before .before .before .before .before .before .before .before .before .before .member .ensures)) (c .before .before .before .before .before .before .keep-egress-row .ensures .1 .0 .1))) (c .before .before .before .before .before .before .keep-egress-row .ensures .1 .0 .2),
+  let at-keep-egress-row = c .before .before .before .before .before .before in
+      let at-if2 = at-keep-egress-row .before .before .before .before in
+      let at-transmitter-index = at-if2 .before in
+      let at-member = at-transmitter-index .before .before in
+      let at-if1 = at-member .before in
+      let at-loop = at-if1 .before .before in
+      let at-start =
+      at-loop .before .before .before .before .before .before .before .before .before .before .before .before .before .before .before .before .before in
+      let (hops-ready, _, _, _) = at-start .pre in
+      let (keeping-members, _, _, _) = at-loop .loop .inv in
+      let (egress-rows-kept, ((kept, has-egress-row, keep-egress-row-bound), _)) = at-keep-egress-row .keep-egress-row .ensures in
+      members-go-on hops-ready keeping-members (at-if1 .if1 .taken) egress-rows-kept kept
+      (transmitter-has
+      (row-of
+      (member-index (hops-ready .table-network .checked) (at-loop .loop .j) (at-if1 .if1 .taken) _ (at-member .member .ensures) _
+      (at-transmitter-index .transmitter-index .ensures) (at-if2 .if2 .left))
+      (ap (λ (m : Member). m .bridge) (at-member .member .ensures)) has-egress-row))
+      keep-egress-row-bound,
   search needs,
   search needs,
-  c .before .before .before .before .before .before .keep-egress-row .ensures .1 .1,
+  let at-keep-egress-row = c .before .before .before .before .before .before in
+      let (_, (_, trees-kept)) = at-keep-egress-row .keep-egress-row .ensures in trees-kept,
 )
 
 same-length : tie.Need-same-length Inv-loop μ-loop
@@ -95,31 +162,25 @@ same-length-2 : tie.Need-same-length-2 Inv-loop μ-loop
 same-length-2 c = search needs
 
 same-length-3 : tie.Need-same-length-3 Inv-loop μ-loop
-same-length-3 c = c .before .before .loop .inv .0 .kept .same-length ∙ c .before .before .before .before .before .before .before .before .before .keep-own-egress-rows .ensures .1 .0 .0 .same-length
+same-length-3 c =
+    let at-loop = c .before .before in
+    let at-keep-own-egress-rows = at-loop .before .before .before .before .before .before .before in
+    let (keeping-members, _, _, _) = at-loop .loop .inv in
+    let (_, ((kept, _, _), _)) = at-keep-own-egress-rows .keep-own-egress-rows .ensures in
+    keeping-members .kept .same-length ∙ kept .same-length
 
 returns : tie.Need-returns Inv-loop μ-loop
-returns c = (members-end (c .before .before .before .before .before .before .before .before .before .before .before .before .before .before .before .before .before .before .before .pre .0) (c .before .before .loop .inv .0) (c .if1 .left), c .before .before .loop .inv .3)
+returns c =
+    let at-loop = c .before .before in
+    let at-start =
+    at-loop .before .before .before .before .before .before .before .before .before .before .before .before .before .before .before .before .before in
+    let (hops-ready, _, _, _) = at-start .pre in
+    let (keeping-members, _, _, trees-kept) = at-loop .loop .inv in
+    (members-end hops-ready keeping-members (c .if1 .left), trees-kept)
 
 pub keep-egress-rows-spec : {M : Type 1} → statement M
 keep-egress-rows-spec =
     tie.close
-    (tie.spec
-    Inv-loop
-    μ-loop
-    keep-own-egress-rows-requires
-    loop-holds
-    member-requires
-    cast-a
-    transmitter-index-requires
-    add-j
-    loop-less
-    loop-again
-    cast-keep-egress-row
-    keep-egress-row-requires
-    add-j-2
-    loop-less-2
-    loop-again-2
-    same-length
-    same-length-2
-    same-length-3
+    (tie.spec Inv-loop μ-loop keep-own-egress-rows-requires loop-holds member-requires cast-a transmitter-index-requires add-j loop-less
+    loop-again cast-keep-egress-row keep-egress-row-requires add-j-2 loop-less-2 loop-again-2 same-length same-length-2 same-length-3
     returns)

@@ -21,25 +21,50 @@ abbrev μ-loop : tie.MeasureT-loop
 μ-loop table s network hops b path-ids₀ store₀ rows₀ count₀ k₀ path-ids store rows count k = s .vids - k
 
 loop-holds : tie.Need-loop-holds Inv-loop μ-loop
-loop-holds c = (own-starts (c .before .before .before .before .before .before .pre .0) (c .before .before .before .before .before .before .pre .3), refl, refl, c .before .before .before .before .before .before .pre .2)
+loop-holds c =
+    let at-start = c .before .before .before .before .before .before in
+    let (hops-ready, _, trees-kept, egress-rows-kept) = at-start .pre in
+    (own-starts hops-ready egress-rows-kept, refl, refl, trees-kept)
 
 vid-requires : tie.Need-vid-requires Inv-loop μ-loop
-vid-requires c κs = (c .before .before .before .before .before .before .before .before .before .pre .0 .table-network .checked .whole, c .if1 .taken)
+vid-requires c κs =
+    let at-start = c .before .before .before .before .before .before .before .before .before in
+    let (hops-ready, _, _, _) = at-start .pre in
+    (hops-ready .table-network .checked .whole, c .if1 .taken)
 
 cast-keep-egress-row : tie.Need-cast-keep-egress-row Inv-loop μ-loop
-cast-keep-egress-row c = omega (arith, c .before .before .before .before .before .before .before .before .before .before .pre .0 .known, few-bridges (c .before .before .before .before .before .before .before .before .before .before .pre .0 .table-network .checked))
+cast-keep-egress-row c =
+    let at-start = c .before .before .before .before .before .before .before .before .before .before in
+    let (hops-ready, _, _, _) = at-start .pre in
+    omega (arith, hops-ready .known, few-bridges (hops-ready .table-network .checked))
 
 keep-egress-row-requires : tie.Need-keep-egress-row-requires Inv-loop μ-loop
-keep-egress-row-requires c κs = (
-  (is-network (c .before .before .before .before .before .before .before .before .before .before .before .before .before .pre .0 .table-network), c .before .before .before .before .before .before .before .before .before .before .before .before .before .pre .0 .has-hops, omega (arith, c .before .before .before .before .before .before .before .before .before .before .before .before .before .pre .1, c .before .before .before .before .before .before .loop .inv .1), c .before .before .before .before .before .before .loop .inv .3),
-  (
-    omega (arith, ap (λ (v : Vid). v .index) (c .before .before .before .vid .ensures), (vid-fits (c .before .before .before .before .before .before .before .before .before .before .before .before .before .pre .0 .table-network .checked) (c .before .before .before .before .before .before .loop .k) (c .before .before .before .before .if1 .taken)) .least-index),
-    omega (arith, ap (λ (v : Vid). v .index) (c .before .before .before .vid .ensures), (vid-fits (c .before .before .before .before .before .before .before .before .before .before .before .before .before .pre .0 .table-network .checked) (c .before .before .before .before .before .before .loop .k) (c .before .before .before .before .if1 .taken)) .greatest-index),
-    omega (arith, c .before .before .before .before .before .before .before .before .before .before .before .before .before .pre .0 .known, bridges-in-table (c .before .before .before .before .before .before .before .before .before .before .before .before .before .pre .0 .table-network)),
-    own-room (c .before .before .before .before .before .before .before .before .before .before .before .before .before .pre .0) (c .before .before .before .before .before .before .loop .inv .0) (c .before .before .before .before .if1 .taken),
-    c .before .before .before .before .before .before .loop .inv .0 .held,
-  ),
-)
+keep-egress-row-requires c κs =
+    let at-vid = c .before .before .before in
+    let at-if1 = at-vid .before in
+    let at-loop = at-if1 .before .before in
+    let at-start = at-loop .before .before .before .before .before .before .before in
+    let (hops-ready, path-ids-room, _, _) = at-start .pre in
+    let (keeping-own, path-ids-length, _, trees-kept) = at-loop .loop .inv in
+    let table-network = hops-ready .table-network in
+    let if1-taken = at-if1 .if1 .taken in (
+      (is-network table-network, hops-ready .has-hops, omega (arith, path-ids-room, path-ids-length), trees-kept),
+      (
+        omega (
+          arith,
+          ap (λ (v : Vid). v .index) (at-vid .vid .ensures),
+          (vid-fits (table-network .checked) (at-loop .loop .k) if1-taken) .least-index,
+        ),
+        omega (
+          arith,
+          ap (λ (v : Vid). v .index) (at-vid .vid .ensures),
+          (vid-fits (table-network .checked) (at-loop .loop .k) if1-taken) .greatest-index,
+        ),
+        omega (arith, hops-ready .known, bridges-in-table table-network),
+        own-room hops-ready keeping-own if1-taken,
+        keeping-own .held,
+      ),
+    )
 
 add-k : tie.Need-add-k Inv-loop μ-loop
 add-k c = search needs
@@ -49,11 +74,20 @@ loop-less c = search needs
 
 loop-again : tie.Need-loop-again Inv-loop μ-loop
 loop-again c = (
-  own-goes-on (c .before .before .before .before .before .before .before .before .before .before .before .before .before .before .before .before .before .before .before .before .pre .0) (c .before .before .before .before .before .before .before .before .before .before .before .before .before .loop .inv .0) (c .before .before .before .before .before .before .before .before .before .before .before .if1 .taken) (c .before .before .before .before .before .before .keep-egress-row .ensures .0) (c .before .before .before .before .before .before .keep-egress-row .ensures .1 .0 .0)
-      (row-of (ap (λ (v : Vid). v .index) (c .before .before .before .before .before .before .before .before .before .before .vid .ensures)) refl (c .before .before .before .before .before .before .keep-egress-row .ensures .1 .0 .1)) (c .before .before .before .before .before .before .keep-egress-row .ensures .1 .0 .2),
+  let at-keep-egress-row = c .before .before .before .before .before .before in
+      let at-vid = at-keep-egress-row .before .before .before .before in
+      let at-if1 = at-vid .before in
+      let at-loop = at-if1 .before .before in
+      let at-start = at-loop .before .before .before .before .before .before .before in
+      let (hops-ready, _, _, _) = at-start .pre in
+      let (keeping-own, _, _, _) = at-loop .loop .inv in
+      let (egress-rows-kept, ((kept, has-egress-row, keep-egress-row-bound), _)) = at-keep-egress-row .keep-egress-row .ensures in
+      own-goes-on hops-ready keeping-own (at-if1 .if1 .taken) egress-rows-kept kept
+      (row-of (ap (λ (v : Vid). v .index) (at-vid .vid .ensures)) refl has-egress-row) keep-egress-row-bound,
   search needs,
   search needs,
-  c .before .before .before .before .before .before .keep-egress-row .ensures .1 .1,
+  let at-keep-egress-row = c .before .before .before .before .before .before in
+      let (_, (_, trees-kept)) = at-keep-egress-row .keep-egress-row .ensures in trees-kept,
 )
 
 same-length : tie.Need-same-length Inv-loop μ-loop
@@ -63,35 +97,26 @@ same-length-2 : tie.Need-same-length-2 Inv-loop μ-loop
 same-length-2 c = search needs
 
 same-length-3 : tie.Need-same-length-3 Inv-loop μ-loop
-same-length-3 c = c .before .before .loop .inv .0 .kept .same-length
+same-length-3 c =
+    let at-loop = c .before .before in
+    let (keeping-own, _, _, _) = at-loop .loop .inv in
+    keeping-own .kept .same-length
 
 returns : tie.Need-returns Inv-loop μ-loop
-returns c = (
-  c .before .before .loop .inv .0 .held,
-  (
-    (
-      c .before .before .loop .inv .0 .kept,
-      own-ends (c .before .before .before .before .before .before .before .before .before .pre .0) (c .before .before .loop .inv .0) (c .if1 .left) .0,
-      own-ends (c .before .before .before .before .before .before .before .before .before .pre .0) (c .before .before .loop .inv .0) (c .if1 .left) .1,
-    ),
-    c .before .before .loop .inv .3,
-  ),
-)
+returns c =
+    let at-loop = c .before .before in
+    let at-start = at-loop .before .before .before .before .before .before .before in
+    let (keeping-own, _, _, trees-kept) = at-loop .loop .inv in
+    let (hops-ready, _, _, _) = at-start .pre in (
+      keeping-own .held,
+      (
+        (keeping-own .kept, own-ends hops-ready keeping-own (c .if1 .left) .0, own-ends hops-ready keeping-own (c .if1 .left) .1),
+        trees-kept,
+      ),
+    )
 
 pub keep-own-egress-rows-spec : {M : Type 1} → statement M
 keep-own-egress-rows-spec =
     tie.close
-    (tie.spec
-    Inv-loop
-    μ-loop
-    loop-holds
-    vid-requires
-    cast-keep-egress-row
-    keep-egress-row-requires
-    add-k
-    loop-less
-    loop-again
-    same-length
-    same-length-2
-    same-length-3
-    returns)
+    (tie.spec Inv-loop μ-loop loop-holds vid-requires cast-keep-egress-row keep-egress-row-requires add-k loop-less loop-again same-length
+    same-length-2 same-length-3 returns)

@@ -11,13 +11,26 @@ use Rattle.entries.proofs.needed.transmitter_index.Statement.{statement
 use Rattle.entries.proofs.needed.transmitter_index.Tie as tie
 
 returns : tie.Need-returns
-returns c = sym (ap (λ (b : Bool). cond b (indexOf (vidRecord (planAt (wordsOf (c .before .before .before .args .table .now)) (c .before .before .before .args .s)) (c .before .before .before .args .m .vid))) 0) (not-true (c .before .before .before .args .m .transmits) (c .if1 .taken)))
+returns c =
+    let at-start = c .before .before .before in
+    sym
+    (ap
+    (λ (b : Bool).
+    cond b (indexOf (vidRecord (planAt (wordsOf (at-start .args .table .now)) (at-start .args .s)) (at-start .args .m .vid))) 0)
+    (not-true (at-start .args .m .transmits) (c .if1 .taken)))
 
 index-of-requires : tie.Need-index-of-requires
 index-of-requires c κs = search needs
 
 returns-2 : tie.Need-returns-2
-returns-2 c = c .index-of .ensures ∙ sym (ap (λ (b : Bool). cond b (indexOf (vidRecord (planAt (wordsOf (c .before .before .before .before .args .table .now)) (c .before .before .before .before .args .s)) (c .before .before .before .before .args .m .vid))) 0) (not-false (c .before .before .before .before .args .m .transmits) (c .before .if1 .left)))
+returns-2 c =
+    let at-start = c .before .before .before .before in
+    c .index-of .ensures
+    ∙ sym
+    (ap
+    (λ (b : Bool).
+    cond b (indexOf (vidRecord (planAt (wordsOf (at-start .args .table .now)) (at-start .args .s)) (at-start .args .m .vid))) 0)
+    (not-false (at-start .args .m .transmits) (c .before .if1 .left)))
 
 pub transmitter-index-spec : {M : Type 1} → statement M
 transmitter-index-spec = tie.close (tie.spec returns index-of-requires returns-2)

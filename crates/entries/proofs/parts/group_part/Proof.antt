@@ -16,10 +16,19 @@ abbrev μ-loop : tie.MeasureT-loop
 
 loop-holds : tie.Need-loop-holds Inv-loop μ-loop
 unfolding groupPart
-loop-holds c = appending-starts _ _ _ _ ((c .before .before .before .before .pre .1))
+loop-holds c =
+    let at-start = c .before .before .before .before in
+    let (_, room) = at-start .pre in
+    appending-starts _ _ _ _ room
 
 member-words-requires : tie.Need-member-words-requires Inv-loop μ-loop
-member-words-requires c κs = (((c .before .before .before .before .before .before .before .before .pre .0 .0), (c .before .before .before .before .before .before .before .before .pre .0 .1), (c .before .before .before .before .before .before .before .before .pre .0 .2), (c .before .before .before .before .before .before .before .before .pre .0 .3), (c .before .before .before .before .before .before .before .before .pre .0 .4), (c .before .if1 .taken)), appending-room ((c .before .before .before .loop .inv)) ((c .before .if1 .taken)))
+member-words-requires c κs =
+    let at-loop = c .before .before .before in
+    let at-start = at-loop .before .before .before .before .before in
+    let ((checked, egress-rows-inside, index-least, index-bound, vid-bound), _) = at-start .pre in (
+      (checked, egress-rows-inside, index-least, index-bound, vid-bound, (c .before .if1 .taken)),
+      appending-room ((at-loop .loop .inv)) ((c .before .if1 .taken)),
+    )
 
 add-j : tie.Need-add-j Inv-loop μ-loop
 add-j c = search needs
@@ -28,25 +37,24 @@ loop-less : tie.Need-loop-less Inv-loop μ-loop
 loop-less c = search needs
 
 loop-again : tie.Need-loop-again Inv-loop μ-loop
-loop-again c = appending-goes-on ((c .before .before .before .before .before .before .loop .inv)) ((c .before .before .before .before .if1 .taken)) ((c .before .before .member-words .ensures))
+loop-again c =
+    let at-member-words = c .before .before in
+    let at-if1 = at-member-words .before .before in
+    let at-loop = at-if1 .before .before in
+    appending-goes-on ((at-loop .loop .inv)) ((at-if1 .if1 .taken)) ((at-member-words .member-words .ensures))
 
 same-length : tie.Need-same-length Inv-loop μ-loop
-same-length c = appending-length ((c .before .before .loop .inv))
+same-length c =
+    let at-loop = c .before .before in
+    appending-length ((at-loop .loop .inv))
 
 returns : tie.Need-returns Inv-loop μ-loop
 unfolding groupPart
-returns c = appending-ends ((c .before .before .loop .inv)) ((c .if1 .left))
+returns c =
+    let at-loop = c .before .before in
+    appending-ends ((at-loop .loop .inv)) ((c .if1 .left))
 
 pub group-part-spec : {M : Type 1} → statement M
 group-part-spec =
     tie.close
-    (tie.spec
-    Inv-loop
-    μ-loop
-    loop-holds
-    member-words-requires
-    add-j
-    loop-less
-    loop-again
-    same-length
-    returns)
+    (tie.spec Inv-loop μ-loop loop-holds member-words-requires add-j loop-less loop-again same-length returns)

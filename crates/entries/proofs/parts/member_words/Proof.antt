@@ -1,6 +1,6 @@
 -- `entries::parts::member_words` writes the entries for a member that transmits in the VID. Assumes nothing.
 use native.Mathlib.Omega.{arith}
-use mathlib.Core.Path.{ap, _∙_}
+use mathlib.Core.Path.{ap}
 use borrow.Author.Tests.{not-true, not-false}
 use Rattle.rule.specs.Words.{wordsOf}
 use Rattle.rule.specs.Records.{Member}
@@ -16,21 +16,51 @@ member-requires : tie.Need-member-requires
 member-requires c κs = search needs
 
 returns : tie.Need-returns
-returns c = silent-part _ _ _ _ _ _ (memberValues ((c .before .before .member .result))) ((c .before .before .member .ensures)) (not-true _ ((c .if1 .taken))) _ _
+returns c =
+    let at-member = c .before .before in
+    silent-part _ _ _ _ _ _ (memberValues ((at-member .member .result))) ((at-member .member .ensures)) (not-true _ ((c .if1 .taken))) _ _
 
 returns-2 : tie.Need-returns-2
-returns-2 c = other-part _ _ _ _ _ _ (memberValues ((c .before .before .before .before .before .member .result))) ((c .before .before .before .before .before .member .ensures)) (not-false _ ((c .before .before .before .if1 .left))) ((c .if2 .taken)) _ _
+returns-2 c =
+    let at-if1 = c .before .before .before in
+    let at-member = at-if1 .before .before in
+    other-part _ _ _ _ _ _ (memberValues ((at-member .member .result))) ((at-member .member .ensures)) (not-false _ ((at-if1 .if1 .left)))
+    ((c .if2 .taken)) _ _
 
 transmitter-words-requires : tie.Need-transmitter-words-requires
 transmitter-words-requires c κs =
-    let f = member-fits ((c .before .before .before .before .before .before .before .before .before .before .before .pre .0 .0)) ((c .before .before .before .before .before .before .before .before .before .before .before .args .j)) ((c .before .before .before .before .before .before .before .before .before .before .before .pre .0 .5))
-    in (((c .before .before .before .before .before .before .before .before .before .before .before .pre .0 .0), (c .before .before .before .before .before .before .before .before .before .before .before .pre .0 .1), (c .before .before .before .before .before .before .before .before .before .before .before .pre .0 .2), (c .before .before .before .before .before .before .before .before .before .before .before .pre .0 .3), (c .before .before .before .before .before .before .before .before .before .before .before .pre .0 .4), omega (arith, ap (λ (m : Member). m .bridge) ((c .before .before .before .before .before .before .member .ensures)), f .bridge-known, bridges-counted ((c .before .before .before .before .before .before .before .before .before .before .before .pre .0 .0))), omega (arith, ap (λ (m : Member). m .isid) ((c .before .before .before .before .before .before .member .ensures)), f .isid)), member-room (wordsOf ((c .before .before .before .before .before .before .before .before .before .before .before .args .table .now))) ((c .before .before .before .before .before .before .before .before .before .before .before .args .s)) ((c .before .before .before .before .before .before .before .before .before .before .before .args .egress-rows .now)) ((c .before .before .before .before .before .before .before .before .before .before .before .args .ports .now)) (vidValues ((c .before .before .before .before .before .before .before .before .before .before .before .args .v))) ((c .before .before .before .before .before .before .before .before .before .before .before .args .j)) (memberValues ((c .before .before .before .before .before .before .member .result))) ((c .before .before .before .before .before .before .member .ensures)) (not-false _ ((c .before .before .before .before .if1 .left))) ((c .before .if2 .left)) ((c .before .before .before .before .before .before .before .before .before .before .before .args .words .now)) ((c .before .before .before .before .before .before .before .before .before .before .before .args .at)) ((c .before .before .before .before .before .before .before .before .before .before .before .pre .1)))
+    let at-if1 = c .before .before .before .before in
+    let at-member = at-if1 .before .before in
+    let at-start = at-member .before .before .before .before .before in
+    let ((checked, egress-rows-inside, index-least, index-bound, vid-bound, j-bound), room) = at-start .pre in
+    let member-ensures = at-member .member .ensures in
+    let f = member-fits checked ((at-start .args .j)) j-bound in (
+      (
+        checked,
+        egress-rows-inside,
+        index-least,
+        index-bound,
+        vid-bound,
+        omega (arith, ap (λ (m : Member). m .bridge) member-ensures, f .bridge-known, bridges-counted checked),
+        omega (arith, ap (λ (m : Member). m .isid) member-ensures, f .isid),
+      ),
+      member-room (wordsOf ((at-start .args .table .now))) ((at-start .args .s)) ((at-start .args .egress-rows .now))
+          ((at-start .args .ports .now)) (vidValues ((at-start .args .v))) ((at-start .args .j)) (memberValues ((at-member .member .result)))
+          member-ensures (not-false _ ((at-if1 .if1 .left))) ((c .before .if2 .left)) ((at-start .args .words .now)) ((at-start .args .at))
+          room,
+    )
 
 same-length : tie.Need-same-length
 same-length c = search needs
 
 returns-3 : tie.Need-returns-3
-returns-3 c = member-written _ _ _ _ _ _ (memberValues ((c .before .before .before .before .before .before .before .before .before .member .result))) ((c .before .before .before .before .before .before .before .before .before .member .ensures)) (not-false _ ((c .before .before .before .before .before .before .before .if1 .left))) ((c .before .before .before .before .if2 .left)) ((c .before .before .transmitter-words .ensures))
+returns-3 c =
+    let at-transmitter-words = c .before .before in
+    let at-if2 = at-transmitter-words .before .before in
+    let at-if1 = at-if2 .before .before .before in
+    let at-member = at-if1 .before .before in
+    member-written _ _ _ _ _ _ (memberValues ((at-member .member .result))) ((at-member .member .ensures))
+    (not-false _ ((at-if1 .if1 .left))) ((at-if2 .if2 .left)) ((at-transmitter-words .transmitter-words .ensures))
 
 pub member-words-spec : {M : Type 1} → statement M
 member-words-spec =

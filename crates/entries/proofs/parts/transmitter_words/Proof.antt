@@ -19,22 +19,52 @@ bridge-requires : tie.Need-bridge-requires
 bridge-requires c κs = search needs
 
 group-address-requires : tie.Need-group-address-requires
-group-address-requires c κs = (omega (arith, ap (λ (x : Bridge). x .spSourceId) ((c .bridge .ensures)), source-fits ((c .before .before .before .before .before .before .pre .0 .0)) ((c .before .before .before .before .before .before .args .m .bridge)) ((c .before .before .before .before .before .before .pre .0 .5))), (c .before .before .before .before .before .before .pre .0 .6))
+group-address-requires c κs =
+    let at-start = c .before .before .before .before .before .before in
+    let ((checked, _, _, _, _, bridge-bound, isid-bound), _) = at-start .pre in (
+      omega
+          (arith, ap (λ (x : Bridge). x .spSourceId) ((c .bridge .ensures)), source-fits checked ((at-start .args .m .bridge)) bridge-bound),
+      isid-bound,
+    )
 
 cast-egress-row-at : tie.Need-cast-egress-row-at
 cast-egress-row-at c = search needs
 
 egress-row-at-requires : tie.Need-egress-row-at-requires
-egress-row-at-requires c κs = ((c .before .before .before .before .before .before .before .before .pre .0 .2), (c .before .before .before .before .before .before .before .before .pre .0 .3), omega (arith, (c .before .before .before .before .before .before .before .before .pre .0 .5), few-bridges ((c .before .before .before .before .before .before .before .before .pre .0 .0))), (c .before .before .before .before .before .before .before .before .pre .0 .1 .has-slots))
+egress-row-at-requires c κs =
+    let at-start = c .before .before .before .before .before .before .before .before in
+    let ((checked, egress-rows-inside, index-least, index-bound, _, bridge-bound, _), _) = at-start .pre in
+    (index-least, index-bound, omega (arith, bridge-bound, few-bridges checked), (egress-rows-inside .has-slots))
 
 mul-ports-behind : tie.Need-mul-ports-behind
-mul-ports-behind c = omega (arith, (c .egress-row-at .ensures), (c .before .before .before .before .before .before .before .before .before .pre .0 .1 .inside) ((c .before .before .before .before .before .before .before .before .before .args .v .index)) ((c .before .before .before .before .before .before .before .before .before .args .m .bridge)) ((c .before .before .before .before .before .before .before .before .before .pre .0 .2)) ((c .before .before .before .before .before .before .before .before .before .pre .0 .3)) ((c .before .before .before .before .before .before .before .before .before .pre .0 .5)))
+mul-ports-behind c =
+    let at-start = c .before .before .before .before .before .before .before .before .before in
+    let ((_, egress-rows-inside, index-least, index-bound, _, bridge-bound, _), _) = at-start .pre in
+    omega (
+      arith,
+      (c .egress-row-at .ensures),
+      (egress-rows-inside .inside) ((at-start .args .v .index)) ((at-start .args .m .bridge)) index-least index-bound bridge-bound,
+    )
 
 sub-ports-behind : tie.Need-sub-ports-behind
-sub-ports-behind c = omega (arith, (c .egress-row-at .ensures), (c .before .before .before .before .before .before .before .before .before .pre .0 .1 .inside) ((c .before .before .before .before .before .before .before .before .before .args .v .index)) ((c .before .before .before .before .before .before .before .before .before .args .m .bridge)) ((c .before .before .before .before .before .before .before .before .before .pre .0 .2)) ((c .before .before .before .before .before .before .before .before .before .pre .0 .3)) ((c .before .before .before .before .before .before .before .before .before .pre .0 .5)))
+sub-ports-behind c =
+    let at-start = c .before .before .before .before .before .before .before .before .before in
+    let ((_, egress-rows-inside, index-least, index-bound, _, bridge-bound, _), _) = at-start .pre in
+    omega (
+      arith,
+      (c .egress-row-at .ensures),
+      (egress-rows-inside .inside) ((at-start .args .v .index)) ((at-start .args .m .bridge)) index-least index-bound bridge-bound,
+    )
 
 part-ports-behind-start : tie.Need-part-ports-behind-start
-part-ports-behind-start c = omega (arith, (c .egress-row-at .ensures), (c .before .before .before .before .before .before .before .before .before .pre .0 .1 .inside) ((c .before .before .before .before .before .before .before .before .before .args .v .index)) ((c .before .before .before .before .before .before .before .before .before .args .m .bridge)) ((c .before .before .before .before .before .before .before .before .before .pre .0 .2)) ((c .before .before .before .before .before .before .before .before .before .pre .0 .3)) ((c .before .before .before .before .before .before .before .before .before .pre .0 .5)))
+part-ports-behind-start c =
+    let at-start = c .before .before .before .before .before .before .before .before .before in
+    let ((_, egress-rows-inside, index-least, index-bound, _, bridge-bound, _), _) = at-start .pre in
+    omega (
+      arith,
+      (c .egress-row-at .ensures),
+      (egress-rows-inside .inside) ((at-start .args .v .index)) ((at-start .args .m .bridge)) index-least index-bound bridge-bound,
+    )
 
 part-ports-behind-end : tie.Need-part-ports-behind-end
 part-ports-behind-end c = search needs
@@ -43,40 +73,72 @@ slice-aggregate-ports-behind : tie.Need-slice-aggregate-ports-behind
 slice-aggregate-ports-behind c = search needs
 
 ports-behind-requires : tie.Need-ports-behind-requires
-ports-behind-requires c κs = ((c .before .before .before .before .before .before .before .before .before .before .before .pre .0 .0), row-lent ((c .before .before .before .before .before .before .before .before .before .before .before .args .egress-rows .now)) ((c .before .before .egress-row-at .result)) ((c .before .before .before .before .before .before .before .before .before .before .before .args .s .bridges)) (omega (arith, (c .before .before .egress-row-at .ensures), (c .before .before .before .before .before .before .before .before .before .before .before .pre .0 .1 .inside) ((c .before .before .before .before .before .before .before .before .before .before .before .args .v .index)) ((c .before .before .before .before .before .before .before .before .before .before .before .args .m .bridge)) ((c .before .before .before .before .before .before .before .before .before .before .before .pre .0 .2)) ((c .before .before .before .before .before .before .before .before .before .before .before .pre .0 .3)) ((c .before .before .before .before .before .before .before .before .before .before .before .pre .0 .5)))) (few-bridges ((c .before .before .before .before .before .before .before .before .before .before .before .pre .0 .0))), omega arith)
+ports-behind-requires c κs =
+    let at-egress-row-at = c .before .before in
+    let at-start = at-egress-row-at .before .before .before .before .before .before .before .before .before in
+    let ((checked, egress-rows-inside, index-least, index-bound, _, bridge-bound, _), _) = at-start .pre in (
+      checked,
+      row-lent ((at-start .args .egress-rows .now)) ((at-egress-row-at .egress-row-at .result)) ((at-start .args .s .bridges))
+          (omega (
+            arith,
+            (at-egress-row-at .egress-row-at .ensures),
+            (egress-rows-inside .inside) ((at-start .args .v .index)) ((at-start .args .m .bridge)) index-least index-bound bridge-bound,
+          ))
+          (few-bridges checked),
+      omega arith,
+    )
 
 array-share-prefix-behind : tie.Need-array-share-prefix-behind
-array-share-prefix-behind c = omega (arith, behind-few ((c .before .before .before .before .before .before .before .before .before .before .before .before .before .pre .0 .0)) _ _ ((c .before .ports-behind .ensures)))
+array-share-prefix-behind c =
+    let at-start = c .before .before .before .before .before .before .before .before .before .before .before .before .before in
+    let ((checked, _, _, _, _, _, _), _) = at-start .pre in
+    omega (arith, behind-few checked _ _ ((c .before .ports-behind .ensures)))
 
 slice-aggregate-group-words : tie.Need-slice-aggregate-group-words
-slice-aggregate-group-words c = simp length-take (omega (arith, behind-few ((c .before .before .before .before .before .before .before .before .before .before .before .before .before .before .pre .0 .0)) _ _ ((c .before .before .ports-behind .ensures))))
+slice-aggregate-group-words c =
+    let at-ports-behind = c .before .before in
+    let at-start = at-ports-behind .before .before .before .before .before .before .before .before .before .before .before .before in
+    let ((checked, _, _, _, _, _, _), _) = at-start .pre in
+    simp length-take (omega (arith, behind-few checked _ _ ((at-ports-behind .ports-behind .ensures))))
 
 group-words-requires : tie.Need-group-words-requires
-group-words-requires c κs = (transmitter-room (wordsOf ((c .before .before .before .before .before .before .before .before .before .before .before .before .before .before .before .args .table .now))) ((c .before .before .before .before .before .before .before .before .before .before .before .before .before .before .before .args .s)) ((c .before .before .before .before .before .before .before .before .before .before .before .before .before .before .before .args .egress-rows .now)) ((c .before .before .before .before .before .before .before .before .before .before .before .before .before .before .before .args .ports .now)) (vidValues ((c .before .before .before .before .before .before .before .before .before .before .before .before .before .before .before .args .v))) (memberValues ((c .before .before .before .before .before .before .before .before .before .before .before .before .before .before .before .args .m))) ((c .before .before .before .before .before .before .egress-row-at .result)) ((c .before .before .before .before .before .before .egress-row-at .ensures)) _ _ ((c .before .before .before .ports-behind .result)) ((c .before .before .before .ports-behind .ensures)) ((c .before .before .before .before .before .before .before .before .before .bridge .result .«sp_source_id»)) (ap (λ (x : Bridge). x .spSourceId) ((c .before .before .before .before .before .before .before .before .before .bridge .ensures))) ((c .before .before .before .before .before .before .before .before .group-address .result)) ((c .before .before .before .before .before .before .before .before .group-address .ensures)) ((c .before .before .before .before .before .before .before .before .before .before .before .before .before .before .before .args .words .now)) ((c .before .before .before .before .before .before .before .before .before .before .before .before .before .before .before .args .at)) ((c .before .before .before .before .before .before .before .before .before .before .before .before .before .before .before .pre .1)), (c .before .before .before .before .before .before .before .before .before .before .before .before .before .before .before .pre .0 .4))
+group-words-requires c κs =
+    let at-ports-behind = c .before .before .before in
+    let at-egress-row-at = at-ports-behind .before .before .before in
+    let at-group-address = at-egress-row-at .before .before in
+    let at-bridge = at-group-address .before in
+    let at-start = at-bridge .before .before .before .before .before .before in
+    let ((_, _, _, _, vid-bound, _, _), room) = at-start .pre in (
+      transmitter-room (wordsOf ((at-start .args .table .now))) ((at-start .args .s)) ((at-start .args .egress-rows .now))
+          ((at-start .args .ports .now)) (vidValues ((at-start .args .v))) (memberValues ((at-start .args .m)))
+          ((at-egress-row-at .egress-row-at .result)) ((at-egress-row-at .egress-row-at .ensures)) _ _
+          ((at-ports-behind .ports-behind .result)) ((at-ports-behind .ports-behind .ensures)) ((at-bridge .bridge .result .«sp_source_id»))
+          (ap (λ (x : Bridge). x .spSourceId) ((at-bridge .bridge .ensures))) ((at-group-address .group-address .result))
+          ((at-group-address .group-address .ensures)) ((at-start .args .words .now)) ((at-start .args .at)) room,
+      vid-bound,
+    )
 
 same-length : tie.Need-same-length
 same-length c = search needs
 
 returns : tie.Need-returns
-returns c = transmitter-written (wordsOf ((c .before .before .before .before .before .before .before .before .before .before .before .before .before .before .before .before .before .before .args .table .now))) ((c .before .before .before .before .before .before .before .before .before .before .before .before .before .before .before .before .before .before .args .s)) ((c .before .before .before .before .before .before .before .before .before .before .before .before .before .before .before .before .before .before .args .egress-rows .now)) ((c .before .before .before .before .before .before .before .before .before .before .before .before .before .before .before .before .before .before .args .ports .now)) (vidValues ((c .before .before .before .before .before .before .before .before .before .before .before .before .before .before .before .before .before .before .args .v))) (memberValues ((c .before .before .before .before .before .before .before .before .before .before .before .before .before .before .before .before .before .before .args .m))) ((c .before .before .before .before .before .before .before .before .before .egress-row-at .result)) ((c .before .before .before .before .before .before .before .before .before .egress-row-at .ensures)) _ _ ((c .before .before .before .before .before .before .ports-behind .result)) ((c .before .before .before .before .before .before .ports-behind .ensures)) ((c .before .before .before .before .before .before .before .before .before .before .before .before .bridge .result .«sp_source_id»)) (ap (λ (x : Bridge). x .spSourceId) ((c .before .before .before .before .before .before .before .before .before .before .before .before .bridge .ensures))) ((c .before .before .before .before .before .before .before .before .before .before .before .group-address .result)) ((c .before .before .before .before .before .before .before .before .before .before .before .group-address .ensures)) ((c .before .before .group-words .ensures))
+returns c =
+    let at-group-words = c .before .before in
+    let at-ports-behind = at-group-words .before .before .before .before in
+    let at-egress-row-at = at-ports-behind .before .before .before in
+    let at-group-address = at-egress-row-at .before .before in
+    let at-bridge = at-group-address .before in
+    let at-start = at-bridge .before .before .before .before .before .before in
+    transmitter-written (wordsOf ((at-start .args .table .now))) ((at-start .args .s)) ((at-start .args .egress-rows .now))
+    ((at-start .args .ports .now)) (vidValues ((at-start .args .v))) (memberValues ((at-start .args .m)))
+    ((at-egress-row-at .egress-row-at .result)) ((at-egress-row-at .egress-row-at .ensures)) _ _ ((at-ports-behind .ports-behind .result))
+    ((at-ports-behind .ports-behind .ensures)) ((at-bridge .bridge .result .«sp_source_id»))
+    (ap (λ (x : Bridge). x .spSourceId) ((at-bridge .bridge .ensures))) ((at-group-address .group-address .result))
+    ((at-group-address .group-address .ensures)) ((at-group-words .group-words .ensures))
 
 pub transmitter-words-spec : {M : Type 1} → statement M
 transmitter-words-spec =
     tie.close
-    (tie.spec
-    cast-bridge
-    bridge-requires
-    group-address-requires
-    cast-egress-row-at
-    egress-row-at-requires
-    mul-ports-behind
-    sub-ports-behind
-    part-ports-behind-start
-    part-ports-behind-end
-    slice-aggregate-ports-behind
-    ports-behind-requires
-    array-share-prefix-behind
-    slice-aggregate-group-words
-    group-words-requires
-    same-length
-    returns)
+    (tie.spec cast-bridge bridge-requires group-address-requires cast-egress-row-at egress-row-at-requires mul-ports-behind sub-ports-behind
+    part-ports-behind-start part-ports-behind-end slice-aggregate-ports-behind ports-behind-requires array-share-prefix-behind
+    slice-aggregate-group-words group-words-requires same-length returns)

@@ -15,10 +15,17 @@ abbrev μ-loop : tie.MeasureT-loop
 
 loop-holds : tie.Need-loop-holds Inv-loop μ-loop
 unfolding wholeList
-loop-holds c = appending-starts _ _ _ _ ((c .before .before .before .before .pre .1))
+loop-holds c =
+    let at-start = c .before .before .before .before in
+    let (_, room) = at-start .pre in
+    appending-starts _ _ _ _ room
 
 vid-part-requires : tie.Need-vid-part-requires Inv-loop μ-loop
-vid-part-requires c κs = (((c .before .before .before .before .before .before .before .before .pre .0 .0), (c .before .before .before .before .before .before .before .before .pre .0 .1), (c .before .before .before .before .before .before .before .before .pre .0 .2), (c .before .if1 .taken)), appending-room ((c .before .before .before .loop .inv)) ((c .before .if1 .taken)))
+vid-part-requires c κs =
+    let at-loop = c .before .before .before in
+    let at-start = at-loop .before .before .before .before .before in
+    let ((checked, egress-rows-inside, b-bound), _) = at-start .pre in
+    ((checked, egress-rows-inside, b-bound, (c .before .if1 .taken)), appending-room ((at-loop .loop .inv)) ((c .before .if1 .taken)))
 
 add-k : tie.Need-add-k Inv-loop μ-loop
 add-k c = search needs
@@ -27,25 +34,24 @@ loop-less : tie.Need-loop-less Inv-loop μ-loop
 loop-less c = search needs
 
 loop-again : tie.Need-loop-again Inv-loop μ-loop
-loop-again c = appending-goes-on ((c .before .before .before .before .before .before .loop .inv)) ((c .before .before .before .before .if1 .taken)) ((c .before .before .vid-part .ensures))
+loop-again c =
+    let at-vid-part = c .before .before in
+    let at-if1 = at-vid-part .before .before in
+    let at-loop = at-if1 .before .before in
+    appending-goes-on ((at-loop .loop .inv)) ((at-if1 .if1 .taken)) ((at-vid-part .vid-part .ensures))
 
 same-length : tie.Need-same-length Inv-loop μ-loop
-same-length c = appending-length ((c .before .before .loop .inv))
+same-length c =
+    let at-loop = c .before .before in
+    appending-length ((at-loop .loop .inv))
 
 returns : tie.Need-returns Inv-loop μ-loop
 unfolding wholeList
-returns c = appending-ends ((c .before .before .loop .inv)) ((c .if1 .left))
+returns c =
+    let at-loop = c .before .before in
+    appending-ends ((at-loop .loop .inv)) ((c .if1 .left))
 
 pub whole-list-spec : {M : Type 1} → statement M
 whole-list-spec =
     tie.close
-    (tie.spec
-    Inv-loop
-    μ-loop
-    loop-holds
-    vid-part-requires
-    add-k
-    loop-less
-    loop-again
-    same-length
-    returns)
+    (tie.spec Inv-loop μ-loop loop-holds vid-part-requires add-k loop-less loop-again same-length returns)

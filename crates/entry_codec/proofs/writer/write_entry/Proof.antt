@@ -34,7 +34,9 @@ mul-words-4 : tie.Need-mul-words-4
 mul-words-4 c = search needs
 
 slice-write-words-2 : tie.Need-slice-write-words-2
-slice-write-words-2 c = simp length-set (omega (arith, (c .pre .0)))
+slice-write-words-2 c =
+    let (words-room, _, _, _) = c .pre in
+    simp length-set (omega (arith, words-room))
 
 cast-words-2 : tie.Need-cast-words-2
 cast-words-2 c = search needs
@@ -46,7 +48,9 @@ mul-words-5 : tie.Need-mul-words-5
 mul-words-5 c = search needs
 
 slice-write-words-3 : tie.Need-slice-write-words-3
-slice-write-words-3 c = simp length-set (omega (arith, (c .pre .0)))
+slice-write-words-3 c =
+    let (words-room, _, _, _) = c .pre in
+    simp length-set (omega (arith, words-room))
 
 add-result : tie.Need-add-result
 add-result c = search needs
@@ -55,26 +59,12 @@ same-length : tie.Need-same-length
 same-length c = search needs
 
 returns : tie.Need-returns
-returns c = three-words _ _ _ _ _ ((c .pre .0))
+returns c =
+    let (words-room, _, _, _) = c .pre in
+    three-words _ _ _ _ _ words-room
 
 pub write-entry-spec : {M : Type 1} → statement M
 write-entry-spec =
     tie.close
-    (tie.spec
-    mul-words
-    mul-words-2
-    add-words
-    add-words-2
-    mul-words-3
-    slice-write-words
-    cast-words
-    add-words-3
-    mul-words-4
-    slice-write-words-2
-    cast-words-2
-    add-words-4
-    mul-words-5
-    slice-write-words-3
-    add-result
-    same-length
-    returns)
+    (tie.spec mul-words mul-words-2 add-words add-words-2 mul-words-3 slice-write-words cast-words add-words-3 mul-words-4
+    slice-write-words-2 cast-words-2 add-words-4 mul-words-5 slice-write-words-3 add-result same-length returns)

@@ -23,7 +23,10 @@ abbrev μ-ports : tie.MeasureT-ports
 μ-ports ports behind vid address words₀ at end₀ i₀ words end i = length ports - i
 
 ports-holds : tie.Need-ports-holds Inv-loop μ-loop Inv-ports μ-ports
-ports-holds c = listing-starts _ _ _ _ _ _ ((c .before .before .before .pre .0))
+ports-holds c =
+    let at-start = c .before .before .before in
+    let (room, _) = at-start .pre in
+    listing-starts _ _ _ _ _ _ room
 
 mul-port : tie.Need-mul-port Inv-loop μ-loop Inv-ports μ-ports
 mul-port c = search needs
@@ -41,7 +44,10 @@ ports-less : tie.Need-ports-less Inv-loop μ-loop Inv-ports μ-ports
 ports-less c = search needs
 
 ports-again : tie.Need-ports-again Inv-loop μ-loop Inv-ports μ-ports
-ports-again c = none-listed ((c .before .loop .inv)) ((c .before .before .before .before .ports .inv)) ((c .before .before .before .ports-test .taken)) refl ((c .loop-test .left))
+ports-again c =
+    let at-ports-test = c .before .before .before in
+    let at-ports = at-ports-test .before in
+    none-listed ((c .before .loop .inv)) ((at-ports .ports .inv)) ((at-ports-test .ports-test .taken)) refl ((c .loop-test .left))
 
 mul-if1 : tie.Need-mul-if1 Inv-loop μ-loop Inv-ports μ-ports
 mul-if1 c = search needs
@@ -53,13 +59,36 @@ wide-requires : tie.Need-wide-requires Inv-loop μ-loop Inv-ports μ-ports
 wide-requires c κs = search needs
 
 write-entry-requires : tie.Need-write-entry-requires Inv-loop μ-loop Inv-ports μ-ports
-write-entry-requires c κs = (found-room ((c .before .before .before .before .before .loop .inv)) ((c .before .before .before .before .before .before .before .before .ports .inv)) ((c .before .before .before .before .before .before .before .ports-test .taken)) refl ((c .before .before .before .before .loop-test .taken)) ((c .before .before .if1 .taken)), omega arith, (c .before .before .before .before .before .before .before .before .before .before .before .before .pre .1), omega (arith, (c .wide .ensures)))
+write-entry-requires c κs =
+    let at-if1 = c .before .before in
+    let at-loop-test = at-if1 .before .before in
+    let at-loop = at-loop-test .before in
+    let at-ports-test = at-loop .before .before in
+    let at-ports = at-ports-test .before in
+    let at-start = at-ports .before .before .before .before in
+    let (_, vid-bound) = at-start .pre in (
+      found-room ((at-loop .loop .inv)) ((at-ports .ports .inv)) ((at-ports-test .ports-test .taken)) refl
+          ((at-loop-test .loop-test .taken)) ((at-if1 .if1 .taken)),
+      omega arith,
+      vid-bound,
+      omega (arith, (c .wide .ensures)),
+    )
 
 ports-less-2 : tie.Need-ports-less-2 Inv-loop μ-loop Inv-ports μ-ports
 ports-less-2 c = search needs
 
 ports-again-2 : tie.Need-ports-again-2 Inv-loop μ-loop Inv-ports μ-ports
-ports-again-2 c = found-listed ((c .before .before .before .before .before .before .before .before .loop .inv)) ((c .before .before .before .before .before .before .before .before .before .before .before .ports .inv)) ((c .before .before .before .before .before .before .before .before .before .before .ports-test .taken)) refl ((c .before .before .before .before .before .before .before .loop-test .taken)) ((c .before .before .before .before .before .if1 .taken)) ((c .before .before .before .wide .ensures .0)) ((c .before .before .write-entry .ensures))
+ports-again-2 c =
+    let at-write-entry = c .before .before in
+    let at-wide = at-write-entry .before in
+    let at-if1 = at-wide .before .before in
+    let at-loop-test = at-if1 .before .before in
+    let at-loop = at-loop-test .before in
+    let at-ports-test = at-loop .before .before in
+    let at-ports = at-ports-test .before in
+    let (wide-is, _) = at-wide .wide .ensures in
+    found-listed ((at-loop .loop .inv)) ((at-ports .ports .inv)) ((at-ports-test .ports-test .taken)) refl
+    ((at-loop-test .loop-test .taken)) ((at-if1 .if1 .taken)) wide-is ((at-write-entry .write-entry .ensures))
 
 add-j : tie.Need-add-j Inv-loop μ-loop Inv-ports μ-ports
 add-j c = search needs
@@ -68,7 +97,10 @@ loop-less : tie.Need-loop-less Inv-loop μ-loop Inv-ports μ-ports
 loop-less c = search needs
 
 loop-again : tie.Need-loop-again Inv-loop μ-loop Inv-ports μ-ports
-loop-again c = seeking-goes-on ((c .before .before .before .loop .inv)) ((c .before .before .loop-test .taken)) ((c .if1 .left))
+loop-again c =
+    let at-loop-test = c .before .before in
+    let at-loop = at-loop-test .before in
+    seeking-goes-on ((at-loop .loop .inv)) ((at-loop-test .loop-test .taken)) ((c .if1 .left))
 
 same-length : tie.Need-same-length Inv-loop μ-loop Inv-ports μ-ports
 same-length c = appending-length ((c .before .ports .inv .so-far))
@@ -79,26 +111,5 @@ returns c = listing-ends ((c .before .ports .inv)) ((c .ports-test .left))
 pub group-words-spec : {M : Type 1} → statement M
 group-words-spec =
     tie.close
-    (tie.spec
-    Inv-loop
-    μ-loop
-    Inv-ports
-    μ-ports
-    ports-holds
-    mul-port
-    shared-slice-read-port
-    add-i
-    loop-holds
-    ports-less
-    ports-again
-    mul-if1
-    shared-slice-read-if1
-    wide-requires
-    write-entry-requires
-    ports-less-2
-    ports-again-2
-    add-j
-    loop-less
-    loop-again
-    same-length
-    returns)
+    (tie.spec Inv-loop μ-loop Inv-ports μ-ports ports-holds mul-port shared-slice-read-port add-i loop-holds ports-less ports-again mul-if1
+    shared-slice-read-if1 wide-requires write-entry-requires ports-less-2 ports-again-2 add-j loop-less loop-again same-length returns)

@@ -20,19 +20,39 @@ is-receiver-requires : tie.Need-is-receiver-requires
 is-receiver-requires c κs = search needs
 
 returns : tie.Need-returns
-returns c = not-noted _ _ _ _ _ (memberValues ((c .before .before .before .member .result))) ((c .before .before .before .member .ensures)) (sym (not-true _ ((c .if1 .taken))) ∙ (c .before .is-receiver .ensures)) _ _
+returns c =
+    let at-member = c .before .before .before in
+    not-noted _ _ _ _ _ (memberValues ((at-member .member .result))) ((at-member .member .ensures))
+    (sym (not-true _ ((c .if1 .taken))) ∙ (c .before .is-receiver .ensures)) _ _
 
 mul-behind : tie.Need-mul-behind
 mul-behind c = search needs
 
 shared-slice-read-behind : tie.Need-shared-slice-read-behind
-shared-slice-read-behind c = omega (arith, ap (λ (x : Member). x .bridge) ((c .before .before .before .before .member .ensures)), member-bridge ((c .before .before .before .before .before .before .before .before .pre .0 .0)) ((c .before .before .before .before .before .before .before .before .args .j)) ((c .before .before .before .before .before .before .before .before .pre .0 .1)), (c .before .before .before .before .before .before .before .before .pre .0 .2))
+shared-slice-read-behind c =
+    let at-member = c .before .before .before .before in
+    let at-start = at-member .before .before .before .before in
+    let ((checked, j-bound, egress-row-room), _) = at-start .pre in
+    omega (
+      arith,
+      ap (λ (x : Member). x .bridge) ((at-member .member .ensures)),
+      member-bridge checked ((at-start .args .j)) j-bound,
+      egress-row-room,
+    )
 
 mul-behind-2 : tie.Need-mul-behind-2
 mul-behind-2 c = search needs
 
 slice-write-behind : tie.Need-slice-write-behind
-slice-write-behind c = noted-room (wordsOf ((c .before .before .before .before .before .before .before .before .args .table .now))) ((c .before .before .before .before .before .before .before .before .args .s)) ((c .before .before .before .before .before .before .before .before .args .egress-row .now)) (memberValues ((c .before .before .before .before .before .before .before .before .args .m))) ((c .before .before .before .before .before .before .before .before .args .j)) (memberValues ((c .before .before .before .before .member .result))) ((c .before .before .before .before .member .ensures)) (sym (not-false _ ((c .before .if1 .left))) ∙ (c .before .before .is-receiver .ensures)) ((c .before .before .before .before .before .before .before .before .args .behind .now)) ((c .before .before .before .before .before .before .before .before .args .at)) ((c .before .before .before .before .before .before .before .before .pre .1))
+slice-write-behind c =
+    let at-is-receiver = c .before .before in
+    let at-member = at-is-receiver .before .before in
+    let at-start = at-member .before .before .before .before in
+    let (_, room) = at-start .pre in
+    noted-room (wordsOf ((at-start .args .table .now))) ((at-start .args .s)) ((at-start .args .egress-row .now))
+    (memberValues ((at-start .args .m))) ((at-start .args .j)) (memberValues ((at-member .member .result))) ((at-member .member .ensures))
+    (sym (not-false _ ((c .before .if1 .left))) ∙ (at-is-receiver .is-receiver .ensures)) ((at-start .args .behind .now))
+    ((at-start .args .at)) room
 
 add-result : tie.Need-add-result
 add-result c = search needs
@@ -41,20 +61,20 @@ same-length : tie.Need-same-length
 same-length c = search needs
 
 returns-2 : tie.Need-returns-2
-returns-2 c = noted _ _ _ _ _ (memberValues ((c .before .before .before .before .member .result))) ((c .before .before .before .before .member .ensures)) (sym (not-false _ ((c .before .if1 .left))) ∙ (c .before .before .is-receiver .ensures)) _ _ (noted-room (wordsOf ((c .before .before .before .before .before .before .before .before .args .table .now))) ((c .before .before .before .before .before .before .before .before .args .s)) ((c .before .before .before .before .before .before .before .before .args .egress-row .now)) (memberValues ((c .before .before .before .before .before .before .before .before .args .m))) ((c .before .before .before .before .before .before .before .before .args .j)) (memberValues ((c .before .before .before .before .member .result))) ((c .before .before .before .before .member .ensures)) (sym (not-false _ ((c .before .if1 .left))) ∙ (c .before .before .is-receiver .ensures)) ((c .before .before .before .before .before .before .before .before .args .behind .now)) ((c .before .before .before .before .before .before .before .before .args .at)) ((c .before .before .before .before .before .before .before .before .pre .1)))
+returns-2 c =
+    let at-is-receiver = c .before .before in
+    let at-member = at-is-receiver .before .before in
+    let at-start = at-member .before .before .before .before in
+    let (_, room) = at-start .pre in
+    noted _ _ _ _ _ (memberValues ((at-member .member .result))) ((at-member .member .ensures))
+    (sym (not-false _ ((c .before .if1 .left))) ∙ (at-is-receiver .is-receiver .ensures)) _ _
+    (noted-room (wordsOf ((at-start .args .table .now))) ((at-start .args .s)) ((at-start .args .egress-row .now))
+    (memberValues ((at-start .args .m))) ((at-start .args .j)) (memberValues ((at-member .member .result)))
+    ((at-member .member .ensures)) (sym (not-false _ ((c .before .if1 .left))) ∙ (at-is-receiver .is-receiver .ensures))
+    ((at-start .args .behind .now)) ((at-start .args .at)) room)
 
 pub note-receiver-spec : {M : Type 1} → statement M
 note-receiver-spec =
     tie.close
-    (tie.spec
-    member-requires
-    cast-bridge
-    is-receiver-requires
-    returns
-    mul-behind
-    shared-slice-read-behind
-    mul-behind-2
-    slice-write-behind
-    add-result
-    same-length
-    returns-2)
+    (tie.spec member-requires cast-bridge is-receiver-requires returns mul-behind shared-slice-read-behind mul-behind-2 slice-write-behind
+    add-result same-length returns-2)

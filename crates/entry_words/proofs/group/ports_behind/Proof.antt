@@ -17,10 +17,19 @@ abbrev μ-loop : tie.MeasureT-loop
 
 loop-holds : tie.Need-loop-holds Inv-loop μ-loop
 unfolding portsBehind
-loop-holds c = appending-starts _ _ _ _ (behind-room ((c .before .before .before .pre .0)) ((c .before .before .before .args .egress-row .now)) (memberValues ((c .before .before .before .args .m))) ((c .before .before .before .args .behind .now)) ((c .before .before .before .pre .2)))
+loop-holds c =
+    let at-start = c .before .before .before in
+    let (checked, _, the-behind-room) = at-start .pre in
+    appending-starts _ _ _ _
+    (behind-room checked ((at-start .args .egress-row .now)) (memberValues ((at-start .args .m))) ((at-start .args .behind .now))
+    the-behind-room)
 
 note-receiver-requires : tie.Need-note-receiver-requires Inv-loop μ-loop
-note-receiver-requires c κs = (((c .before .before .before .before .before .before .before .pre .0), (c .before .if1 .taken), (c .before .before .before .before .before .before .before .pre .1)), appending-room ((c .before .before .before .loop .inv)) ((c .before .if1 .taken)))
+note-receiver-requires c κs =
+    let at-loop = c .before .before .before in
+    let at-start = at-loop .before .before .before .before in
+    let (checked, egress-row-room, _) = at-start .pre in
+    ((checked, (c .before .if1 .taken), egress-row-room), appending-room ((at-loop .loop .inv)) ((c .before .if1 .taken)))
 
 add-j : tie.Need-add-j Inv-loop μ-loop
 add-j c = search needs
@@ -29,25 +38,24 @@ loop-less : tie.Need-loop-less Inv-loop μ-loop
 loop-less c = search needs
 
 loop-again : tie.Need-loop-again Inv-loop μ-loop
-loop-again c = appending-goes-on ((c .before .before .before .before .before .before .loop .inv)) ((c .before .before .before .before .if1 .taken)) ((c .before .before .note-receiver .ensures))
+loop-again c =
+    let at-note-receiver = c .before .before in
+    let at-if1 = at-note-receiver .before .before in
+    let at-loop = at-if1 .before .before in
+    appending-goes-on ((at-loop .loop .inv)) ((at-if1 .if1 .taken)) ((at-note-receiver .note-receiver .ensures))
 
 same-length : tie.Need-same-length Inv-loop μ-loop
-same-length c = appending-length ((c .before .before .loop .inv))
+same-length c =
+    let at-loop = c .before .before in
+    appending-length ((at-loop .loop .inv))
 
 returns : tie.Need-returns Inv-loop μ-loop
 unfolding portsBehind
-returns c = appending-ends ((c .before .before .loop .inv)) ((c .if1 .left))
+returns c =
+    let at-loop = c .before .before in
+    appending-ends ((at-loop .loop .inv)) ((c .if1 .left))
 
 pub ports-behind-spec : {M : Type 1} → statement M
 ports-behind-spec =
     tie.close
-    (tie.spec
-    Inv-loop
-    μ-loop
-    loop-holds
-    note-receiver-requires
-    add-j
-    loop-less
-    loop-again
-    same-length
-    returns)
+    (tie.spec Inv-loop μ-loop loop-holds note-receiver-requires add-j loop-less loop-again same-length returns)

@@ -23,23 +23,35 @@ bridge-requires : tie.Need-bridge-requires
 bridge-requires c κs = search needs
 
 write-entry-requires : tie.Need-write-entry-requires
-write-entry-requires c κs = (individual-room (wordsOf ((c .before .before .before .before .before .before .before .before .before .args .table .now))) ((c .before .before .before .before .before .before .before .before .before .args .egress-row .now)) ((c .before .before .before .before .before .before .before .before .before .args .vid)) ((c .before .before .before .before .before .before .before .before .before .args .d)) ((c .before .before .before .before .wide .result)) ((c .before .before .before .before .wide .ensures .0)) ((c .before .before .before .if1 .left)) (bridgeValues ((c .before .before .bridge .result))) ((c .before .before .bridge .ensures)) ((c .before .before .before .before .before .before .before .before .before .args .words .now)) ((c .before .before .before .before .before .before .before .before .before .args .at)) ((c .before .before .before .before .before .before .before .before .before .pre .1)), omega arith, (c .before .before .before .before .before .before .before .before .before .pre .0 .3), (c .before .before .before .before .wide .ensures .1))
+write-entry-requires c κs =
+    let at-bridge = c .before .before in
+    let at-if1 = at-bridge .before in
+    let at-wide = at-if1 .before in
+    let at-start = at-wide .before .before .before .before .before in
+    let (wide-is, wide-bound) = at-wide .wide .ensures in
+    let ((_, _, _, vid-bound), room) = at-start .pre in (
+      individual-room (wordsOf ((at-start .args .table .now))) ((at-start .args .egress-row .now)) ((at-start .args .vid))
+          ((at-start .args .d)) ((at-wide .wide .result)) wide-is ((at-if1 .if1 .left)) (bridgeValues ((at-bridge .bridge .result)))
+          ((at-bridge .bridge .ensures)) ((at-start .args .words .now)) ((at-start .args .at)) room,
+      omega arith,
+      vid-bound,
+      wide-bound,
+    )
 
 same-length : tie.Need-same-length
 same-length c = search needs
 
 returns-2 : tie.Need-returns-2
-returns-2 c = individual-written _ _ _ _ _ ((c .before .before .before .before .before .before .before .wide .ensures .0)) ((c .before .before .before .before .before .before .if1 .left)) (bridgeValues ((c .before .before .before .before .before .bridge .result))) ((c .before .before .before .before .before .bridge .ensures)) ((c .before .before .write-entry .ensures))
+returns-2 c =
+    let at-write-entry = c .before .before in
+    let at-bridge = at-write-entry .before .before .before in
+    let at-if1 = at-bridge .before in
+    let at-wide = at-if1 .before in
+    let (wide-is, _) = at-wide .wide .ensures in
+    individual-written _ _ _ _ _ wide-is ((at-if1 .if1 .left)) (bridgeValues ((at-bridge .bridge .result))) ((at-bridge .bridge .ensures))
+    ((at-write-entry .write-entry .ensures))
 
 pub write-individual-spec : {M : Type 1} → statement M
 write-individual-spec =
     tie.close
-    (tie.spec
-    mul-wide
-    shared-slice-read-wide
-    wide-requires
-    returns
-    bridge-requires
-    write-entry-requires
-    same-length
-    returns-2)
+    (tie.spec mul-wide shared-slice-read-wide wide-requires returns bridge-requires write-entry-requires same-length returns-2)

@@ -60,49 +60,109 @@ own-fault-requires-4 : tie.Need-own-fault-requires-4
 own-fault-requires-4 c κs = search needs
 
 returns : tie.Need-returns
-returns c = own-fault (judged-at bridgeLayout (c .before .before .before .before .before .before .before .before .before .before .args .table .now) (c .before .before .before .before .before .before .before .before .before .before .args .s) _ _ (whole (bridge (bridgeValues (c .before .before .before .read .given .0 .0)))) _ _ _ (omega (arith, c .before .before .before .before .before .before .before .before .words-read .ensures)) (c .before .before .before .before .before .read-bridge .ensures) (ap (λ (x : BridgeRead). bridgeRead x) (c .before .before .before .read .given .1)) (c .before .before .before .before .before .before .before .last-kind .ensures) (sym (how-many bridgeOf 3 0 (wordsOf (c .before .before .before .before .before .before .before .before .before .before .args .table .now)) ((c .before .before .before .before .before .before .before .before .before .before .args .s) .bridges))) (c .before .own-fault4 .ensures)) (c .if1 .taken)
+returns c =
+    let at-read = c .before .before .before in
+    let at-read-bridge = at-read .before .before in
+    let at-last-kind = at-read-bridge .before .before in
+    let at-words-read = at-last-kind .before in
+    let at-start = at-words-read .before .before in
+    own-fault
+    (judged-at bridgeLayout (at-start .args .table .now) (at-start .args .s) _ _
+    (whole (bridge (bridgeValues (at-read .read .given .0 .0)))) _ _ _ (omega (arith, at-words-read .words-read .ensures))
+    (at-read-bridge .read-bridge .ensures) (ap (λ (x : BridgeRead). bridgeRead x) (at-read .read .given .1))
+    (at-last-kind .last-kind .ensures)
+    (sym (how-many bridgeOf 3 0 (wordsOf (at-start .args .table .now)) (at-start .args .s .bridges))) (c .before .own-fault4 .ensures))
+    (c .if1 .taken)
 
 is-bridge-repeated-requires : tie.Need-is-bridge-repeated-requires
 is-bridge-repeated-requires c κs = search needs
 
 returns-2 : tie.Need-returns-2
-returns-2 c = left-over (readingAt (wordsOf (c .before .before .before .before .before .before .before .before .before .before .before .before .args .table .now)) (c .before .before .before .before .before .before .before .before .before .before .before .before .args .s)) (bridge (bridgeValues (c .before .before .before .before .before .read .given .0 .0))) (length (drop (wordsRead (c .before .before .before .before .before .before .before .before .before .before .before .before .args .s)) (wordsOf (c .before .before .before .before .before .before .before .before .before .before .before .before .args .table .now)))) false false true false false refl refl (sym (c .before .is-bridge-repeated .ensures) ∙ c .if2 .taken) refl refl ∙ fault-left (judged-at bridgeLayout (c .before .before .before .before .before .before .before .before .before .before .before .before .args .table .now) (c .before .before .before .before .before .before .before .before .before .before .before .before .args .s) _ _ (whole (bridge (bridgeValues (c .before .before .before .before .before .read .given .0 .0)))) _ _ _ (omega (arith, c .before .before .before .before .before .before .before .before .before .before .words-read .ensures)) (c .before .before .before .before .before .before .before .read-bridge .ensures) (ap (λ (x : BridgeRead). bridgeRead x) (c .before .before .before .before .before .read .given .1)) (c .before .before .before .before .before .before .before .before .before .last-kind .ensures) (sym (how-many bridgeOf 3 0 (wordsOf (c .before .before .before .before .before .before .before .before .before .before .before .before .args .table .now)) ((c .before .before .before .before .before .before .before .before .before .before .before .before .args .s) .bridges))) (c .before .before .before .own-fault4 .ensures)) (bridge (bridgeValues (c .before .before .before .before .before .read .given .0 .0))) refl (c .before .before .if1 .left)
+returns-2 c =
+    let at-if1 = c .before .before in
+    let at-own-fault4 = at-if1 .before in
+    let at-read = at-own-fault4 .before .before in
+    let at-read-bridge = at-read .before .before in
+    let at-last-kind = at-read-bridge .before .before in
+    let at-words-read = at-last-kind .before in
+    let at-start = at-words-read .before .before in
+    let table = at-start .args .table .now in
+    let read-given = at-read .read .given .0 .0 in
+    let s = at-start .args .s in
+    let words = wordsOf table in
+    left-over (readingAt words s) (bridge (bridgeValues read-given)) (length (drop (wordsRead s) words)) false false true false false refl
+    refl (sym (c .before .is-bridge-repeated .ensures) ∙ c .if2 .taken) refl refl
+    ∙ fault-left
+    (judged-at bridgeLayout table s _ _ (whole (bridge (bridgeValues read-given))) _ _ _
+    (omega (arith, at-words-read .words-read .ensures)) (at-read-bridge .read-bridge .ensures)
+    (ap (λ (x : BridgeRead). bridgeRead x) (at-read .read .given .1)) (at-last-kind .last-kind .ensures)
+    (sym (how-many bridgeOf 3 0 words (s .bridges))) (at-own-fault4 .own-fault4 .ensures))
+    (bridge (bridgeValues read-given)) refl (at-if1 .if1 .left)
 
 returns-3 : tie.Need-returns-3
-returns-3 c = found-fault (judged-at bridgeLayout (c .before .before .before .before .before .before .before .before .args .table .now) (c .before .before .before .before .before .before .before .before .args .s) _ _ cut _ _ _ (omega (arith, c .before .before .before .before .before .before .words-read .ensures)) (c .before .before .before .read-bridge .ensures) (ap (λ (x : BridgeRead). bridgeRead x) (c .before .enum-told .given .1)) (c .before .before .before .before .before .last-kind .ensures) (sym (how-many bridgeOf 3 0 (wordsOf (c .before .before .before .before .before .before .before .before .args .table .now)) ((c .before .before .before .before .before .before .before .before .args .s) .bridges))) (c .own-fault .ensures)) (λ z. absurd (omega arith))
+returns-3 c =
+    let at-read-bridge = c .before .before .before in
+    let at-last-kind = at-read-bridge .before .before in
+    let at-words-read = at-last-kind .before in
+    let at-start = at-words-read .before .before in
+    found-fault
+    (judged-at bridgeLayout (at-start .args .table .now) (at-start .args .s) _ _ cut _ _ _
+    (omega (arith, at-words-read .words-read .ensures)) (at-read-bridge .read-bridge .ensures)
+    (ap (λ (x : BridgeRead). bridgeRead x) (c .before .enum-told .given .1)) (at-last-kind .last-kind .ensures)
+    (sym (how-many bridgeOf 3 0 (wordsOf (at-start .args .table .now)) (at-start .args .s .bridges))) (c .own-fault .ensures))
+    (λ z. absurd (omega arith))
 
 returns-4 : tie.Need-returns-4
-returns-4 c = found-fault (judged-at bridgeLayout (c .before .before .before .before .before .before .before .before .args .table .now) (c .before .before .before .before .before .before .before .before .args .s) _ _ zeroBit _ _ _ (omega (arith, c .before .before .before .before .before .before .words-read .ensures)) (c .before .before .before .read-bridge .ensures) (ap (λ (x : BridgeRead). bridgeRead x) (c .before .enum-told2 .given .1)) (c .before .before .before .before .before .last-kind .ensures) (sym (how-many bridgeOf 3 0 (wordsOf (c .before .before .before .before .before .before .before .before .args .table .now)) ((c .before .before .before .before .before .before .before .before .args .s) .bridges))) (c .own-fault2 .ensures)) (λ z. absurd (omega arith))
+returns-4 c =
+    let at-read-bridge = c .before .before .before in
+    let at-last-kind = at-read-bridge .before .before in
+    let at-words-read = at-last-kind .before in
+    let at-start = at-words-read .before .before in
+    found-fault
+    (judged-at bridgeLayout (at-start .args .table .now) (at-start .args .s) _ _ zeroBit _ _ _
+    (omega (arith, at-words-read .words-read .ensures)) (at-read-bridge .read-bridge .ensures)
+    (ap (λ (x : BridgeRead). bridgeRead x) (c .before .enum-told2 .given .1)) (at-last-kind .last-kind .ensures)
+    (sym (how-many bridgeOf 3 0 (wordsOf (at-start .args .table .now)) (at-start .args .s .bridges))) (c .own-fault2 .ensures))
+    (λ z. absurd (omega arith))
 
 returns-5 : tie.Need-returns-5
-returns-5 c = found-fault (judged-at bridgeLayout (c .before .before .before .before .before .before .before .before .args .table .now) (c .before .before .before .before .before .before .before .before .args .s) _ _ outOfRange _ _ _ (omega (arith, c .before .before .before .before .before .before .words-read .ensures)) (c .before .before .before .read-bridge .ensures) (ap (λ (x : BridgeRead). bridgeRead x) (c .before .enum-told3 .given .1)) (c .before .before .before .before .before .last-kind .ensures) (sym (how-many bridgeOf 3 0 (wordsOf (c .before .before .before .before .before .before .before .before .args .table .now)) ((c .before .before .before .before .before .before .before .before .args .s) .bridges))) (c .own-fault3 .ensures)) (λ z. absurd (omega arith))
+returns-5 c =
+    let at-read-bridge = c .before .before .before in
+    let at-last-kind = at-read-bridge .before .before in
+    let at-words-read = at-last-kind .before in
+    let at-start = at-words-read .before .before in
+    found-fault
+    (judged-at bridgeLayout (at-start .args .table .now) (at-start .args .s) _ _ outOfRange _ _ _
+    (omega (arith, at-words-read .words-read .ensures)) (at-read-bridge .read-bridge .ensures)
+    (ap (λ (x : BridgeRead). bridgeRead x) (c .before .enum-told3 .given .1)) (at-last-kind .last-kind .ensures)
+    (sym (how-many bridgeOf 3 0 (wordsOf (at-start .args .table .now)) (at-start .args .s .bridges))) (c .own-fault3 .ensures))
+    (λ z. absurd (omega arith))
 
 returns-6 : tie.Need-returns-6
-returns-6 c = left-over (readingAt (wordsOf (c .before .before .before .before .before .before .before .before .before .before .before .before .args .table .now)) (c .before .before .before .before .before .before .before .before .before .before .before .before .args .s)) (bridge (bridgeValues (c .before .before .before .before .before .read .given .0 .0))) (length (drop (wordsRead (c .before .before .before .before .before .before .before .before .before .before .before .before .args .s)) (wordsOf (c .before .before .before .before .before .before .before .before .before .before .before .before .args .table .now)))) false false false false false refl refl (sym (c .before .is-bridge-repeated .ensures) ∙ c .if2 .left) refl refl ∙ fault-left (judged-at bridgeLayout (c .before .before .before .before .before .before .before .before .before .before .before .before .args .table .now) (c .before .before .before .before .before .before .before .before .before .before .before .before .args .s) _ _ (whole (bridge (bridgeValues (c .before .before .before .before .before .read .given .0 .0)))) _ _ _ (omega (arith, c .before .before .before .before .before .before .before .before .before .before .words-read .ensures)) (c .before .before .before .before .before .before .before .read-bridge .ensures) (ap (λ (x : BridgeRead). bridgeRead x) (c .before .before .before .before .before .read .given .1)) (c .before .before .before .before .before .before .before .before .before .last-kind .ensures) (sym (how-many bridgeOf 3 0 (wordsOf (c .before .before .before .before .before .before .before .before .before .before .before .before .args .table .now)) ((c .before .before .before .before .before .before .before .before .before .before .before .before .args .s) .bridges))) (c .before .before .before .own-fault4 .ensures)) (bridge (bridgeValues (c .before .before .before .before .before .read .given .0 .0))) refl (c .before .before .if1 .left)
+returns-6 c =
+    let at-if1 = c .before .before in
+    let at-own-fault4 = at-if1 .before in
+    let at-read = at-own-fault4 .before .before in
+    let at-read-bridge = at-read .before .before in
+    let at-last-kind = at-read-bridge .before .before in
+    let at-words-read = at-last-kind .before in
+    let at-start = at-words-read .before .before in
+    let table = at-start .args .table .now in
+    let read-given = at-read .read .given .0 .0 in
+    let s = at-start .args .s in
+    let words = wordsOf table in
+    left-over (readingAt words s) (bridge (bridgeValues read-given)) (length (drop (wordsRead s) words)) false false false false false refl
+    refl (sym (c .before .is-bridge-repeated .ensures) ∙ c .if2 .left) refl refl
+    ∙ fault-left
+    (judged-at bridgeLayout table s _ _ (whole (bridge (bridgeValues read-given))) _ _ _
+    (omega (arith, at-words-read .words-read .ensures)) (at-read-bridge .read-bridge .ensures)
+    (ap (λ (x : BridgeRead). bridgeRead x) (at-read .read .given .1)) (at-last-kind .last-kind .ensures)
+    (sym (how-many bridgeOf 3 0 words (s .bridges))) (at-own-fault4 .own-fault4 .ensures))
+    (bridge (bridgeValues read-given)) refl (at-if1 .if1 .left)
 
 pub bridge-fault-spec : {M : Type 1} → statement M
 bridge-fault-spec =
     tie.close
-    (tie.spec
-    words-read-requires
-    mul-at
-    last-kind-requires
-    sub-read-bridge
-    part-read-bridge-start
-    part-read-bridge-end
-    read-bridge-requires
-    enum-told
-    own-fault-requires
-    enum-told-2
-    own-fault-requires-2
-    enum-told-3
-    own-fault-requires-3
-    enum-known-read
-    own-fault-requires-4
-    returns
-    is-bridge-repeated-requires
-    returns-2
-    returns-3
-    returns-4
-    returns-5
-    returns-6)
+    (tie.spec words-read-requires mul-at last-kind-requires sub-read-bridge part-read-bridge-start part-read-bridge-end read-bridge-requires
+    enum-told own-fault-requires enum-told-2 own-fault-requires-2 enum-told-3 own-fault-requires-3 enum-known-read own-fault-requires-4
+    returns is-bridge-repeated-requires returns-2 returns-3 returns-4 returns-5 returns-6)

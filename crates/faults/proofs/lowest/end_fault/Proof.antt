@@ -6,13 +6,11 @@ use lib.ListN.{length, drop}
 use Rattle.rule.specs.Words.{wordsOf}
 use Rattle.table.specs.Positions.{wordsRead, readingAt}
 use Rattle.table.specs.Readers.{cut, whole, endRead}
-use Rattle.faults.specs.laws.FaultLaws.{judged-at, own-fault, found-fault, fault-left, left-over}
-use Prim.Native.Nat.{ℕ, _+_, _/_}
-use lib.Dec.{ltb}
+use Rattle.faults.specs.laws.FaultLaws.{judged-at, own-fault, found-fault, fault-left, left-over, words-follow}
+use Prim.Native.Nat.{_+_, _/_}
 use borrow.Author.Tests.{lt-ltb, le-ltb, eq-eqb, ne-eqb}
 use Rattle.rule.specs.Records.{end, endLayout}
 use Rattle.table.specs.declared.end.EndRead.{EndRead}
-use Rattle.faults.specs.laws.FaultLaws.{words-follow}
 use borrow.Author.Needs.{needs}
 use Rattle.faults.proofs.lowest.end_fault.Statement.{statement}
 use Rattle.faults.proofs.lowest.end_fault.Tie as tie
@@ -51,45 +49,103 @@ own-fault-requires-2 : tie.Need-own-fault-requires-2
 own-fault-requires-2 c κs = search needs
 
 returns : tie.Need-returns
-returns c = own-fault (judged-at endLayout (c .before .before .before .before .before .before .before .before .before .before .args .table .now) (c .before .before .before .before .before .before .before .before .before .before .args .s) _ _ (whole (end (c .before .before .before .read .given .0 .0))) _ _ _ (omega (arith, c .before .before .before .before .before .before .before .before .words-read .ensures)) (c .before .before .before .before .before .read-end .ensures) (ap (λ (x : EndRead). endRead x) (c .before .before .before .read .given .1)) (c .before .before .before .before .before .before .before .last-kind .ensures) (refl) (c .before .own-fault2 .ensures)) (c .if1 .taken)
+returns c =
+    let at-read = c .before .before .before in
+    let at-read-end = at-read .before .before in
+    let at-last-kind = at-read-end .before .before in
+    let at-words-read = at-last-kind .before in
+    let at-start = at-words-read .before .before in
+    own-fault
+    (judged-at endLayout (at-start .args .table .now) (at-start .args .s) _ _ (whole (end (at-read .read .given .0 .0))) _ _ _
+    (omega (arith, at-words-read .words-read .ensures)) (at-read-end .read-end .ensures)
+    (ap (λ (x : EndRead). endRead x) (at-read .read .given .1)) (at-last-kind .last-kind .ensures) (refl)
+    (c .before .own-fault2 .ensures))
+    (c .if1 .taken)
 
 cast-if2 : tie.Need-cast-if2
 cast-if2 c = search needs
 
 returns-2 : tie.Need-returns-2
-returns-2 c = left-over (readingAt (wordsOf (c .before .before .before .before .before .before .before .before .before .before .before .args .table .now)) (c .before .before .before .before .before .before .before .before .before .before .before .args .s)) (end (c .before .before .before .before .read .given .0 .0)) (length (drop (wordsRead (c .before .before .before .before .before .before .before .before .before .before .before .args .s)) (wordsOf (c .before .before .before .before .before .before .before .before .before .before .before .args .table .now)))) true false false false _ (simp (ne-eqb _ _ (λ z. c .if2 .taken (z ∙ sym (c .before .before .before .before .before .before .before .before .before .words-read .ensures))))) refl refl refl refl ∙ fault-left (judged-at endLayout (c .before .before .before .before .before .before .before .before .before .before .before .args .table .now) (c .before .before .before .before .before .before .before .before .before .before .before .args .s) _ _ (whole (end (c .before .before .before .before .read .given .0 .0))) _ _ _ (omega (arith, c .before .before .before .before .before .before .before .before .before .words-read .ensures)) (c .before .before .before .before .before .before .read-end .ensures) (ap (λ (x : EndRead). endRead x) (c .before .before .before .before .read .given .1)) (c .before .before .before .before .before .before .before .before .last-kind .ensures) (refl) (c .before .before .own-fault2 .ensures)) (end (c .before .before .before .before .read .given .0 .0)) refl (c .before .if1 .left)
+returns-2 c =
+    let at-own-fault2 = c .before .before in
+    let at-read = at-own-fault2 .before .before in
+    let at-read-end = at-read .before .before in
+    let at-last-kind = at-read-end .before .before in
+    let at-words-read = at-last-kind .before in
+    let at-start = at-words-read .before .before in
+    let table = at-start .args .table .now in
+    let read-given = at-read .read .given .0 .0 in
+    let s = at-start .args .s in
+    left-over (readingAt (wordsOf table) s) (end read-given) (length (drop (wordsRead s) (wordsOf table))) true false false false _
+    (simp (ne-eqb _ _ (λ z. c .if2 .taken (z ∙ sym (at-words-read .words-read .ensures))))) refl refl refl refl
+    ∙ fault-left
+    (judged-at endLayout table s _ _ (whole (end read-given)) _ _ _ (omega (arith, at-words-read .words-read .ensures))
+    (at-read-end .read-end .ensures) (ap (λ (x : EndRead). endRead x) (at-read .read .given .1)) (at-last-kind .last-kind .ensures)
+    (refl) (at-own-fault2 .own-fault2 .ensures))
+    (end read-given) refl (c .before .if1 .left)
 
 add-if3 : tie.Need-add-if3
 add-if3 c = search needs
 
 returns-3 : tie.Need-returns-3
-returns-3 c = left-over (readingAt (wordsOf (c .before .before .before .before .before .before .before .before .before .before .before .before .args .table .now)) (c .before .before .before .before .before .before .before .before .before .before .before .before .args .s)) (end (c .before .before .before .before .before .read .given .0 .0)) (length (drop (wordsRead (c .before .before .before .before .before .before .before .before .before .before .before .before .args .s)) (wordsOf (c .before .before .before .before .before .before .before .before .before .before .before .before .args .table .now)))) false false false false true (simp (eq-eqb _ _ (c .before .if2 .left ∙ c .before .before .before .before .before .before .before .before .before .before .words-read .ensures))) refl refl refl (words-follow (c .before .before .before .before .before .before .before .before .before .before .before .before .args .table .now) (c .before .before .before .before .before .before .before .before .before .before .before .before .args .s) true (lt-ltb (wordsRead (c .before .before .before .before .before .before .before .before .before .before .before .before .args .s) + 1) (length (c .before .before .before .before .before .before .before .before .before .before .before .before .args .table .now) / 4) (omega (arith, c .before .before .before .before .before .before .before .before .before .before .words-read .ensures)))) ∙ fault-left (judged-at endLayout (c .before .before .before .before .before .before .before .before .before .before .before .before .args .table .now) (c .before .before .before .before .before .before .before .before .before .before .before .before .args .s) _ _ (whole (end (c .before .before .before .before .before .read .given .0 .0))) _ _ _ (omega (arith, c .before .before .before .before .before .before .before .before .before .before .words-read .ensures)) (c .before .before .before .before .before .before .before .read-end .ensures) (ap (λ (x : EndRead). endRead x) (c .before .before .before .before .before .read .given .1)) (c .before .before .before .before .before .before .before .before .before .last-kind .ensures) (refl) (c .before .before .before .own-fault2 .ensures)) (end (c .before .before .before .before .before .read .given .0 .0)) refl (c .before .before .if1 .left)
+returns-3 c =
+    let at-if1 = c .before .before in
+    let at-own-fault2 = at-if1 .before in
+    let at-read = at-own-fault2 .before .before in
+    let at-read-end = at-read .before .before in
+    let at-last-kind = at-read-end .before .before in
+    let at-words-read = at-last-kind .before in
+    let at-start = at-words-read .before .before in
+    let words-read-ensures = at-words-read .words-read .ensures in
+    let table = at-start .args .table .now in
+    let read-given = at-read .read .given .0 .0 in
+    let s = at-start .args .s in
+    left-over (readingAt (wordsOf table) s) (end read-given) (length (drop (wordsRead s) (wordsOf table))) false false false false true
+    (simp (eq-eqb _ _ (c .before .if2 .left ∙ words-read-ensures))) refl refl refl
+    (words-follow table s true (lt-ltb (wordsRead s + 1) (length table / 4) (omega (arith, words-read-ensures))))
+    ∙ fault-left
+    (judged-at endLayout table s _ _ (whole (end read-given)) _ _ _ (omega (arith, words-read-ensures)) (at-read-end .read-end .ensures)
+    (ap (λ (x : EndRead). endRead x) (at-read .read .given .1)) (at-last-kind .last-kind .ensures) (refl)
+    (at-own-fault2 .own-fault2 .ensures))
+    (end read-given) refl (at-if1 .if1 .left)
 
 returns-4 : tie.Need-returns-4
-returns-4 c = found-fault (judged-at endLayout (c .before .before .before .before .before .before .before .before .args .table .now) (c .before .before .before .before .before .before .before .before .args .s) _ _ cut _ _ _ (omega (arith, c .before .before .before .before .before .before .words-read .ensures)) (c .before .before .before .read-end .ensures) (ap (λ (x : EndRead). endRead x) (c .before .enum-told .given .1)) (c .before .before .before .before .before .last-kind .ensures) (refl) (c .own-fault .ensures)) (λ z. absurd (omega arith))
+returns-4 c =
+    let at-read-end = c .before .before .before in
+    let at-last-kind = at-read-end .before .before in
+    let at-words-read = at-last-kind .before in
+    let at-start = at-words-read .before .before in
+    found-fault
+    (judged-at endLayout (at-start .args .table .now) (at-start .args .s) _ _ cut _ _ _
+    (omega (arith, at-words-read .words-read .ensures)) (at-read-end .read-end .ensures)
+    (ap (λ (x : EndRead). endRead x) (c .before .enum-told .given .1)) (at-last-kind .last-kind .ensures) (refl)
+    (c .own-fault .ensures))
+    (λ z. absurd (omega arith))
 
 returns-5 : tie.Need-returns-5
-returns-5 c = left-over (readingAt (wordsOf (c .before .before .before .before .before .before .before .before .before .before .before .before .args .table .now)) (c .before .before .before .before .before .before .before .before .before .before .before .before .args .s)) (end (c .before .before .before .before .before .read .given .0 .0)) (length (drop (wordsRead (c .before .before .before .before .before .before .before .before .before .before .before .before .args .s)) (wordsOf (c .before .before .before .before .before .before .before .before .before .before .before .before .args .table .now)))) false false false false false (simp (eq-eqb _ _ (c .before .if2 .left ∙ c .before .before .before .before .before .before .before .before .before .before .words-read .ensures))) refl refl refl (words-follow (c .before .before .before .before .before .before .before .before .before .before .before .before .args .table .now) (c .before .before .before .before .before .before .before .before .before .before .before .before .args .s) false (le-ltb (wordsRead (c .before .before .before .before .before .before .before .before .before .before .before .before .args .s) + 1) (length (c .before .before .before .before .before .before .before .before .before .before .before .before .args .table .now) / 4) (omega (arith, c .before .before .before .before .before .before .before .before .before .before .words-read .ensures)))) ∙ fault-left (judged-at endLayout (c .before .before .before .before .before .before .before .before .before .before .before .before .args .table .now) (c .before .before .before .before .before .before .before .before .before .before .before .before .args .s) _ _ (whole (end (c .before .before .before .before .before .read .given .0 .0))) _ _ _ (omega (arith, c .before .before .before .before .before .before .before .before .before .before .words-read .ensures)) (c .before .before .before .before .before .before .before .read-end .ensures) (ap (λ (x : EndRead). endRead x) (c .before .before .before .before .before .read .given .1)) (c .before .before .before .before .before .before .before .before .before .last-kind .ensures) (refl) (c .before .before .before .own-fault2 .ensures)) (end (c .before .before .before .before .before .read .given .0 .0)) refl (c .before .before .if1 .left)
+returns-5 c =
+    let at-if1 = c .before .before in
+    let at-own-fault2 = at-if1 .before in
+    let at-read = at-own-fault2 .before .before in
+    let at-read-end = at-read .before .before in
+    let at-last-kind = at-read-end .before .before in
+    let at-words-read = at-last-kind .before in
+    let at-start = at-words-read .before .before in
+    let words-read-ensures = at-words-read .words-read .ensures in
+    let table = at-start .args .table .now in
+    let read-given = at-read .read .given .0 .0 in
+    let s = at-start .args .s in
+    left-over (readingAt (wordsOf table) s) (end read-given) (length (drop (wordsRead s) (wordsOf table))) false false false false false
+    (simp (eq-eqb _ _ (c .before .if2 .left ∙ words-read-ensures))) refl refl refl
+    (words-follow table s false (le-ltb (wordsRead s + 1) (length table / 4) (omega (arith, words-read-ensures))))
+    ∙ fault-left
+    (judged-at endLayout table s _ _ (whole (end read-given)) _ _ _ (omega (arith, words-read-ensures)) (at-read-end .read-end .ensures)
+    (ap (λ (x : EndRead). endRead x) (at-read .read .given .1)) (at-last-kind .last-kind .ensures) (refl)
+    (at-own-fault2 .own-fault2 .ensures))
+    (end read-given) refl (at-if1 .if1 .left)
 
 pub end-fault-spec : {M : Type 1} → statement M
 end-fault-spec =
     tie.close
-    (tie.spec
-    words-read-requires
-    mul-at
-    last-kind-requires
-    sub-read-end
-    part-read-end-start
-    part-read-end-end
-    read-end-requires
-    enum-told
-    own-fault-requires
-    enum-known-read
-    own-fault-requires-2
-    returns
-    cast-if2
-    returns-2
-    add-if3
-    returns-3
-    returns-4
-    returns-5)
+    (tie.spec words-read-requires mul-at last-kind-requires sub-read-end part-read-end-start part-read-end-end read-end-requires enum-told
+    own-fault-requires enum-known-read own-fault-requires-2 returns cast-if2 returns-2 add-if3 returns-3 returns-4 returns-5)

@@ -4,17 +4,15 @@ use mathlib.Core.Path.{refl, sym, ap, _∙_}
 use mathlib.Core.Bool.{true, false}
 use lib.ListN.{length, drop}
 use Rattle.rule.specs.Words.{wordsOf}
-use Rattle.table.specs.Positions.{halfLinksFrom, wordsRead, readingAt}
+use Rattle.table.specs.Positions.{halfLinksFrom, wordsRead, readingAt, recordsAt}
 use Rattle.table.specs.laws.PositionLaws.{how-many}
 use Rattle.table.specs.Readers.{cut, zeroBit, outOfRange, whole, halfLinkRead, halfLinkValues}
-use Rattle.faults.specs.laws.FaultLaws.{judged-at, own-fault, found-fault, fault-left, left-over}
+use Rattle.faults.specs.laws.FaultLaws.{judged-at, own-fault, found-fault, fault-left, left-over, unknown-ends, read-of-16-bits}
 use Rattle.rule.specs.Records.{halfLink, halfLinkOf, halfLinkLayout}
 use Rattle.table.specs.declared.half_link.HalfLinkRead.{HalfLinkRead}
-use Rattle.faults.specs.laws.FaultLaws.{unknown-ends, read-of-16-bits}
 use Prim.Native.Nat.{ℕ}
 use Rattle.lists.specs.Lists.{selected}
 use Rattle.rule.specs.Check.{hasLink, wrongHalf}
-use Rattle.table.specs.Positions.{recordsAt}
 use Rattle.faults.specs.laws.HalfLinkLaws.{port-repeated}
 use borrow.Author.Needs.{needs}
 use Rattle.faults.proofs.lowest.half_link_fault.Statement.{statement}
@@ -66,69 +64,255 @@ own-fault-requires-4 : tie.Need-own-fault-requires-4
 own-fault-requires-4 c κs = search needs
 
 returns : tie.Need-returns
-returns c = own-fault (judged-at halfLinkLayout (c .before .before .before .before .before .before .before .before .before .before .before .before .args .table .now) (c .before .before .before .before .before .before .before .before .before .before .before .before .args .s) _ _ (whole (halfLink (halfLinkValues (c .before .before .before .read .given .0 .0)))) _ _ _ (omega (arith, c .before .before .before .before .before .before .before .before .words-read .ensures)) (c .before .before .before .before .before .read-half-link .ensures) (ap (λ (x : HalfLinkRead). halfLinkRead x) (c .before .before .before .read .given .1)) (c .before .before .before .before .before .before .before .last-kind .ensures) (sym (how-many halfLinkOf 3 (halfLinksFrom (c .before .before .before .before .before .before .before .before .before .before .before .before .args .s)) (wordsOf (c .before .before .before .before .before .before .before .before .before .before .before .before .args .table .now)) ((c .before .before .before .before .before .before .before .before .before .before .before .before .args .s) .«half_links»))) (c .before .own-fault4 .ensures)) (c .if1 .taken)
+returns c =
+    let at-read = c .before .before .before in
+    let at-read-half-link = at-read .before .before in
+    let at-last-kind = at-read-half-link .before .before in
+    let at-words-read = at-last-kind .before in
+    let at-start = at-words-read .before .before .before .before in
+    let s = at-start .args .s in
+    own-fault
+    (judged-at halfLinkLayout (at-start .args .table .now) s _ _ (whole (halfLink (halfLinkValues (at-read .read .given .0 .0)))) _ _ _
+    (omega (arith, at-words-read .words-read .ensures)) (at-read-half-link .read-half-link .ensures)
+    (ap (λ (x : HalfLinkRead). halfLinkRead x) (at-read .read .given .1)) (at-last-kind .last-kind .ensures)
+    (sym (how-many halfLinkOf 3 (halfLinksFrom s) (wordsOf (at-start .args .table .now)) (s .«half_links»)))
+    (c .before .own-fault4 .ensures))
+    (c .if1 .taken)
 
 names-unknown-requires : tie.Need-names-unknown-requires
 names-unknown-requires c κs = search needs
 
 returns-2 : tie.Need-returns-2
-returns-2 c = left-over (readingAt (wordsOf (c .before .before .before .before .before .before .before .before .before .before .before .before .before .before .args .table .now)) (c .before .before .before .before .before .before .before .before .before .before .before .before .before .before .args .s)) (halfLink (halfLinkValues (c .before .before .before .before .before .read .given .0 .0))) (length (drop (wordsRead (c .before .before .before .before .before .before .before .before .before .before .before .before .before .before .args .s)) (wordsOf (c .before .before .before .before .before .before .before .before .before .before .before .before .before .before .args .table .now)))) false true _ _ false refl (unknown-ends (wordsOf (c .before .before .before .before .before .before .before .before .before .before .before .before .before .before .args .table .now)) (c .before .before .before .before .before .before .before .before .before .before .before .before .before .before .args .s) (halfLinkValues (c .before .before .before .before .before .read .given .0 .0)) ∙ sym (c .before .names-unknown .ensures) ∙ c .if2 .taken) refl refl refl ∙ fault-left (judged-at halfLinkLayout (c .before .before .before .before .before .before .before .before .before .before .before .before .before .before .args .table .now) (c .before .before .before .before .before .before .before .before .before .before .before .before .before .before .args .s) _ _ (whole (halfLink (halfLinkValues (c .before .before .before .before .before .read .given .0 .0)))) _ _ _ (omega (arith, c .before .before .before .before .before .before .before .before .before .before .words-read .ensures)) (c .before .before .before .before .before .before .before .read-half-link .ensures) (ap (λ (x : HalfLinkRead). halfLinkRead x) (c .before .before .before .before .before .read .given .1)) (c .before .before .before .before .before .before .before .before .before .last-kind .ensures) (sym (how-many halfLinkOf 3 (halfLinksFrom (c .before .before .before .before .before .before .before .before .before .before .before .before .before .before .args .s)) (wordsOf (c .before .before .before .before .before .before .before .before .before .before .before .before .before .before .args .table .now)) ((c .before .before .before .before .before .before .before .before .before .before .before .before .before .before .args .s) .«half_links»))) (c .before .before .before .own-fault4 .ensures)) (halfLink (halfLinkValues (c .before .before .before .before .before .read .given .0 .0))) refl (c .before .before .if1 .left)
+returns-2 c =
+    let at-if1 = c .before .before in
+    let at-own-fault4 = at-if1 .before in
+    let at-read = at-own-fault4 .before .before in
+    let at-read-half-link = at-read .before .before in
+    let at-last-kind = at-read-half-link .before .before in
+    let at-words-read = at-last-kind .before in
+    let at-start = at-words-read .before .before .before .before in
+    let table = at-start .args .table .now in
+    let read-given = at-read .read .given .0 .0 in
+    let s = at-start .args .s in
+    let words = wordsOf table in
+    left-over (readingAt words s) (halfLink (halfLinkValues read-given)) (length (drop (wordsRead s) words)) false true _ _ false refl
+    (unknown-ends words s (halfLinkValues read-given) ∙ sym (c .before .names-unknown .ensures) ∙ c .if2 .taken) refl refl refl
+    ∙ fault-left
+    (judged-at halfLinkLayout table s _ _ (whole (halfLink (halfLinkValues read-given))) _ _ _
+    (omega (arith, at-words-read .words-read .ensures)) (at-read-half-link .read-half-link .ensures)
+    (ap (λ (x : HalfLinkRead). halfLinkRead x) (at-read .read .given .1)) (at-last-kind .last-kind .ensures)
+    (sym (how-many halfLinkOf 3 (halfLinksFrom s) words (s .«half_links»))) (at-own-fault4 .own-fault4 .ensures))
+    (halfLink (halfLinkValues read-given)) refl (at-if1 .if1 .left)
 
 is-port-repeated-requires : tie.Need-is-port-repeated-requires
-is-port-repeated-requires c κs = (c .before .before .before .before .before .before .before .before .before .before .before .before .before .before .pre .1 .0 .indexed, read-of-16-bits (drop (wordsRead (c .before .before .before .before .before .before .before .before .before .before .before .before .before .before .args .s)) (wordsOf (c .before .before .before .before .before .before .before .before .before .before .before .before .before .before .args .table .now))) (halfLinkValues (c .before .before .before .before .before .read .given .0 .0)) ((judged-at halfLinkLayout (c .before .before .before .before .before .before .before .before .before .before .before .before .before .before .args .table .now) (c .before .before .before .before .before .before .before .before .before .before .before .before .before .before .args .s) _ _ (whole (halfLink (halfLinkValues (c .before .before .before .before .before .read .given .0 .0)))) _ _ _ (omega (arith, c .before .before .before .before .before .before .before .before .before .before .words-read .ensures)) (c .before .before .before .before .before .before .before .read-half-link .ensures) (ap (λ (x : HalfLinkRead). halfLinkRead x) (c .before .before .before .before .before .read .given .1)) (c .before .before .before .before .before .before .before .before .before .last-kind .ensures) (sym (how-many halfLinkOf 3 (halfLinksFrom (c .before .before .before .before .before .before .before .before .before .before .before .before .before .before .args .s)) (wordsOf (c .before .before .before .before .before .before .before .before .before .before .before .before .before .before .args .table .now)) ((c .before .before .before .before .before .before .before .before .before .before .before .before .before .before .args .s) .«half_links»))) (c .before .before .before .own-fault4 .ensures)) .found) .0, read-of-16-bits (drop (wordsRead (c .before .before .before .before .before .before .before .before .before .before .before .before .before .before .args .s)) (wordsOf (c .before .before .before .before .before .before .before .before .before .before .before .before .before .before .args .table .now))) (halfLinkValues (c .before .before .before .before .before .read .given .0 .0)) ((judged-at halfLinkLayout (c .before .before .before .before .before .before .before .before .before .before .before .before .before .before .args .table .now) (c .before .before .before .before .before .before .before .before .before .before .before .before .before .before .args .s) _ _ (whole (halfLink (halfLinkValues (c .before .before .before .before .before .read .given .0 .0)))) _ _ _ (omega (arith, c .before .before .before .before .before .before .before .before .before .before .words-read .ensures)) (c .before .before .before .before .before .before .before .read-half-link .ensures) (ap (λ (x : HalfLinkRead). halfLinkRead x) (c .before .before .before .before .before .read .given .1)) (c .before .before .before .before .before .before .before .before .before .last-kind .ensures) (sym (how-many halfLinkOf 3 (halfLinksFrom (c .before .before .before .before .before .before .before .before .before .before .before .before .before .before .args .s)) (wordsOf (c .before .before .before .before .before .before .before .before .before .before .before .before .before .before .args .table .now)) ((c .before .before .before .before .before .before .before .before .before .before .before .before .before .before .args .s) .«half_links»))) (c .before .before .before .own-fault4 .ensures)) .found) .1)
+is-port-repeated-requires c κs =
+    let at-own-fault4 = c .before .before .before in
+    let at-read = at-own-fault4 .before .before in
+    let at-read-half-link = at-read .before .before in
+    let at-last-kind = at-read-half-link .before .before in
+    let at-words-read = at-last-kind .before in
+    let at-start = at-words-read .before .before .before .before in
+    let (_, (keyed-port-key, _)) = at-start .pre in
+    let table = at-start .args .table .now in
+    let read-given = at-read .read .given .0 .0 in
+    let s = at-start .args .s in
+    let words = wordsOf table in (
+      keyed-port-key .indexed,
+      read-of-16-bits (drop (wordsRead s) words) (halfLinkValues read-given)
+          ((judged-at halfLinkLayout table s _ _ (whole (halfLink (halfLinkValues read-given))) _ _ _
+          (omega (arith, at-words-read .words-read .ensures)) (at-read-half-link .read-half-link .ensures)
+          (ap (λ (x : HalfLinkRead). halfLinkRead x) (at-read .read .given .1)) (at-last-kind .last-kind .ensures)
+          (sym (how-many halfLinkOf 3 (halfLinksFrom s) words (s .«half_links»))) (at-own-fault4 .own-fault4 .ensures)) .found) .0,
+      read-of-16-bits (drop (wordsRead s) words) (halfLinkValues read-given)
+          ((judged-at halfLinkLayout table s _ _ (whole (halfLink (halfLinkValues read-given))) _ _ _
+          (omega (arith, at-words-read .words-read .ensures)) (at-read-half-link .read-half-link .ensures)
+          (ap (λ (x : HalfLinkRead). halfLinkRead x) (at-read .read .given .1)) (at-last-kind .last-kind .ensures)
+          (sym (how-many halfLinkOf 3 (halfLinksFrom s) words (s .«half_links»))) (at-own-fault4 .own-fault4 .ensures)) .found) .1,
+    )
 
 returns-3 : tie.Need-returns-3
-returns-3 c = left-over (readingAt (wordsOf (c .before .before .before .before .before .before .before .before .before .before .before .before .before .before .before .before .args .table .now)) (c .before .before .before .before .before .before .before .before .before .before .before .before .before .before .before .before .args .s)) (halfLink (halfLinkValues (c .before .before .before .before .before .before .before .read .given .0 .0))) (length (drop (wordsRead (c .before .before .before .before .before .before .before .before .before .before .before .before .before .before .before .before .args .s)) (wordsOf (c .before .before .before .before .before .before .before .before .before .before .before .before .before .before .before .before .args .table .now)))) false false true _ false refl (unknown-ends (wordsOf (c .before .before .before .before .before .before .before .before .before .before .before .before .before .before .before .before .args .table .now)) (c .before .before .before .before .before .before .before .before .before .before .before .before .before .before .before .before .args .s) (halfLinkValues (c .before .before .before .before .before .before .before .read .given .0 .0)) ∙ sym (c .before .before .before .names-unknown .ensures) ∙ c .before .before .if2 .left) (sym (port-repeated (c .before .before .before .before .before .before .before .before .before .before .before .before .before .before .before .before .pre .1 .0) (halfLinkValues (c .before .before .before .before .before .before .before .read .given .0 .0)) (read-of-16-bits (drop (wordsRead (c .before .before .before .before .before .before .before .before .before .before .before .before .before .before .before .before .args .s)) (wordsOf (c .before .before .before .before .before .before .before .before .before .before .before .before .before .before .before .before .args .table .now))) (halfLinkValues (c .before .before .before .before .before .before .before .read .given .0 .0)) ((judged-at halfLinkLayout (c .before .before .before .before .before .before .before .before .before .before .before .before .before .before .before .before .args .table .now) (c .before .before .before .before .before .before .before .before .before .before .before .before .before .before .before .before .args .s) _ _ (whole (halfLink (halfLinkValues (c .before .before .before .before .before .before .before .read .given .0 .0)))) _ _ _ (omega (arith, c .before .before .before .before .before .before .before .before .before .before .before .before .words-read .ensures)) (c .before .before .before .before .before .before .before .before .before .read-half-link .ensures) (ap (λ (x : HalfLinkRead). halfLinkRead x) (c .before .before .before .before .before .before .before .read .given .1)) (c .before .before .before .before .before .before .before .before .before .before .before .last-kind .ensures) (sym (how-many halfLinkOf 3 (halfLinksFrom (c .before .before .before .before .before .before .before .before .before .before .before .before .before .before .before .before .args .s)) (wordsOf (c .before .before .before .before .before .before .before .before .before .before .before .before .before .before .before .before .args .table .now)) ((c .before .before .before .before .before .before .before .before .before .before .before .before .before .before .before .before .args .s) .«half_links»))) (c .before .before .before .before .before .own-fault4 .ensures)) .found) .1)) ∙ sym (c .before .is-port-repeated .ensures) ∙ c .if3 .taken) refl refl ∙ fault-left (judged-at halfLinkLayout (c .before .before .before .before .before .before .before .before .before .before .before .before .before .before .before .before .args .table .now) (c .before .before .before .before .before .before .before .before .before .before .before .before .before .before .before .before .args .s) _ _ (whole (halfLink (halfLinkValues (c .before .before .before .before .before .before .before .read .given .0 .0)))) _ _ _ (omega (arith, c .before .before .before .before .before .before .before .before .before .before .before .before .words-read .ensures)) (c .before .before .before .before .before .before .before .before .before .read-half-link .ensures) (ap (λ (x : HalfLinkRead). halfLinkRead x) (c .before .before .before .before .before .before .before .read .given .1)) (c .before .before .before .before .before .before .before .before .before .before .before .last-kind .ensures) (sym (how-many halfLinkOf 3 (halfLinksFrom (c .before .before .before .before .before .before .before .before .before .before .before .before .before .before .before .before .args .s)) (wordsOf (c .before .before .before .before .before .before .before .before .before .before .before .before .before .before .before .before .args .table .now)) ((c .before .before .before .before .before .before .before .before .before .before .before .before .before .before .before .before .args .s) .«half_links»))) (c .before .before .before .before .before .own-fault4 .ensures)) (halfLink (halfLinkValues (c .before .before .before .before .before .before .before .read .given .0 .0))) refl (c .before .before .before .before .if1 .left)
+returns-3 c =
+    let at-if2 = c .before .before in
+    let at-names-unknown = at-if2 .before in
+    let at-if1 = at-names-unknown .before in
+    let at-own-fault4 = at-if1 .before in
+    let at-read = at-own-fault4 .before .before in
+    let at-read-half-link = at-read .before .before in
+    let at-last-kind = at-read-half-link .before .before in
+    let at-words-read = at-last-kind .before in
+    let at-start = at-words-read .before .before .before .before in
+    let (_, (keyed-port-key, _)) = at-start .pre in
+    let table = at-start .args .table .now in
+    let read-given = at-read .read .given .0 .0 in
+    let s = at-start .args .s in
+    let words = wordsOf table in
+    left-over (readingAt words s) (halfLink (halfLinkValues read-given)) (length (drop (wordsRead s) words)) false false true _ false refl
+    (unknown-ends words s (halfLinkValues read-given) ∙ sym (at-names-unknown .names-unknown .ensures) ∙ at-if2 .if2 .left)
+    (sym
+    (port-repeated keyed-port-key (halfLinkValues read-given)
+    (read-of-16-bits (drop (wordsRead s) words) (halfLinkValues read-given)
+    ((judged-at halfLinkLayout table s _ _ (whole (halfLink (halfLinkValues read-given))) _ _ _
+    (omega (arith, at-words-read .words-read .ensures)) (at-read-half-link .read-half-link .ensures)
+    (ap (λ (x : HalfLinkRead). halfLinkRead x) (at-read .read .given .1)) (at-last-kind .last-kind .ensures)
+    (sym (how-many halfLinkOf 3 (halfLinksFrom s) words (s .«half_links»))) (at-own-fault4 .own-fault4 .ensures)) .found) .1))
+    ∙ sym (c .before .is-port-repeated .ensures)
+    ∙ c .if3 .taken)
+    refl refl
+    ∙ fault-left
+    (judged-at halfLinkLayout table s _ _ (whole (halfLink (halfLinkValues read-given))) _ _ _
+    (omega (arith, at-words-read .words-read .ensures)) (at-read-half-link .read-half-link .ensures)
+    (ap (λ (x : HalfLinkRead). halfLinkRead x) (at-read .read .given .1)) (at-last-kind .last-kind .ensures)
+    (sym (how-many halfLinkOf 3 (halfLinksFrom s) words (s .«half_links»))) (at-own-fault4 .own-fault4 .ensures))
+    (halfLink (halfLinkValues read-given)) refl (at-if1 .if1 .left)
 
 half-links-from-requires : tie.Need-half-links-from-requires
 half-links-from-requires c κs = search needs
 
 is-wrong-link-requires : tie.Need-is-wrong-link-requires
-is-wrong-link-requires c κs = (omega (arith, c .half-links-from .ensures), rw (c .half-links-from .ensures) (c .before .before .before .before .before .before .before .before .before .before .before .before .before .before .before .before .before .pre .1 .1))
+is-wrong-link-requires c κs =
+    let at-start =
+    c .before .before .before .before .before .before .before .before .before .before .before .before .before .before .before .before .before in
+    let (_, (_, keyed-number-key)) = at-start .pre in
+    (omega (arith, c .half-links-from .ensures), rw (c .half-links-from .ensures) keyed-number-key)
 
 returns-4 : tie.Need-returns-4
-returns-4 c = left-over (readingAt (wordsOf (c .before .before .before .before .before .before .before .before .before .before .before .before .before .before .before .before .before .before .before .args .table .now)) (c .before .before .before .before .before .before .before .before .before .before .before .before .before .before .before .before .before .before .before .args .s)) (halfLink (halfLinkValues (c .before .before .before .before .before .before .before .before .before .before .read .given .0 .0))) (length (drop (wordsRead (c .before .before .before .before .before .before .before .before .before .before .before .before .before .before .before .before .before .before .before .args .s)) (wordsOf (c .before .before .before .before .before .before .before .before .before .before .before .before .before .before .before .before .before .before .before .args .table .now)))) false false false true false refl (unknown-ends (wordsOf (c .before .before .before .before .before .before .before .before .before .before .before .before .before .before .before .before .before .before .before .args .table .now)) (c .before .before .before .before .before .before .before .before .before .before .before .before .before .before .before .before .before .before .before .args .s) (halfLinkValues (c .before .before .before .before .before .before .before .before .before .before .read .given .0 .0)) ∙ sym (c .before .before .before .before .before .before .names-unknown .ensures) ∙ c .before .before .before .before .before .if2 .left) (sym (port-repeated (c .before .before .before .before .before .before .before .before .before .before .before .before .before .before .before .before .before .before .before .pre .1 .0) (halfLinkValues (c .before .before .before .before .before .before .before .before .before .before .read .given .0 .0)) (read-of-16-bits (drop (wordsRead (c .before .before .before .before .before .before .before .before .before .before .before .before .before .before .before .before .before .before .before .args .s)) (wordsOf (c .before .before .before .before .before .before .before .before .before .before .before .before .before .before .before .before .before .before .before .args .table .now))) (halfLinkValues (c .before .before .before .before .before .before .before .before .before .before .read .given .0 .0)) ((judged-at halfLinkLayout (c .before .before .before .before .before .before .before .before .before .before .before .before .before .before .before .before .before .before .before .args .table .now) (c .before .before .before .before .before .before .before .before .before .before .before .before .before .before .before .before .before .before .before .args .s) _ _ (whole (halfLink (halfLinkValues (c .before .before .before .before .before .before .before .before .before .before .read .given .0 .0)))) _ _ _ (omega (arith, c .before .before .before .before .before .before .before .before .before .before .before .before .before .before .before .words-read .ensures)) (c .before .before .before .before .before .before .before .before .before .before .before .before .read-half-link .ensures) (ap (λ (x : HalfLinkRead). halfLinkRead x) (c .before .before .before .before .before .before .before .before .before .before .read .given .1)) (c .before .before .before .before .before .before .before .before .before .before .before .before .before .before .last-kind .ensures) (sym (how-many halfLinkOf 3 (halfLinksFrom (c .before .before .before .before .before .before .before .before .before .before .before .before .before .before .before .before .before .before .before .args .s)) (wordsOf (c .before .before .before .before .before .before .before .before .before .before .before .before .before .before .before .before .before .before .before .args .table .now)) ((c .before .before .before .before .before .before .before .before .before .before .before .before .before .before .before .before .before .before .before .args .s) .«half_links»))) (c .before .before .before .before .before .before .before .before .own-fault4 .ensures)) .found) .1)) ∙ sym (c .before .before .before .before .is-port-repeated .ensures) ∙ c .before .before .before .if3 .left) (sym (c .before .is-wrong-link .ensures ∙ ap (λ (n : ℕ). wrongHalf (halfLinkValues (c .before .before .before .before .before .before .before .before .before .before .read .given .0 .0)) (selected (hasLink (c .before .before .before .before .before .before .before .before .before .before .read .given .0 .0 .link)) (recordsAt halfLinkOf 3 n (wordsOf (c .before .before .before .before .before .before .before .before .before .before .before .before .before .before .before .before .before .before .before .args .table .now)) (c .before .before .before .before .before .before .before .before .before .before .before .before .before .before .before .before .before .before .before .args .s .«half_links»)))) (c .before .before .half-links-from .ensures)) ∙ c .if4 .taken) refl ∙ fault-left (judged-at halfLinkLayout (c .before .before .before .before .before .before .before .before .before .before .before .before .before .before .before .before .before .before .before .args .table .now) (c .before .before .before .before .before .before .before .before .before .before .before .before .before .before .before .before .before .before .before .args .s) _ _ (whole (halfLink (halfLinkValues (c .before .before .before .before .before .before .before .before .before .before .read .given .0 .0)))) _ _ _ (omega (arith, c .before .before .before .before .before .before .before .before .before .before .before .before .before .before .before .words-read .ensures)) (c .before .before .before .before .before .before .before .before .before .before .before .before .read-half-link .ensures) (ap (λ (x : HalfLinkRead). halfLinkRead x) (c .before .before .before .before .before .before .before .before .before .before .read .given .1)) (c .before .before .before .before .before .before .before .before .before .before .before .before .before .before .last-kind .ensures) (sym (how-many halfLinkOf 3 (halfLinksFrom (c .before .before .before .before .before .before .before .before .before .before .before .before .before .before .before .before .before .before .before .args .s)) (wordsOf (c .before .before .before .before .before .before .before .before .before .before .before .before .before .before .before .before .before .before .before .args .table .now)) ((c .before .before .before .before .before .before .before .before .before .before .before .before .before .before .before .before .before .before .before .args .s) .«half_links»))) (c .before .before .before .before .before .before .before .before .own-fault4 .ensures)) (halfLink (halfLinkValues (c .before .before .before .before .before .before .before .before .before .before .read .given .0 .0))) refl (c .before .before .before .before .before .before .before .if1 .left)
+returns-4 c =
+    let at-half-links-from = c .before .before in
+    let at-if3 = at-half-links-from .before in
+    let at-is-port-repeated = at-if3 .before in
+    let at-if2 = at-is-port-repeated .before in
+    let at-names-unknown = at-if2 .before in
+    let at-if1 = at-names-unknown .before in
+    let at-own-fault4 = at-if1 .before in
+    let at-read = at-own-fault4 .before .before in
+    let at-read-half-link = at-read .before .before in
+    let at-last-kind = at-read-half-link .before .before in
+    let at-words-read = at-last-kind .before in
+    let at-start = at-words-read .before .before .before .before in
+    let (_, (keyed-port-key, _)) = at-start .pre in
+    let table = at-start .args .table .now in
+    let read-given = at-read .read .given .0 .0 in
+    let s = at-start .args .s in
+    let half-links = s .«half_links» in
+    let words = wordsOf table in
+    left-over (readingAt words s) (halfLink (halfLinkValues read-given)) (length (drop (wordsRead s) words)) false false false true false
+    refl (unknown-ends words s (halfLinkValues read-given) ∙ sym (at-names-unknown .names-unknown .ensures) ∙ at-if2 .if2 .left)
+    (sym
+    (port-repeated keyed-port-key (halfLinkValues read-given)
+    (read-of-16-bits (drop (wordsRead s) words) (halfLinkValues read-given)
+    ((judged-at halfLinkLayout table s _ _ (whole (halfLink (halfLinkValues read-given))) _ _ _
+    (omega (arith, at-words-read .words-read .ensures)) (at-read-half-link .read-half-link .ensures)
+    (ap (λ (x : HalfLinkRead). halfLinkRead x) (at-read .read .given .1)) (at-last-kind .last-kind .ensures)
+    (sym (how-many halfLinkOf 3 (halfLinksFrom s) words half-links)) (at-own-fault4 .own-fault4 .ensures)) .found) .1))
+    ∙ sym (at-is-port-repeated .is-port-repeated .ensures)
+    ∙ at-if3 .if3 .left)
+    (sym
+    (c .before .is-wrong-link .ensures
+    ∙ ap
+    (λ (n : ℕ).
+    wrongHalf (halfLinkValues read-given) (selected (hasLink (read-given .link)) (recordsAt halfLinkOf 3 n words half-links)))
+    (at-half-links-from .half-links-from .ensures))
+    ∙ c .if4 .taken)
+    refl
+    ∙ fault-left
+    (judged-at halfLinkLayout table s _ _ (whole (halfLink (halfLinkValues read-given))) _ _ _
+    (omega (arith, at-words-read .words-read .ensures)) (at-read-half-link .read-half-link .ensures)
+    (ap (λ (x : HalfLinkRead). halfLinkRead x) (at-read .read .given .1)) (at-last-kind .last-kind .ensures)
+    (sym (how-many halfLinkOf 3 (halfLinksFrom s) words half-links)) (at-own-fault4 .own-fault4 .ensures))
+    (halfLink (halfLinkValues read-given)) refl (at-if1 .if1 .left)
 
 returns-5 : tie.Need-returns-5
-returns-5 c = found-fault (judged-at halfLinkLayout (c .before .before .before .before .before .before .before .before .before .before .args .table .now) (c .before .before .before .before .before .before .before .before .before .before .args .s) _ _ cut _ _ _ (omega (arith, c .before .before .before .before .before .before .words-read .ensures)) (c .before .before .before .read-half-link .ensures) (ap (λ (x : HalfLinkRead). halfLinkRead x) (c .before .enum-told .given .1)) (c .before .before .before .before .before .last-kind .ensures) (sym (how-many halfLinkOf 3 (halfLinksFrom (c .before .before .before .before .before .before .before .before .before .before .args .s)) (wordsOf (c .before .before .before .before .before .before .before .before .before .before .args .table .now)) ((c .before .before .before .before .before .before .before .before .before .before .args .s) .«half_links»))) (c .own-fault .ensures)) (λ z. absurd (omega arith))
+returns-5 c =
+    let at-read-half-link = c .before .before .before in
+    let at-last-kind = at-read-half-link .before .before in
+    let at-words-read = at-last-kind .before in
+    let at-start = at-words-read .before .before .before .before in
+    let s = at-start .args .s in
+    found-fault
+    (judged-at halfLinkLayout (at-start .args .table .now) s _ _ cut _ _ _ (omega (arith, at-words-read .words-read .ensures))
+    (at-read-half-link .read-half-link .ensures) (ap (λ (x : HalfLinkRead). halfLinkRead x) (c .before .enum-told .given .1))
+    (at-last-kind .last-kind .ensures)
+    (sym (how-many halfLinkOf 3 (halfLinksFrom s) (wordsOf (at-start .args .table .now)) (s .«half_links»))) (c .own-fault .ensures))
+    (λ z. absurd (omega arith))
 
 returns-6 : tie.Need-returns-6
-returns-6 c = found-fault (judged-at halfLinkLayout (c .before .before .before .before .before .before .before .before .before .before .args .table .now) (c .before .before .before .before .before .before .before .before .before .before .args .s) _ _ zeroBit _ _ _ (omega (arith, c .before .before .before .before .before .before .words-read .ensures)) (c .before .before .before .read-half-link .ensures) (ap (λ (x : HalfLinkRead). halfLinkRead x) (c .before .enum-told2 .given .1)) (c .before .before .before .before .before .last-kind .ensures) (sym (how-many halfLinkOf 3 (halfLinksFrom (c .before .before .before .before .before .before .before .before .before .before .args .s)) (wordsOf (c .before .before .before .before .before .before .before .before .before .before .args .table .now)) ((c .before .before .before .before .before .before .before .before .before .before .args .s) .«half_links»))) (c .own-fault2 .ensures)) (λ z. absurd (omega arith))
+returns-6 c =
+    let at-read-half-link = c .before .before .before in
+    let at-last-kind = at-read-half-link .before .before in
+    let at-words-read = at-last-kind .before in
+    let at-start = at-words-read .before .before .before .before in
+    let s = at-start .args .s in
+    found-fault
+    (judged-at halfLinkLayout (at-start .args .table .now) s _ _ zeroBit _ _ _ (omega (arith, at-words-read .words-read .ensures))
+    (at-read-half-link .read-half-link .ensures) (ap (λ (x : HalfLinkRead). halfLinkRead x) (c .before .enum-told2 .given .1))
+    (at-last-kind .last-kind .ensures)
+    (sym (how-many halfLinkOf 3 (halfLinksFrom s) (wordsOf (at-start .args .table .now)) (s .«half_links»))) (c .own-fault2 .ensures))
+    (λ z. absurd (omega arith))
 
 returns-7 : tie.Need-returns-7
-returns-7 c = found-fault (judged-at halfLinkLayout (c .before .before .before .before .before .before .before .before .before .before .args .table .now) (c .before .before .before .before .before .before .before .before .before .before .args .s) _ _ outOfRange _ _ _ (omega (arith, c .before .before .before .before .before .before .words-read .ensures)) (c .before .before .before .read-half-link .ensures) (ap (λ (x : HalfLinkRead). halfLinkRead x) (c .before .enum-told3 .given .1)) (c .before .before .before .before .before .last-kind .ensures) (sym (how-many halfLinkOf 3 (halfLinksFrom (c .before .before .before .before .before .before .before .before .before .before .args .s)) (wordsOf (c .before .before .before .before .before .before .before .before .before .before .args .table .now)) ((c .before .before .before .before .before .before .before .before .before .before .args .s) .«half_links»))) (c .own-fault3 .ensures)) (λ z. absurd (omega arith))
+returns-7 c =
+    let at-read-half-link = c .before .before .before in
+    let at-last-kind = at-read-half-link .before .before in
+    let at-words-read = at-last-kind .before in
+    let at-start = at-words-read .before .before .before .before in
+    let s = at-start .args .s in
+    found-fault
+    (judged-at halfLinkLayout (at-start .args .table .now) s _ _ outOfRange _ _ _ (omega (arith, at-words-read .words-read .ensures))
+    (at-read-half-link .read-half-link .ensures) (ap (λ (x : HalfLinkRead). halfLinkRead x) (c .before .enum-told3 .given .1))
+    (at-last-kind .last-kind .ensures)
+    (sym (how-many halfLinkOf 3 (halfLinksFrom s) (wordsOf (at-start .args .table .now)) (s .«half_links»))) (c .own-fault3 .ensures))
+    (λ z. absurd (omega arith))
 
 returns-8 : tie.Need-returns-8
-returns-8 c = left-over (readingAt (wordsOf (c .before .before .before .before .before .before .before .before .before .before .before .before .before .before .before .before .before .before .before .args .table .now)) (c .before .before .before .before .before .before .before .before .before .before .before .before .before .before .before .before .before .before .before .args .s)) (halfLink (halfLinkValues (c .before .before .before .before .before .before .before .before .before .before .read .given .0 .0))) (length (drop (wordsRead (c .before .before .before .before .before .before .before .before .before .before .before .before .before .before .before .before .before .before .before .args .s)) (wordsOf (c .before .before .before .before .before .before .before .before .before .before .before .before .before .before .before .before .before .before .before .args .table .now)))) false false false false false refl (unknown-ends (wordsOf (c .before .before .before .before .before .before .before .before .before .before .before .before .before .before .before .before .before .before .before .args .table .now)) (c .before .before .before .before .before .before .before .before .before .before .before .before .before .before .before .before .before .before .before .args .s) (halfLinkValues (c .before .before .before .before .before .before .before .before .before .before .read .given .0 .0)) ∙ sym (c .before .before .before .before .before .before .names-unknown .ensures) ∙ c .before .before .before .before .before .if2 .left) (sym (port-repeated (c .before .before .before .before .before .before .before .before .before .before .before .before .before .before .before .before .before .before .before .pre .1 .0) (halfLinkValues (c .before .before .before .before .before .before .before .before .before .before .read .given .0 .0)) (read-of-16-bits (drop (wordsRead (c .before .before .before .before .before .before .before .before .before .before .before .before .before .before .before .before .before .before .before .args .s)) (wordsOf (c .before .before .before .before .before .before .before .before .before .before .before .before .before .before .before .before .before .before .before .args .table .now))) (halfLinkValues (c .before .before .before .before .before .before .before .before .before .before .read .given .0 .0)) ((judged-at halfLinkLayout (c .before .before .before .before .before .before .before .before .before .before .before .before .before .before .before .before .before .before .before .args .table .now) (c .before .before .before .before .before .before .before .before .before .before .before .before .before .before .before .before .before .before .before .args .s) _ _ (whole (halfLink (halfLinkValues (c .before .before .before .before .before .before .before .before .before .before .read .given .0 .0)))) _ _ _ (omega (arith, c .before .before .before .before .before .before .before .before .before .before .before .before .before .before .before .words-read .ensures)) (c .before .before .before .before .before .before .before .before .before .before .before .before .read-half-link .ensures) (ap (λ (x : HalfLinkRead). halfLinkRead x) (c .before .before .before .before .before .before .before .before .before .before .read .given .1)) (c .before .before .before .before .before .before .before .before .before .before .before .before .before .before .last-kind .ensures) (sym (how-many halfLinkOf 3 (halfLinksFrom (c .before .before .before .before .before .before .before .before .before .before .before .before .before .before .before .before .before .before .before .args .s)) (wordsOf (c .before .before .before .before .before .before .before .before .before .before .before .before .before .before .before .before .before .before .before .args .table .now)) ((c .before .before .before .before .before .before .before .before .before .before .before .before .before .before .before .before .before .before .before .args .s) .«half_links»))) (c .before .before .before .before .before .before .before .before .own-fault4 .ensures)) .found) .1)) ∙ sym (c .before .before .before .before .is-port-repeated .ensures) ∙ c .before .before .before .if3 .left) (sym (c .before .is-wrong-link .ensures ∙ ap (λ (n : ℕ). wrongHalf (halfLinkValues (c .before .before .before .before .before .before .before .before .before .before .read .given .0 .0)) (selected (hasLink (c .before .before .before .before .before .before .before .before .before .before .read .given .0 .0 .link)) (recordsAt halfLinkOf 3 n (wordsOf (c .before .before .before .before .before .before .before .before .before .before .before .before .before .before .before .before .before .before .before .args .table .now)) (c .before .before .before .before .before .before .before .before .before .before .before .before .before .before .before .before .before .before .before .args .s .«half_links»)))) (c .before .before .half-links-from .ensures)) ∙ c .if4 .left) refl ∙ fault-left (judged-at halfLinkLayout (c .before .before .before .before .before .before .before .before .before .before .before .before .before .before .before .before .before .before .before .args .table .now) (c .before .before .before .before .before .before .before .before .before .before .before .before .before .before .before .before .before .before .before .args .s) _ _ (whole (halfLink (halfLinkValues (c .before .before .before .before .before .before .before .before .before .before .read .given .0 .0)))) _ _ _ (omega (arith, c .before .before .before .before .before .before .before .before .before .before .before .before .before .before .before .words-read .ensures)) (c .before .before .before .before .before .before .before .before .before .before .before .before .read-half-link .ensures) (ap (λ (x : HalfLinkRead). halfLinkRead x) (c .before .before .before .before .before .before .before .before .before .before .read .given .1)) (c .before .before .before .before .before .before .before .before .before .before .before .before .before .before .last-kind .ensures) (sym (how-many halfLinkOf 3 (halfLinksFrom (c .before .before .before .before .before .before .before .before .before .before .before .before .before .before .before .before .before .before .before .args .s)) (wordsOf (c .before .before .before .before .before .before .before .before .before .before .before .before .before .before .before .before .before .before .before .args .table .now)) ((c .before .before .before .before .before .before .before .before .before .before .before .before .before .before .before .before .before .before .before .args .s) .«half_links»))) (c .before .before .before .before .before .before .before .before .own-fault4 .ensures)) (halfLink (halfLinkValues (c .before .before .before .before .before .before .before .before .before .before .read .given .0 .0))) refl (c .before .before .before .before .before .before .before .if1 .left)
+returns-8 c =
+    let at-half-links-from = c .before .before in
+    let at-if3 = at-half-links-from .before in
+    let at-is-port-repeated = at-if3 .before in
+    let at-if2 = at-is-port-repeated .before in
+    let at-names-unknown = at-if2 .before in
+    let at-if1 = at-names-unknown .before in
+    let at-own-fault4 = at-if1 .before in
+    let at-read = at-own-fault4 .before .before in
+    let at-read-half-link = at-read .before .before in
+    let at-last-kind = at-read-half-link .before .before in
+    let at-words-read = at-last-kind .before in
+    let at-start = at-words-read .before .before .before .before in
+    let (_, (keyed-port-key, _)) = at-start .pre in
+    let table = at-start .args .table .now in
+    let read-given = at-read .read .given .0 .0 in
+    let s = at-start .args .s in
+    let half-links = s .«half_links» in
+    let words = wordsOf table in
+    left-over (readingAt words s) (halfLink (halfLinkValues read-given)) (length (drop (wordsRead s) words)) false false false false false
+    refl (unknown-ends words s (halfLinkValues read-given) ∙ sym (at-names-unknown .names-unknown .ensures) ∙ at-if2 .if2 .left)
+    (sym
+    (port-repeated keyed-port-key (halfLinkValues read-given)
+    (read-of-16-bits (drop (wordsRead s) words) (halfLinkValues read-given)
+    ((judged-at halfLinkLayout table s _ _ (whole (halfLink (halfLinkValues read-given))) _ _ _
+    (omega (arith, at-words-read .words-read .ensures)) (at-read-half-link .read-half-link .ensures)
+    (ap (λ (x : HalfLinkRead). halfLinkRead x) (at-read .read .given .1)) (at-last-kind .last-kind .ensures)
+    (sym (how-many halfLinkOf 3 (halfLinksFrom s) words half-links)) (at-own-fault4 .own-fault4 .ensures)) .found) .1))
+    ∙ sym (at-is-port-repeated .is-port-repeated .ensures)
+    ∙ at-if3 .if3 .left)
+    (sym
+    (c .before .is-wrong-link .ensures
+    ∙ ap
+    (λ (n : ℕ).
+    wrongHalf (halfLinkValues read-given) (selected (hasLink (read-given .link)) (recordsAt halfLinkOf 3 n words half-links)))
+    (at-half-links-from .half-links-from .ensures))
+    ∙ c .if4 .left)
+    refl
+    ∙ fault-left
+    (judged-at halfLinkLayout table s _ _ (whole (halfLink (halfLinkValues read-given))) _ _ _
+    (omega (arith, at-words-read .words-read .ensures)) (at-read-half-link .read-half-link .ensures)
+    (ap (λ (x : HalfLinkRead). halfLinkRead x) (at-read .read .given .1)) (at-last-kind .last-kind .ensures)
+    (sym (how-many halfLinkOf 3 (halfLinksFrom s) words half-links)) (at-own-fault4 .own-fault4 .ensures))
+    (halfLink (halfLinkValues read-given)) refl (at-if1 .if1 .left)
 
 pub half-link-fault-spec : {M : Type 1} → statement M
 half-link-fault-spec =
     tie.close
-    (tie.spec
-    words-read-requires
-    mul-at
-    last-kind-requires
-    sub-read-half-link
-    part-read-half-link-start
-    part-read-half-link-end
-    read-half-link-requires
-    enum-told
-    own-fault-requires
-    enum-told-2
-    own-fault-requires-2
-    enum-told-3
-    own-fault-requires-3
-    enum-known-read
-    own-fault-requires-4
-    returns
-    names-unknown-requires
-    returns-2
-    is-port-repeated-requires
-    returns-3
-    half-links-from-requires
-    is-wrong-link-requires
-    returns-4
-    returns-5
-    returns-6
-    returns-7
-    returns-8)
+    (tie.spec words-read-requires mul-at last-kind-requires sub-read-half-link part-read-half-link-start part-read-half-link-end
+    read-half-link-requires enum-told own-fault-requires enum-told-2 own-fault-requires-2 enum-told-3 own-fault-requires-3 enum-known-read
+    own-fault-requires-4 returns names-unknown-requires returns-2 is-port-repeated-requires returns-3 half-links-from-requires
+    is-wrong-link-requires returns-4 returns-5 returns-6 returns-7 returns-8)

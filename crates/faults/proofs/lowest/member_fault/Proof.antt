@@ -7,7 +7,7 @@ use Rattle.rule.specs.Words.{wordsOf}
 use Rattle.table.specs.Positions.{recordsAt, membersFrom, wordsRead, readingAt}
 use Rattle.table.specs.laws.PositionLaws.{how-many}
 use Rattle.table.specs.Readers.{cut, zeroBit, outOfRange, whole, memberRead, memberValues}
-use Rattle.faults.specs.laws.FaultLaws.{judged-at, own-fault, found-fault, fault-left, left-over}
+use Rattle.faults.specs.laws.FaultLaws.{judged-at, own-fault, found-fault, fault-left, left-over, unknown-member}
 use Prim.Native.Nat.{ℕ}
 use borrow.Author.Tests.{lt-ltb, le-ltb, not-true, not-false}
 use Rattle.lists.specs.Lists.{anyPasses}
@@ -15,7 +15,6 @@ use Rattle.rule.specs.Records.{member, vidOf, memberOf, memberLayout}
 use Rattle.rule.specs.Plan.{hasVid}
 use Rattle.rule.specs.Check.{repeatsMember}
 use Rattle.table.specs.declared.member.MemberRead.{MemberRead}
-use Rattle.faults.specs.laws.FaultLaws.{unknown-member}
 use borrow.Author.Needs.{needs}
 use Rattle.faults.proofs.lowest.member_fault.Statement.{statement}
 use Rattle.faults.proofs.lowest.member_fault.Tie as tie
@@ -66,13 +65,44 @@ own-fault-requires-4 : tie.Need-own-fault-requires-4
 own-fault-requires-4 c κs = search needs
 
 returns : tie.Need-returns
-returns c = own-fault (judged-at memberLayout (c .before .before .before .before .before .before .before .before .before .before .args .table .now) (c .before .before .before .before .before .before .before .before .before .before .args .s) _ _ (whole (member (memberValues (c .before .before .before .read .given .0 .0)))) _ _ _ (omega (arith, c .before .before .before .before .before .before .before .before .words-read .ensures)) (c .before .before .before .before .before .read-member .ensures) (ap (λ (x : MemberRead). memberRead x) (c .before .before .before .read .given .1)) (c .before .before .before .before .before .before .before .last-kind .ensures) (sym (how-many memberOf 2 (membersFrom (c .before .before .before .before .before .before .before .before .before .before .args .s)) (wordsOf (c .before .before .before .before .before .before .before .before .before .before .args .table .now)) ((c .before .before .before .before .before .before .before .before .before .before .args .s) .members))) (c .before .own-fault4 .ensures)) (c .if1 .taken)
+returns c =
+    let at-read = c .before .before .before in
+    let at-read-member = at-read .before .before in
+    let at-last-kind = at-read-member .before .before in
+    let at-words-read = at-last-kind .before in
+    let at-start = at-words-read .before .before in
+    let s = at-start .args .s in
+    own-fault
+    (judged-at memberLayout (at-start .args .table .now) s _ _ (whole (member (memberValues (at-read .read .given .0 .0)))) _ _ _
+    (omega (arith, at-words-read .words-read .ensures)) (at-read-member .read-member .ensures)
+    (ap (λ (x : MemberRead). memberRead x) (at-read .read .given .1)) (at-last-kind .last-kind .ensures)
+    (sym (how-many memberOf 2 (membersFrom s) (wordsOf (at-start .args .table .now)) (s .members))) (c .before .own-fault4 .ensures))
+    (c .if1 .taken)
 
 cast-if2 : tie.Need-cast-if2
 cast-if2 c = search needs
 
 returns-2 : tie.Need-returns-2
-returns-2 c = left-over (readingAt (wordsOf (c .before .before .before .before .before .before .before .before .before .before .before .before .before .args .table .now)) (c .before .before .before .before .before .before .before .before .before .before .before .before .before .args .s)) (member (memberValues (c .before .before .before .before .before .before .read .given .0 .0))) (length (drop (wordsRead (c .before .before .before .before .before .before .before .before .before .before .before .before .before .args .s)) (wordsOf (c .before .before .before .before .before .before .before .before .before .before .before .before .before .args .table .now)))) false true _ false false refl (unknown-member (wordsOf (c .before .before .before .before .before .before .before .before .before .before .before .before .before .args .table .now)) (c .before .before .before .before .before .before .before .before .before .before .before .before .before .args .s) (memberValues (c .before .before .before .before .before .before .read .given .0 .0)) ∙ simp (le-ltb _ _ (c .if2 .taken))) refl refl refl ∙ fault-left (judged-at memberLayout (c .before .before .before .before .before .before .before .before .before .before .before .before .before .args .table .now) (c .before .before .before .before .before .before .before .before .before .before .before .before .before .args .s) _ _ (whole (member (memberValues (c .before .before .before .before .before .before .read .given .0 .0)))) _ _ _ (omega (arith, c .before .before .before .before .before .before .before .before .before .before .before .words-read .ensures)) (c .before .before .before .before .before .before .before .before .read-member .ensures) (ap (λ (x : MemberRead). memberRead x) (c .before .before .before .before .before .before .read .given .1)) (c .before .before .before .before .before .before .before .before .before .before .last-kind .ensures) (sym (how-many memberOf 2 (membersFrom (c .before .before .before .before .before .before .before .before .before .before .before .before .before .args .s)) (wordsOf (c .before .before .before .before .before .before .before .before .before .before .before .before .before .args .table .now)) ((c .before .before .before .before .before .before .before .before .before .before .before .before .before .args .s) .members))) (c .before .before .before .before .own-fault4 .ensures)) (member (memberValues (c .before .before .before .before .before .before .read .given .0 .0))) refl (c .before .before .before .if1 .left)
+returns-2 c =
+    let at-if1 = c .before .before .before in
+    let at-own-fault4 = at-if1 .before in
+    let at-read = at-own-fault4 .before .before in
+    let at-read-member = at-read .before .before in
+    let at-last-kind = at-read-member .before .before in
+    let at-words-read = at-last-kind .before in
+    let at-start = at-words-read .before .before in
+    let table = at-start .args .table .now in
+    let read-given = at-read .read .given .0 .0 in
+    let s = at-start .args .s in
+    let words = wordsOf table in
+    left-over (readingAt words s) (member (memberValues read-given)) (length (drop (wordsRead s) words)) false true _ false false refl
+    (unknown-member words s (memberValues read-given) ∙ simp (le-ltb _ _ (c .if2 .taken))) refl refl refl
+    ∙ fault-left
+    (judged-at memberLayout table s _ _ (whole (member (memberValues read-given))) _ _ _
+    (omega (arith, at-words-read .words-read .ensures)) (at-read-member .read-member .ensures)
+    (ap (λ (x : MemberRead). memberRead x) (at-read .read .given .1)) (at-last-kind .last-kind .ensures)
+    (sym (how-many memberOf 2 (membersFrom s) words (s .members))) (at-own-fault4 .own-fault4 .ensures))
+    (member (memberValues read-given)) refl (at-if1 .if1 .left)
 
 vids-from-requires : tie.Need-vids-from-requires
 vids-from-requires c κs = search needs
@@ -81,7 +111,37 @@ is-vid-known-requires : tie.Need-is-vid-known-requires
 is-vid-known-requires c κs = search needs
 
 returns-3 : tie.Need-returns-3
-returns-3 c = left-over (readingAt (wordsOf (c .before .before .before .before .before .before .before .before .before .before .before .before .before .before .before .before .args .table .now)) (c .before .before .before .before .before .before .before .before .before .before .before .before .before .before .before .before .args .s)) (member (memberValues (c .before .before .before .before .before .before .before .before .before .read .given .0 .0))) (length (drop (wordsRead (c .before .before .before .before .before .before .before .before .before .before .before .before .before .before .before .before .args .s)) (wordsOf (c .before .before .before .before .before .before .before .before .before .before .before .before .before .before .before .before .args .table .now)))) false true _ false false refl (unknown-member (wordsOf (c .before .before .before .before .before .before .before .before .before .before .before .before .before .before .before .before .args .table .now)) (c .before .before .before .before .before .before .before .before .before .before .before .before .before .before .before .before .args .s) (memberValues (c .before .before .before .before .before .before .before .before .before .read .given .0 .0)) ∙ simp (lt-ltb _ _ (c .before .before .before .if2 .left), sym (c .before .is-vid-known .ensures ∙ ap (λ (n : ℕ). anyPasses (hasVid (c .before .before .before .before .before .before .before .before .before .read .given .0 .0 .vid)) (recordsAt vidOf 1 n (wordsOf (c .before .before .before .before .before .before .before .before .before .before .before .before .before .before .before .before .args .table .now)) (c .before .before .before .before .before .before .before .before .before .before .before .before .before .before .before .before .args .s .vids))) (c .before .before .vids-from .ensures)) ∙ not-true _ (c .if3 .taken))) refl refl refl ∙ fault-left (judged-at memberLayout (c .before .before .before .before .before .before .before .before .before .before .before .before .before .before .before .before .args .table .now) (c .before .before .before .before .before .before .before .before .before .before .before .before .before .before .before .before .args .s) _ _ (whole (member (memberValues (c .before .before .before .before .before .before .before .before .before .read .given .0 .0)))) _ _ _ (omega (arith, c .before .before .before .before .before .before .before .before .before .before .before .before .before .before .words-read .ensures)) (c .before .before .before .before .before .before .before .before .before .before .before .read-member .ensures) (ap (λ (x : MemberRead). memberRead x) (c .before .before .before .before .before .before .before .before .before .read .given .1)) (c .before .before .before .before .before .before .before .before .before .before .before .before .before .last-kind .ensures) (sym (how-many memberOf 2 (membersFrom (c .before .before .before .before .before .before .before .before .before .before .before .before .before .before .before .before .args .s)) (wordsOf (c .before .before .before .before .before .before .before .before .before .before .before .before .before .before .before .before .args .table .now)) ((c .before .before .before .before .before .before .before .before .before .before .before .before .before .before .before .before .args .s) .members))) (c .before .before .before .before .before .before .before .own-fault4 .ensures)) (member (memberValues (c .before .before .before .before .before .before .before .before .before .read .given .0 .0))) refl (c .before .before .before .before .before .before .if1 .left)
+returns-3 c =
+    let at-vids-from = c .before .before in
+    let at-if2 = at-vids-from .before in
+    let at-if1 = at-if2 .before .before .before in
+    let at-own-fault4 = at-if1 .before in
+    let at-read = at-own-fault4 .before .before in
+    let at-read-member = at-read .before .before in
+    let at-last-kind = at-read-member .before .before in
+    let at-words-read = at-last-kind .before in
+    let at-start = at-words-read .before .before in
+    let table = at-start .args .table .now in
+    let read-given = at-read .read .given .0 .0 in
+    let s = at-start .args .s in
+    let words = wordsOf table in
+    left-over (readingAt words s) (member (memberValues read-given)) (length (drop (wordsRead s) words)) false true _ false false refl
+    (unknown-member words s (memberValues read-given)
+    ∙ simp (
+      lt-ltb _ _ (at-if2 .if2 .left),
+      sym
+          (c .before .is-vid-known .ensures
+          ∙ ap (λ (n : ℕ). anyPasses (hasVid (read-given .vid)) (recordsAt vidOf 1 n words (s .vids)))
+          (at-vids-from .vids-from .ensures))
+          ∙ not-true _ (c .if3 .taken),
+    ))
+    refl refl refl
+    ∙ fault-left
+    (judged-at memberLayout table s _ _ (whole (member (memberValues read-given))) _ _ _
+    (omega (arith, at-words-read .words-read .ensures)) (at-read-member .read-member .ensures)
+    (ap (λ (x : MemberRead). memberRead x) (at-read .read .given .1)) (at-last-kind .last-kind .ensures)
+    (sym (how-many memberOf 2 (membersFrom s) words (s .members))) (at-own-fault4 .own-fault4 .ensures))
+    (member (memberValues read-given)) refl (at-if1 .if1 .left)
 
 members-from-requires : tie.Need-members-from-requires
 members-from-requires c κs = search needs
@@ -90,49 +150,133 @@ is-member-repeated-requires : tie.Need-is-member-repeated-requires
 is-member-repeated-requires c κs = search needs
 
 returns-4 : tie.Need-returns-4
-returns-4 c = left-over (readingAt (wordsOf (c .before .before .before .before .before .before .before .before .before .before .before .before .before .before .before .before .before .before .before .args .table .now)) (c .before .before .before .before .before .before .before .before .before .before .before .before .before .before .before .before .before .before .before .args .s)) (member (memberValues (c .before .before .before .before .before .before .before .before .before .before .before .before .read .given .0 .0))) (length (drop (wordsRead (c .before .before .before .before .before .before .before .before .before .before .before .before .before .before .before .before .before .before .before .args .s)) (wordsOf (c .before .before .before .before .before .before .before .before .before .before .before .before .before .before .before .before .before .before .before .args .table .now)))) false false true false false refl (unknown-member (wordsOf (c .before .before .before .before .before .before .before .before .before .before .before .before .before .before .before .before .before .before .before .args .table .now)) (c .before .before .before .before .before .before .before .before .before .before .before .before .before .before .before .before .before .before .before .args .s) (memberValues (c .before .before .before .before .before .before .before .before .before .before .before .before .read .given .0 .0)) ∙ simp (lt-ltb _ _ (c .before .before .before .before .before .before .if2 .left), sym (c .before .before .before .before .is-vid-known .ensures ∙ ap (λ (n : ℕ). anyPasses (hasVid (c .before .before .before .before .before .before .before .before .before .before .before .before .read .given .0 .0 .vid)) (recordsAt vidOf 1 n (wordsOf (c .before .before .before .before .before .before .before .before .before .before .before .before .before .before .before .before .before .before .before .args .table .now)) (c .before .before .before .before .before .before .before .before .before .before .before .before .before .before .before .before .before .before .before .args .s .vids))) (c .before .before .before .before .before .vids-from .ensures)) ∙ not-false _ (c .before .before .before .if3 .left))) (sym (c .before .is-member-repeated .ensures ∙ ap (λ (n : ℕ). anyPasses (repeatsMember (memberValues (c .before .before .before .before .before .before .before .before .before .before .before .before .read .given .0 .0))) (recordsAt memberOf 2 n (wordsOf (c .before .before .before .before .before .before .before .before .before .before .before .before .before .before .before .before .before .before .before .args .table .now)) (c .before .before .before .before .before .before .before .before .before .before .before .before .before .before .before .before .before .before .before .args .s .members))) (c .before .before .members-from .ensures)) ∙ c .if4 .taken) refl refl ∙ fault-left (judged-at memberLayout (c .before .before .before .before .before .before .before .before .before .before .before .before .before .before .before .before .before .before .before .args .table .now) (c .before .before .before .before .before .before .before .before .before .before .before .before .before .before .before .before .before .before .before .args .s) _ _ (whole (member (memberValues (c .before .before .before .before .before .before .before .before .before .before .before .before .read .given .0 .0)))) _ _ _ (omega (arith, c .before .before .before .before .before .before .before .before .before .before .before .before .before .before .before .before .before .words-read .ensures)) (c .before .before .before .before .before .before .before .before .before .before .before .before .before .before .read-member .ensures) (ap (λ (x : MemberRead). memberRead x) (c .before .before .before .before .before .before .before .before .before .before .before .before .read .given .1)) (c .before .before .before .before .before .before .before .before .before .before .before .before .before .before .before .before .last-kind .ensures) (sym (how-many memberOf 2 (membersFrom (c .before .before .before .before .before .before .before .before .before .before .before .before .before .before .before .before .before .before .before .args .s)) (wordsOf (c .before .before .before .before .before .before .before .before .before .before .before .before .before .before .before .before .before .before .before .args .table .now)) ((c .before .before .before .before .before .before .before .before .before .before .before .before .before .before .before .before .before .before .before .args .s) .members))) (c .before .before .before .before .before .before .before .before .before .before .own-fault4 .ensures)) (member (memberValues (c .before .before .before .before .before .before .before .before .before .before .before .before .read .given .0 .0))) refl (c .before .before .before .before .before .before .before .before .before .if1 .left)
+returns-4 c =
+    let at-members-from = c .before .before in
+    let at-if3 = at-members-from .before in
+    let at-is-vid-known = at-if3 .before in
+    let at-vids-from = at-is-vid-known .before in
+    let at-if2 = at-vids-from .before in
+    let at-if1 = at-if2 .before .before .before in
+    let at-own-fault4 = at-if1 .before in
+    let at-read = at-own-fault4 .before .before in
+    let at-read-member = at-read .before .before in
+    let at-last-kind = at-read-member .before .before in
+    let at-words-read = at-last-kind .before in
+    let at-start = at-words-read .before .before in
+    let table = at-start .args .table .now in
+    let read-given = at-read .read .given .0 .0 in
+    let s = at-start .args .s in
+    let words = wordsOf table in
+    left-over (readingAt words s) (member (memberValues read-given)) (length (drop (wordsRead s) words)) false false true false false refl
+    (unknown-member words s (memberValues read-given)
+    ∙ simp (
+      lt-ltb _ _ (at-if2 .if2 .left),
+      sym
+          (at-is-vid-known .is-vid-known .ensures
+          ∙ ap (λ (n : ℕ). anyPasses (hasVid (read-given .vid)) (recordsAt vidOf 1 n words (s .vids)))
+          (at-vids-from .vids-from .ensures))
+          ∙ not-false _ (at-if3 .if3 .left),
+    ))
+    (sym
+    (c .before .is-member-repeated .ensures
+    ∙ ap (λ (n : ℕ). anyPasses (repeatsMember (memberValues read-given)) (recordsAt memberOf 2 n words (s .members)))
+    (at-members-from .members-from .ensures))
+    ∙ c .if4 .taken)
+    refl refl
+    ∙ fault-left
+    (judged-at memberLayout table s _ _ (whole (member (memberValues read-given))) _ _ _
+    (omega (arith, at-words-read .words-read .ensures)) (at-read-member .read-member .ensures)
+    (ap (λ (x : MemberRead). memberRead x) (at-read .read .given .1)) (at-last-kind .last-kind .ensures)
+    (sym (how-many memberOf 2 (membersFrom s) words (s .members))) (at-own-fault4 .own-fault4 .ensures))
+    (member (memberValues read-given)) refl (at-if1 .if1 .left)
 
 returns-5 : tie.Need-returns-5
-returns-5 c = found-fault (judged-at memberLayout (c .before .before .before .before .before .before .before .before .args .table .now) (c .before .before .before .before .before .before .before .before .args .s) _ _ cut _ _ _ (omega (arith, c .before .before .before .before .before .before .words-read .ensures)) (c .before .before .before .read-member .ensures) (ap (λ (x : MemberRead). memberRead x) (c .before .enum-told .given .1)) (c .before .before .before .before .before .last-kind .ensures) (sym (how-many memberOf 2 (membersFrom (c .before .before .before .before .before .before .before .before .args .s)) (wordsOf (c .before .before .before .before .before .before .before .before .args .table .now)) ((c .before .before .before .before .before .before .before .before .args .s) .members))) (c .own-fault .ensures)) (λ z. absurd (omega arith))
+returns-5 c =
+    let at-read-member = c .before .before .before in
+    let at-last-kind = at-read-member .before .before in
+    let at-words-read = at-last-kind .before in
+    let at-start = at-words-read .before .before in
+    let s = at-start .args .s in
+    found-fault
+    (judged-at memberLayout (at-start .args .table .now) s _ _ cut _ _ _ (omega (arith, at-words-read .words-read .ensures))
+    (at-read-member .read-member .ensures) (ap (λ (x : MemberRead). memberRead x) (c .before .enum-told .given .1))
+    (at-last-kind .last-kind .ensures) (sym (how-many memberOf 2 (membersFrom s) (wordsOf (at-start .args .table .now)) (s .members)))
+    (c .own-fault .ensures))
+    (λ z. absurd (omega arith))
 
 returns-6 : tie.Need-returns-6
-returns-6 c = found-fault (judged-at memberLayout (c .before .before .before .before .before .before .before .before .args .table .now) (c .before .before .before .before .before .before .before .before .args .s) _ _ zeroBit _ _ _ (omega (arith, c .before .before .before .before .before .before .words-read .ensures)) (c .before .before .before .read-member .ensures) (ap (λ (x : MemberRead). memberRead x) (c .before .enum-told2 .given .1)) (c .before .before .before .before .before .last-kind .ensures) (sym (how-many memberOf 2 (membersFrom (c .before .before .before .before .before .before .before .before .args .s)) (wordsOf (c .before .before .before .before .before .before .before .before .args .table .now)) ((c .before .before .before .before .before .before .before .before .args .s) .members))) (c .own-fault2 .ensures)) (λ z. absurd (omega arith))
+returns-6 c =
+    let at-read-member = c .before .before .before in
+    let at-last-kind = at-read-member .before .before in
+    let at-words-read = at-last-kind .before in
+    let at-start = at-words-read .before .before in
+    let s = at-start .args .s in
+    found-fault
+    (judged-at memberLayout (at-start .args .table .now) s _ _ zeroBit _ _ _ (omega (arith, at-words-read .words-read .ensures))
+    (at-read-member .read-member .ensures) (ap (λ (x : MemberRead). memberRead x) (c .before .enum-told2 .given .1))
+    (at-last-kind .last-kind .ensures) (sym (how-many memberOf 2 (membersFrom s) (wordsOf (at-start .args .table .now)) (s .members)))
+    (c .own-fault2 .ensures))
+    (λ z. absurd (omega arith))
 
 returns-7 : tie.Need-returns-7
-returns-7 c = found-fault (judged-at memberLayout (c .before .before .before .before .before .before .before .before .args .table .now) (c .before .before .before .before .before .before .before .before .args .s) _ _ outOfRange _ _ _ (omega (arith, c .before .before .before .before .before .before .words-read .ensures)) (c .before .before .before .read-member .ensures) (ap (λ (x : MemberRead). memberRead x) (c .before .enum-told3 .given .1)) (c .before .before .before .before .before .last-kind .ensures) (sym (how-many memberOf 2 (membersFrom (c .before .before .before .before .before .before .before .before .args .s)) (wordsOf (c .before .before .before .before .before .before .before .before .args .table .now)) ((c .before .before .before .before .before .before .before .before .args .s) .members))) (c .own-fault3 .ensures)) (λ z. absurd (omega arith))
+returns-7 c =
+    let at-read-member = c .before .before .before in
+    let at-last-kind = at-read-member .before .before in
+    let at-words-read = at-last-kind .before in
+    let at-start = at-words-read .before .before in
+    let s = at-start .args .s in
+    found-fault
+    (judged-at memberLayout (at-start .args .table .now) s _ _ outOfRange _ _ _ (omega (arith, at-words-read .words-read .ensures))
+    (at-read-member .read-member .ensures) (ap (λ (x : MemberRead). memberRead x) (c .before .enum-told3 .given .1))
+    (at-last-kind .last-kind .ensures) (sym (how-many memberOf 2 (membersFrom s) (wordsOf (at-start .args .table .now)) (s .members)))
+    (c .own-fault3 .ensures))
+    (λ z. absurd (omega arith))
 
 returns-8 : tie.Need-returns-8
-returns-8 c = left-over (readingAt (wordsOf (c .before .before .before .before .before .before .before .before .before .before .before .before .before .before .before .before .before .before .before .args .table .now)) (c .before .before .before .before .before .before .before .before .before .before .before .before .before .before .before .before .before .before .before .args .s)) (member (memberValues (c .before .before .before .before .before .before .before .before .before .before .before .before .read .given .0 .0))) (length (drop (wordsRead (c .before .before .before .before .before .before .before .before .before .before .before .before .before .before .before .before .before .before .before .args .s)) (wordsOf (c .before .before .before .before .before .before .before .before .before .before .before .before .before .before .before .before .before .before .before .args .table .now)))) false false false false false refl (unknown-member (wordsOf (c .before .before .before .before .before .before .before .before .before .before .before .before .before .before .before .before .before .before .before .args .table .now)) (c .before .before .before .before .before .before .before .before .before .before .before .before .before .before .before .before .before .before .before .args .s) (memberValues (c .before .before .before .before .before .before .before .before .before .before .before .before .read .given .0 .0)) ∙ simp (lt-ltb _ _ (c .before .before .before .before .before .before .if2 .left), sym (c .before .before .before .before .is-vid-known .ensures ∙ ap (λ (n : ℕ). anyPasses (hasVid (c .before .before .before .before .before .before .before .before .before .before .before .before .read .given .0 .0 .vid)) (recordsAt vidOf 1 n (wordsOf (c .before .before .before .before .before .before .before .before .before .before .before .before .before .before .before .before .before .before .before .args .table .now)) (c .before .before .before .before .before .before .before .before .before .before .before .before .before .before .before .before .before .before .before .args .s .vids))) (c .before .before .before .before .before .vids-from .ensures)) ∙ not-false _ (c .before .before .before .if3 .left))) (sym (c .before .is-member-repeated .ensures ∙ ap (λ (n : ℕ). anyPasses (repeatsMember (memberValues (c .before .before .before .before .before .before .before .before .before .before .before .before .read .given .0 .0))) (recordsAt memberOf 2 n (wordsOf (c .before .before .before .before .before .before .before .before .before .before .before .before .before .before .before .before .before .before .before .args .table .now)) (c .before .before .before .before .before .before .before .before .before .before .before .before .before .before .before .before .before .before .before .args .s .members))) (c .before .before .members-from .ensures)) ∙ c .if4 .left) refl refl ∙ fault-left (judged-at memberLayout (c .before .before .before .before .before .before .before .before .before .before .before .before .before .before .before .before .before .before .before .args .table .now) (c .before .before .before .before .before .before .before .before .before .before .before .before .before .before .before .before .before .before .before .args .s) _ _ (whole (member (memberValues (c .before .before .before .before .before .before .before .before .before .before .before .before .read .given .0 .0)))) _ _ _ (omega (arith, c .before .before .before .before .before .before .before .before .before .before .before .before .before .before .before .before .before .words-read .ensures)) (c .before .before .before .before .before .before .before .before .before .before .before .before .before .before .read-member .ensures) (ap (λ (x : MemberRead). memberRead x) (c .before .before .before .before .before .before .before .before .before .before .before .before .read .given .1)) (c .before .before .before .before .before .before .before .before .before .before .before .before .before .before .before .before .last-kind .ensures) (sym (how-many memberOf 2 (membersFrom (c .before .before .before .before .before .before .before .before .before .before .before .before .before .before .before .before .before .before .before .args .s)) (wordsOf (c .before .before .before .before .before .before .before .before .before .before .before .before .before .before .before .before .before .before .before .args .table .now)) ((c .before .before .before .before .before .before .before .before .before .before .before .before .before .before .before .before .before .before .before .args .s) .members))) (c .before .before .before .before .before .before .before .before .before .before .own-fault4 .ensures)) (member (memberValues (c .before .before .before .before .before .before .before .before .before .before .before .before .read .given .0 .0))) refl (c .before .before .before .before .before .before .before .before .before .if1 .left)
+returns-8 c =
+    let at-members-from = c .before .before in
+    let at-if3 = at-members-from .before in
+    let at-is-vid-known = at-if3 .before in
+    let at-vids-from = at-is-vid-known .before in
+    let at-if2 = at-vids-from .before in
+    let at-if1 = at-if2 .before .before .before in
+    let at-own-fault4 = at-if1 .before in
+    let at-read = at-own-fault4 .before .before in
+    let at-read-member = at-read .before .before in
+    let at-last-kind = at-read-member .before .before in
+    let at-words-read = at-last-kind .before in
+    let at-start = at-words-read .before .before in
+    let table = at-start .args .table .now in
+    let read-given = at-read .read .given .0 .0 in
+    let s = at-start .args .s in
+    let words = wordsOf table in
+    left-over (readingAt words s) (member (memberValues read-given)) (length (drop (wordsRead s) words)) false false false false false refl
+    (unknown-member words s (memberValues read-given)
+    ∙ simp (
+      lt-ltb _ _ (at-if2 .if2 .left),
+      sym
+          (at-is-vid-known .is-vid-known .ensures
+          ∙ ap (λ (n : ℕ). anyPasses (hasVid (read-given .vid)) (recordsAt vidOf 1 n words (s .vids)))
+          (at-vids-from .vids-from .ensures))
+          ∙ not-false _ (at-if3 .if3 .left),
+    ))
+    (sym
+    (c .before .is-member-repeated .ensures
+    ∙ ap (λ (n : ℕ). anyPasses (repeatsMember (memberValues read-given)) (recordsAt memberOf 2 n words (s .members)))
+    (at-members-from .members-from .ensures))
+    ∙ c .if4 .left)
+    refl refl
+    ∙ fault-left
+    (judged-at memberLayout table s _ _ (whole (member (memberValues read-given))) _ _ _
+    (omega (arith, at-words-read .words-read .ensures)) (at-read-member .read-member .ensures)
+    (ap (λ (x : MemberRead). memberRead x) (at-read .read .given .1)) (at-last-kind .last-kind .ensures)
+    (sym (how-many memberOf 2 (membersFrom s) words (s .members))) (at-own-fault4 .own-fault4 .ensures))
+    (member (memberValues read-given)) refl (at-if1 .if1 .left)
 
 pub member-fault-spec : {M : Type 1} → statement M
 member-fault-spec =
     tie.close
-    (tie.spec
-    words-read-requires
-    mul-at
-    last-kind-requires
-    sub-read-member
-    part-read-member-start
-    part-read-member-end
-    read-member-requires
-    enum-told
-    own-fault-requires
-    enum-told-2
-    own-fault-requires-2
-    enum-told-3
-    own-fault-requires-3
-    enum-known-read
-    own-fault-requires-4
-    returns
-    cast-if2
-    returns-2
-    vids-from-requires
-    is-vid-known-requires
-    returns-3
-    members-from-requires
-    is-member-repeated-requires
-    returns-4
-    returns-5
-    returns-6
-    returns-7
-    returns-8)
+    (tie.spec words-read-requires mul-at last-kind-requires sub-read-member part-read-member-start part-read-member-end read-member-requires
+    enum-told own-fault-requires enum-told-2 own-fault-requires-2 enum-told-3 own-fault-requires-3 enum-known-read own-fault-requires-4
+    returns cast-if2 returns-2 vids-from-requires is-vid-known-requires returns-3 members-from-requires is-member-repeated-requires
+    returns-4 returns-5 returns-6 returns-7 returns-8)

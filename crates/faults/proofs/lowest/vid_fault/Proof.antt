@@ -57,7 +57,19 @@ own-fault-requires-3 : tie.Need-own-fault-requires-3
 own-fault-requires-3 c κs = search needs
 
 returns : tie.Need-returns
-returns c = own-fault (judged-at vidLayout (c .before .before .before .before .before .before .before .before .before .before .args .table .now) (c .before .before .before .before .before .before .before .before .before .before .args .s) _ _ (whole (vid (vidValues (c .before .before .before .read .given .0 .0)))) _ _ _ (omega (arith, c .before .before .before .before .before .before .before .before .words-read .ensures)) (c .before .before .before .before .before .read-vid .ensures) (ap (λ (x : VidRead). vidRead x) (c .before .before .before .read .given .1)) (c .before .before .before .before .before .before .before .last-kind .ensures) (sym (how-many vidOf 1 (vidsFrom (c .before .before .before .before .before .before .before .before .before .before .args .s)) (wordsOf (c .before .before .before .before .before .before .before .before .before .before .args .table .now)) ((c .before .before .before .before .before .before .before .before .before .before .args .s) .vids))) (c .before .own-fault3 .ensures)) (c .if1 .taken)
+returns c =
+    let at-read = c .before .before .before in
+    let at-read-vid = at-read .before .before in
+    let at-last-kind = at-read-vid .before .before in
+    let at-words-read = at-last-kind .before in
+    let at-start = at-words-read .before .before in
+    let s = at-start .args .s in
+    own-fault
+    (judged-at vidLayout (at-start .args .table .now) s _ _ (whole (vid (vidValues (at-read .read .given .0 .0)))) _ _ _
+    (omega (arith, at-words-read .words-read .ensures)) (at-read-vid .read-vid .ensures)
+    (ap (λ (x : VidRead). vidRead x) (at-read .read .given .1)) (at-last-kind .last-kind .ensures)
+    (sym (how-many vidOf 1 (vidsFrom s) (wordsOf (at-start .args .table .now)) (s .vids))) (c .before .own-fault3 .ensures))
+    (c .if1 .taken)
 
 vids-from-requires : tie.Need-vids-from-requires
 vids-from-requires c κs = search needs
@@ -66,38 +78,88 @@ is-vid-known-requires : tie.Need-is-vid-known-requires
 is-vid-known-requires c κs = search needs
 
 returns-2 : tie.Need-returns-2
-returns-2 c = left-over (readingAt (wordsOf (c .before .before .before .before .before .before .before .before .before .before .before .before .before .args .table .now)) (c .before .before .before .before .before .before .before .before .before .before .before .before .before .args .s)) (vid (vidValues (c .before .before .before .before .before .before .read .given .0 .0))) (length (drop (wordsRead (c .before .before .before .before .before .before .before .before .before .before .before .before .before .args .s)) (wordsOf (c .before .before .before .before .before .before .before .before .before .before .before .before .before .args .table .now)))) false false true false false refl refl (sym (c .before .is-vid-known .ensures ∙ ap (λ (n : ℕ). anyPasses (hasVid (c .before .before .before .before .before .before .read .given .0 .0 .vid)) (recordsAt vidOf 1 n (wordsOf (c .before .before .before .before .before .before .before .before .before .before .before .before .before .args .table .now)) (c .before .before .before .before .before .before .before .before .before .before .before .before .before .args .s .vids))) (c .before .before .vids-from .ensures)) ∙ c .if2 .taken) refl refl ∙ fault-left (judged-at vidLayout (c .before .before .before .before .before .before .before .before .before .before .before .before .before .args .table .now) (c .before .before .before .before .before .before .before .before .before .before .before .before .before .args .s) _ _ (whole (vid (vidValues (c .before .before .before .before .before .before .read .given .0 .0)))) _ _ _ (omega (arith, c .before .before .before .before .before .before .before .before .before .before .before .words-read .ensures)) (c .before .before .before .before .before .before .before .before .read-vid .ensures) (ap (λ (x : VidRead). vidRead x) (c .before .before .before .before .before .before .read .given .1)) (c .before .before .before .before .before .before .before .before .before .before .last-kind .ensures) (sym (how-many vidOf 1 (vidsFrom (c .before .before .before .before .before .before .before .before .before .before .before .before .before .args .s)) (wordsOf (c .before .before .before .before .before .before .before .before .before .before .before .before .before .args .table .now)) ((c .before .before .before .before .before .before .before .before .before .before .before .before .before .args .s) .vids))) (c .before .before .before .before .own-fault3 .ensures)) (vid (vidValues (c .before .before .before .before .before .before .read .given .0 .0))) refl (c .before .before .before .if1 .left)
+returns-2 c =
+    let at-vids-from = c .before .before in
+    let at-if1 = at-vids-from .before in
+    let at-own-fault3 = at-if1 .before in
+    let at-read = at-own-fault3 .before .before in
+    let at-read-vid = at-read .before .before in
+    let at-last-kind = at-read-vid .before .before in
+    let at-words-read = at-last-kind .before in
+    let at-start = at-words-read .before .before in
+    let table = at-start .args .table .now in
+    let read-given = at-read .read .given .0 .0 in
+    let s = at-start .args .s in
+    let words = wordsOf table in
+    left-over (readingAt words s) (vid (vidValues read-given)) (length (drop (wordsRead s) words)) false false true false false refl refl
+    (sym
+    (c .before .is-vid-known .ensures
+    ∙ ap (λ (n : ℕ). anyPasses (hasVid (read-given .vid)) (recordsAt vidOf 1 n words (s .vids))) (at-vids-from .vids-from .ensures))
+    ∙ c .if2 .taken)
+    refl refl
+    ∙ fault-left
+    (judged-at vidLayout table s _ _ (whole (vid (vidValues read-given))) _ _ _ (omega (arith, at-words-read .words-read .ensures))
+    (at-read-vid .read-vid .ensures) (ap (λ (x : VidRead). vidRead x) (at-read .read .given .1)) (at-last-kind .last-kind .ensures)
+    (sym (how-many vidOf 1 (vidsFrom s) words (s .vids))) (at-own-fault3 .own-fault3 .ensures))
+    (vid (vidValues read-given)) refl (at-if1 .if1 .left)
 
 returns-3 : tie.Need-returns-3
-returns-3 c = found-fault (judged-at vidLayout (c .before .before .before .before .before .before .before .before .args .table .now) (c .before .before .before .before .before .before .before .before .args .s) _ _ cut _ _ _ (omega (arith, c .before .before .before .before .before .before .words-read .ensures)) (c .before .before .before .read-vid .ensures) (ap (λ (x : VidRead). vidRead x) (c .before .enum-told .given .1)) (c .before .before .before .before .before .last-kind .ensures) (sym (how-many vidOf 1 (vidsFrom (c .before .before .before .before .before .before .before .before .args .s)) (wordsOf (c .before .before .before .before .before .before .before .before .args .table .now)) ((c .before .before .before .before .before .before .before .before .args .s) .vids))) (c .own-fault .ensures)) (λ z. absurd (omega arith))
+returns-3 c =
+    let at-read-vid = c .before .before .before in
+    let at-last-kind = at-read-vid .before .before in
+    let at-words-read = at-last-kind .before in
+    let at-start = at-words-read .before .before in
+    let s = at-start .args .s in
+    found-fault
+    (judged-at vidLayout (at-start .args .table .now) s _ _ cut _ _ _ (omega (arith, at-words-read .words-read .ensures))
+    (at-read-vid .read-vid .ensures) (ap (λ (x : VidRead). vidRead x) (c .before .enum-told .given .1))
+    (at-last-kind .last-kind .ensures) (sym (how-many vidOf 1 (vidsFrom s) (wordsOf (at-start .args .table .now)) (s .vids)))
+    (c .own-fault .ensures))
+    (λ z. absurd (omega arith))
 
 returns-4 : tie.Need-returns-4
-returns-4 c = found-fault (judged-at vidLayout (c .before .before .before .before .before .before .before .before .args .table .now) (c .before .before .before .before .before .before .before .before .args .s) _ _ outOfRange _ _ _ (omega (arith, c .before .before .before .before .before .before .words-read .ensures)) (c .before .before .before .read-vid .ensures) (ap (λ (x : VidRead). vidRead x) (c .before .enum-told2 .given .1)) (c .before .before .before .before .before .last-kind .ensures) (sym (how-many vidOf 1 (vidsFrom (c .before .before .before .before .before .before .before .before .args .s)) (wordsOf (c .before .before .before .before .before .before .before .before .args .table .now)) ((c .before .before .before .before .before .before .before .before .args .s) .vids))) (c .own-fault2 .ensures)) (λ z. absurd (omega arith))
+returns-4 c =
+    let at-read-vid = c .before .before .before in
+    let at-last-kind = at-read-vid .before .before in
+    let at-words-read = at-last-kind .before in
+    let at-start = at-words-read .before .before in
+    let s = at-start .args .s in
+    found-fault
+    (judged-at vidLayout (at-start .args .table .now) s _ _ outOfRange _ _ _ (omega (arith, at-words-read .words-read .ensures))
+    (at-read-vid .read-vid .ensures) (ap (λ (x : VidRead). vidRead x) (c .before .enum-told2 .given .1))
+    (at-last-kind .last-kind .ensures) (sym (how-many vidOf 1 (vidsFrom s) (wordsOf (at-start .args .table .now)) (s .vids)))
+    (c .own-fault2 .ensures))
+    (λ z. absurd (omega arith))
 
 returns-5 : tie.Need-returns-5
-returns-5 c = left-over (readingAt (wordsOf (c .before .before .before .before .before .before .before .before .before .before .before .before .before .args .table .now)) (c .before .before .before .before .before .before .before .before .before .before .before .before .before .args .s)) (vid (vidValues (c .before .before .before .before .before .before .read .given .0 .0))) (length (drop (wordsRead (c .before .before .before .before .before .before .before .before .before .before .before .before .before .args .s)) (wordsOf (c .before .before .before .before .before .before .before .before .before .before .before .before .before .args .table .now)))) false false false false false refl refl (sym (c .before .is-vid-known .ensures ∙ ap (λ (n : ℕ). anyPasses (hasVid (c .before .before .before .before .before .before .read .given .0 .0 .vid)) (recordsAt vidOf 1 n (wordsOf (c .before .before .before .before .before .before .before .before .before .before .before .before .before .args .table .now)) (c .before .before .before .before .before .before .before .before .before .before .before .before .before .args .s .vids))) (c .before .before .vids-from .ensures)) ∙ c .if2 .left) refl refl ∙ fault-left (judged-at vidLayout (c .before .before .before .before .before .before .before .before .before .before .before .before .before .args .table .now) (c .before .before .before .before .before .before .before .before .before .before .before .before .before .args .s) _ _ (whole (vid (vidValues (c .before .before .before .before .before .before .read .given .0 .0)))) _ _ _ (omega (arith, c .before .before .before .before .before .before .before .before .before .before .before .words-read .ensures)) (c .before .before .before .before .before .before .before .before .read-vid .ensures) (ap (λ (x : VidRead). vidRead x) (c .before .before .before .before .before .before .read .given .1)) (c .before .before .before .before .before .before .before .before .before .before .last-kind .ensures) (sym (how-many vidOf 1 (vidsFrom (c .before .before .before .before .before .before .before .before .before .before .before .before .before .args .s)) (wordsOf (c .before .before .before .before .before .before .before .before .before .before .before .before .before .args .table .now)) ((c .before .before .before .before .before .before .before .before .before .before .before .before .before .args .s) .vids))) (c .before .before .before .before .own-fault3 .ensures)) (vid (vidValues (c .before .before .before .before .before .before .read .given .0 .0))) refl (c .before .before .before .if1 .left)
+returns-5 c =
+    let at-vids-from = c .before .before in
+    let at-if1 = at-vids-from .before in
+    let at-own-fault3 = at-if1 .before in
+    let at-read = at-own-fault3 .before .before in
+    let at-read-vid = at-read .before .before in
+    let at-last-kind = at-read-vid .before .before in
+    let at-words-read = at-last-kind .before in
+    let at-start = at-words-read .before .before in
+    let table = at-start .args .table .now in
+    let read-given = at-read .read .given .0 .0 in
+    let s = at-start .args .s in
+    let words = wordsOf table in
+    left-over (readingAt words s) (vid (vidValues read-given)) (length (drop (wordsRead s) words)) false false false false false refl refl
+    (sym
+    (c .before .is-vid-known .ensures
+    ∙ ap (λ (n : ℕ). anyPasses (hasVid (read-given .vid)) (recordsAt vidOf 1 n words (s .vids))) (at-vids-from .vids-from .ensures))
+    ∙ c .if2 .left)
+    refl refl
+    ∙ fault-left
+    (judged-at vidLayout table s _ _ (whole (vid (vidValues read-given))) _ _ _ (omega (arith, at-words-read .words-read .ensures))
+    (at-read-vid .read-vid .ensures) (ap (λ (x : VidRead). vidRead x) (at-read .read .given .1)) (at-last-kind .last-kind .ensures)
+    (sym (how-many vidOf 1 (vidsFrom s) words (s .vids))) (at-own-fault3 .own-fault3 .ensures))
+    (vid (vidValues read-given)) refl (at-if1 .if1 .left)
 
 pub vid-fault-spec : {M : Type 1} → statement M
 vid-fault-spec =
     tie.close
-    (tie.spec
-    words-read-requires
-    mul-at
-    last-kind-requires
-    sub-read-vid
-    part-read-vid-start
-    part-read-vid-end
-    read-vid-requires
-    enum-told
-    own-fault-requires
-    enum-told-2
-    own-fault-requires-2
-    enum-known-read
-    own-fault-requires-3
-    returns
-    vids-from-requires
-    is-vid-known-requires
-    returns-2
-    returns-3
-    returns-4
-    returns-5)
+    (tie.spec words-read-requires mul-at last-kind-requires sub-read-vid part-read-vid-start part-read-vid-end read-vid-requires enum-told
+    own-fault-requires enum-told-2 own-fault-requires-2 enum-known-read own-fault-requires-3 returns vids-from-requires
+    is-vid-known-requires returns-2 returns-3 returns-4 returns-5)

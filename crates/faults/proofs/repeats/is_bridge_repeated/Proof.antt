@@ -1,5 +1,5 @@
 -- `faults::repeats::is_bridge_repeated` searches the bridges one after the other. Assumes nothing.
-use Prim.Native.Nat.{_-_, _+_, _*_}
+use Prim.Native.Nat.{_-_, _*_}
 use native.Mathlib.Omega.{arith}
 use Rattle.lists.specs.laws.Searching.{search-starts}
 use Rattle.rule.specs.Words.{wordsOf}
@@ -30,7 +30,14 @@ repeats-bridge-requires : tie.Need-repeats-bridge-requires Inv-loop μ-loop
 repeats-bridge-requires c κs = search needs
 
 returns : tie.Need-returns Inv-loop μ-loop
-returns c = record-found bridgeOf 3 0 (wordsOf (c .before .before .before .before .before .before .args .table .now)) (repeatsBridge (bridgeValues (c .before .before .before .before .before .before .args .b))) (c .before .before .before .before .loop .inv) (3 * c .before .before .before .before .loop .i) (bridgeValues (c .before .before .bridge-at .result)) (c .before .repeats-bridge .result) (c .before .before .before .loop-test .taken) (omega arith) (c .before .before .bridge-at .ensures) (c .before .repeats-bridge .ensures) (c .if1 .taken)
+returns c =
+    let at-bridge-at = c .before .before in
+    let at-loop-test = at-bridge-at .before in
+    let at-loop = at-loop-test .before in
+    let at-start = at-loop .before .before in
+    record-found bridgeOf 3 0 (wordsOf (at-start .args .table .now)) (repeatsBridge (bridgeValues (at-start .args .b))) (at-loop .loop .inv)
+    (3 * at-loop .loop .i) (bridgeValues (at-bridge-at .bridge-at .result)) (c .before .repeats-bridge .result)
+    (at-loop-test .loop-test .taken) (omega arith) (at-bridge-at .bridge-at .ensures) (c .before .repeats-bridge .ensures) (c .if1 .taken)
 
 add-i : tie.Need-add-i Inv-loop μ-loop
 add-i c = search needs
@@ -39,23 +46,23 @@ loop-less : tie.Need-loop-less Inv-loop μ-loop
 loop-less c = search needs
 
 loop-again : tie.Need-loop-again Inv-loop μ-loop
-loop-again c = record-passed bridgeOf 3 0 (wordsOf (c .before .before .before .before .before .before .args .table .now)) (repeatsBridge (bridgeValues (c .before .before .before .before .before .before .args .b))) (c .before .before .before .before .loop .inv) (3 * c .before .before .before .before .loop .i) (bridgeValues (c .before .before .bridge-at .result)) (c .before .repeats-bridge .result) (c .before .before .before .loop-test .taken) (omega arith) (c .before .before .bridge-at .ensures) (c .before .repeats-bridge .ensures) (c .if1 .left)
+loop-again c =
+    let at-bridge-at = c .before .before in
+    let at-loop-test = at-bridge-at .before in
+    let at-loop = at-loop-test .before in
+    let at-start = at-loop .before .before in
+    record-passed bridgeOf 3 0 (wordsOf (at-start .args .table .now)) (repeatsBridge (bridgeValues (at-start .args .b)))
+    (at-loop .loop .inv) (3 * at-loop .loop .i) (bridgeValues (at-bridge-at .bridge-at .result)) (c .before .repeats-bridge .result)
+    (at-loop-test .loop-test .taken) (omega arith) (at-bridge-at .bridge-at .ensures) (c .before .repeats-bridge .ensures) (c .if1 .left)
 
 returns-2 : tie.Need-returns-2 Inv-loop μ-loop
-returns-2 c = no-record-found bridgeOf 3 0 (wordsOf (c .before .before .before .args .table .now)) (repeatsBridge (bridgeValues (c .before .before .before .args .b))) (c .before .loop .inv) (c .loop-test .left)
+returns-2 c =
+    let at-start = c .before .before .before in
+    no-record-found bridgeOf 3 0 (wordsOf (at-start .args .table .now)) (repeatsBridge (bridgeValues (at-start .args .b)))
+    (c .before .loop .inv) (c .loop-test .left)
 
 pub is-bridge-repeated-spec : {M : Type 1} → statement M
 is-bridge-repeated-spec =
     tie.close
-    (tie.spec
-    Inv-loop
-    μ-loop
-    loop-holds
-    mul-bridge-at
-    bridge-at-requires
-    repeats-bridge-requires
-    returns
-    add-i
-    loop-less
-    loop-again
+    (tie.spec Inv-loop μ-loop loop-holds mul-bridge-at bridge-at-requires repeats-bridge-requires returns add-i loop-less loop-again
     returns-2)

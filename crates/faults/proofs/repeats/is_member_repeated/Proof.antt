@@ -33,7 +33,15 @@ repeats-member-requires : tie.Need-repeats-member-requires Inv-loop μ-loop
 repeats-member-requires c κs = search needs
 
 returns : tie.Need-returns Inv-loop μ-loop
-returns c = record-found memberOf 2 (c .before .before .before .before .before .before .args .from) (wordsOf (c .before .before .before .before .before .before .args .table .now)) (repeatsMember (memberValues (c .before .before .before .before .before .before .args .m))) (c .before .before .before .before .loop .inv) (c .before .before .before .before .before .before .args .from + 2 * c .before .before .before .before .loop .i) (memberValues (c .before .before .member-at .result)) (c .before .repeats-member .result) (c .before .before .before .loop-test .taken) (omega arith) (c .before .before .member-at .ensures) (c .before .repeats-member .ensures) (c .if1 .taken)
+returns c =
+    let at-member-at = c .before .before in
+    let at-loop-test = at-member-at .before in
+    let at-loop = at-loop-test .before in
+    let at-start = at-loop .before .before in
+    record-found memberOf 2 (at-start .args .from) (wordsOf (at-start .args .table .now)) (repeatsMember (memberValues (at-start .args .m)))
+    (at-loop .loop .inv) (at-start .args .from + 2 * at-loop .loop .i) (memberValues (at-member-at .member-at .result))
+    (c .before .repeats-member .result) (at-loop-test .loop-test .taken) (omega arith) (at-member-at .member-at .ensures)
+    (c .before .repeats-member .ensures) (c .if1 .taken)
 
 add-i : tie.Need-add-i Inv-loop μ-loop
 add-i c = search needs
@@ -42,24 +50,24 @@ loop-less : tie.Need-loop-less Inv-loop μ-loop
 loop-less c = search needs
 
 loop-again : tie.Need-loop-again Inv-loop μ-loop
-loop-again c = record-passed memberOf 2 (c .before .before .before .before .before .before .args .from) (wordsOf (c .before .before .before .before .before .before .args .table .now)) (repeatsMember (memberValues (c .before .before .before .before .before .before .args .m))) (c .before .before .before .before .loop .inv) (c .before .before .before .before .before .before .args .from + 2 * c .before .before .before .before .loop .i) (memberValues (c .before .before .member-at .result)) (c .before .repeats-member .result) (c .before .before .before .loop-test .taken) (omega arith) (c .before .before .member-at .ensures) (c .before .repeats-member .ensures) (c .if1 .left)
+loop-again c =
+    let at-member-at = c .before .before in
+    let at-loop-test = at-member-at .before in
+    let at-loop = at-loop-test .before in
+    let at-start = at-loop .before .before in
+    record-passed memberOf 2 (at-start .args .from) (wordsOf (at-start .args .table .now))
+    (repeatsMember (memberValues (at-start .args .m))) (at-loop .loop .inv) (at-start .args .from + 2 * at-loop .loop .i)
+    (memberValues (at-member-at .member-at .result)) (c .before .repeats-member .result) (at-loop-test .loop-test .taken) (omega arith)
+    (at-member-at .member-at .ensures) (c .before .repeats-member .ensures) (c .if1 .left)
 
 returns-2 : tie.Need-returns-2 Inv-loop μ-loop
-returns-2 c = no-record-found memberOf 2 (c .before .before .before .args .from) (wordsOf (c .before .before .before .args .table .now)) (repeatsMember (memberValues (c .before .before .before .args .m))) (c .before .loop .inv) (c .loop-test .left)
+returns-2 c =
+    let at-start = c .before .before .before in
+    no-record-found memberOf 2 (at-start .args .from) (wordsOf (at-start .args .table .now))
+    (repeatsMember (memberValues (at-start .args .m))) (c .before .loop .inv) (c .loop-test .left)
 
 pub is-member-repeated-spec : {M : Type 1} → statement M
 is-member-repeated-spec =
     tie.close
-    (tie.spec
-    Inv-loop
-    μ-loop
-    loop-holds
-    mul-member-at
-    add-member-at
-    member-at-requires
-    repeats-member-requires
-    returns
-    add-i
-    loop-less
-    loop-again
-    returns-2)
+    (tie.spec Inv-loop μ-loop loop-holds mul-member-at add-member-at member-at-requires repeats-member-requires returns add-i loop-less
+    loop-again returns-2)

@@ -1,5 +1,5 @@
 -- `faults::repeats::is_vid_known` searches the VIDs one after the other. Assumes nothing.
-use Prim.Native.Nat.{_-_, _+_, _*_}
+use Prim.Native.Nat.{_-_, _+_}
 use native.Mathlib.Omega.{arith}
 use mathlib.Core.Path.{refl}
 use borrow.Author.Tests.{eq-eqb, ne-eqb}
@@ -29,7 +29,14 @@ vid-at-requires : tie.Need-vid-at-requires Inv-loop μ-loop
 vid-at-requires c κs = search needs
 
 returns : tie.Need-returns Inv-loop μ-loop
-returns c = record-found vidOf 1 (c .before .before .before .before .before .before .args .from) (wordsOf (c .before .before .before .before .before .before .args .table .now)) (hasVid (c .before .before .before .before .before .before .args .vid)) (c .before .before .before .before .loop .inv) (c .before .before .before .before .before .before .args .from + c .before .before .before .before .loop .i) (vidValues (c .before .before .vid-at .result)) _ (c .before .before .before .loop-test .taken) (omega arith) (c .before .before .vid-at .ensures) refl (eq-eqb _ _ (c .if1 .taken))
+returns c =
+    let at-vid-at = c .before .before in
+    let at-loop-test = at-vid-at .before in
+    let at-loop = at-loop-test .before in
+    let at-start = at-loop .before .before in
+    record-found vidOf 1 (at-start .args .from) (wordsOf (at-start .args .table .now)) (hasVid (at-start .args .vid)) (at-loop .loop .inv)
+    (at-start .args .from + at-loop .loop .i) (vidValues (at-vid-at .vid-at .result)) _ (at-loop-test .loop-test .taken) (omega arith)
+    (at-vid-at .vid-at .ensures) refl (eq-eqb _ _ (c .if1 .taken))
 
 add-i : tie.Need-add-i Inv-loop μ-loop
 add-i c = search needs
@@ -38,22 +45,22 @@ loop-less : tie.Need-loop-less Inv-loop μ-loop
 loop-less c = search needs
 
 loop-again : tie.Need-loop-again Inv-loop μ-loop
-loop-again c = record-passed vidOf 1 (c .before .before .before .before .before .before .args .from) (wordsOf (c .before .before .before .before .before .before .args .table .now)) (hasVid (c .before .before .before .before .before .before .args .vid)) (c .before .before .before .before .loop .inv) (c .before .before .before .before .before .before .args .from + c .before .before .before .before .loop .i) (vidValues (c .before .before .vid-at .result)) _ (c .before .before .before .loop-test .taken) (omega arith) (c .before .before .vid-at .ensures) refl (ne-eqb _ _ (c .if1 .left))
+loop-again c =
+    let at-vid-at = c .before .before in
+    let at-loop-test = at-vid-at .before in
+    let at-loop = at-loop-test .before in
+    let at-start = at-loop .before .before in
+    record-passed vidOf 1 (at-start .args .from) (wordsOf (at-start .args .table .now)) (hasVid (at-start .args .vid)) (at-loop .loop .inv)
+    (at-start .args .from + at-loop .loop .i) (vidValues (at-vid-at .vid-at .result)) _ (at-loop-test .loop-test .taken) (omega arith)
+    (at-vid-at .vid-at .ensures) refl (ne-eqb _ _ (c .if1 .left))
 
 returns-2 : tie.Need-returns-2 Inv-loop μ-loop
-returns-2 c = no-record-found vidOf 1 (c .before .before .before .args .from) (wordsOf (c .before .before .before .args .table .now)) (hasVid (c .before .before .before .args .vid)) (c .before .loop .inv) (c .loop-test .left)
+returns-2 c =
+    let at-start = c .before .before .before in
+    no-record-found vidOf 1 (at-start .args .from) (wordsOf (at-start .args .table .now)) (hasVid (at-start .args .vid))
+    (c .before .loop .inv) (c .loop-test .left)
 
 pub is-vid-known-spec : {M : Type 1} → statement M
 is-vid-known-spec =
     tie.close
-    (tie.spec
-    Inv-loop
-    μ-loop
-    loop-holds
-    add-vid-at
-    vid-at-requires
-    returns
-    add-i
-    loop-less
-    loop-again
-    returns-2)
+    (tie.spec Inv-loop μ-loop loop-holds add-vid-at vid-at-requires returns add-i loop-less loop-again returns-2)

@@ -1,8 +1,7 @@
 -- `figures::entry_lists::write_star` stays within the bytes. Assumes nothing.
 use borrow.Author.Needs.{needs}
 use Prim.Native.Nat.{_-_, _≤_}
-use native.Mathlib.Omega.{arith}
-use mathlib.Core.Path.{_≡_, refl}
+use mathlib.Core.Path.{_≡_}
 use lib.ListN.{length}
 use Rattle.figures.proofs.entry_lists.write_star.Statement.{statement}
 use Rattle.figures.proofs.entry_lists.write_star.Tie as tie
@@ -43,15 +42,4 @@ returns c = search needs
 pub write-star-spec : {M : Type 1} → statement M
 write-star-spec =
     tie.close
-    (tie.spec
-    Inv-loop
-    μ-loop
-    loop-holds
-    cast-word-of
-    word-of-requires
-    put-word-requires
-    add-n
-    loop-less
-    loop-again
-    same-length
-    returns)
+    (tie.spec Inv-loop μ-loop loop-holds cast-word-of word-of-requires put-word-requires add-n loop-less loop-again same-length returns)

@@ -24,7 +24,13 @@ array-share-prefix-line : tie.Need-array-share-prefix-line
 array-share-prefix-line c = search needs
 
 slice-aggregate-write-all : tie.Need-slice-aggregate-write-all
-slice-aggregate-write-all c = simp length-take (omega (arith, (c .before .before .write-answer .ensures), (c .before .before .before .before .before .before .write-word .ensures .end-is), (c .before .before .before .before .before .before .before .before .before .before .before .before .before .before .before .pre .0), (c .before .before .before .before .before .before .before .before .before .before .before .before .before .before .before .pre .1)))
+slice-aggregate-write-all c =
+    let at-write-answer = c .before .before in
+    let at-write-word = at-write-answer .before .before .before .before in
+    let at-start = at-write-word .before .before .before .before .before .before .before .before .before in
+    let (name-length, list-length) = at-start .pre in
+    simp length-take
+    (omega (arith, (at-write-answer .write-answer .ensures), (at-write-word .write-word .ensures .end-is), name-length, list-length))
 
 write-all-requires : tie.Need-write-all-requires
 write-all-requires c κs = search needs
@@ -38,14 +44,5 @@ returns c = search needs
 pub print-path-spec : {M : Type 1} → statement M
 print-path-spec =
     tie.close
-    (tie.spec
-    path-requires
-    slice-aggregate-write-word
-    write-word-requires
-    slice-aggregate-write-answer
-    write-answer-requires
-    array-share-prefix-line
-    slice-aggregate-write-all
-    write-all-requires
-    same-length
-    returns)
+    (tie.spec path-requires slice-aggregate-write-word write-word-requires slice-aggregate-write-answer write-answer-requires
+    array-share-prefix-line slice-aggregate-write-all write-all-requires same-length returns)

@@ -1,8 +1,7 @@
 -- `figures::paths::write_words` stays within the bytes. Assumes nothing.
 use borrow.Author.Needs.{needs}
 use Prim.Native.Nat.{_-_, _≤_}
-use native.Mathlib.Omega.{arith}
-use mathlib.Core.Path.{_≡_, refl}
+use mathlib.Core.Path.{_≡_}
 use lib.ListN.{length}
 use Rattle.figures.proofs.paths.write_words.Statement.{statement}
 use Rattle.figures.proofs.paths.write_words.Tie as tie
@@ -43,15 +42,5 @@ returns c = search needs
 pub write-words-spec : {M : Type 1} → statement M
 write-words-spec =
     tie.close
-    (tie.spec
-    Inv-loop
-    μ-loop
-    loop-holds
-    mul-put-word
-    shared-slice-read-put-word
-    put-word-requires
-    add-n
-    loop-less
-    loop-again
-    same-length
+    (tie.spec Inv-loop μ-loop loop-holds mul-put-word shared-slice-read-put-word put-word-requires add-n loop-less loop-again same-length
     returns)

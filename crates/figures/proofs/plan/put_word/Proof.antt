@@ -59,21 +59,5 @@ returns c = search needs
 pub put-word-spec : {M : Type 1} → statement M
 put-word-spec =
     tie.close
-    (tie.spec
-    cast-table
-    mul-table
-    slice-write-table
-    cast-table-2
-    mul-table-2
-    add-table
-    slice-write-table-2
-    cast-table-3
-    mul-table-3
-    add-table-2
-    slice-write-table-3
-    cast-table-4
-    mul-table-4
-    add-table-3
-    slice-write-table-4
-    same-length
-    returns)
+    (tie.spec cast-table mul-table slice-write-table cast-table-2 mul-table-2 add-table slice-write-table-2 cast-table-3 mul-table-3
+    add-table-2 slice-write-table-3 cast-table-4 mul-table-4 add-table-3 slice-write-table-4 same-length returns)

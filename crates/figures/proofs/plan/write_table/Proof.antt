@@ -1,8 +1,7 @@
 -- `figures::plan::write_table` stays within the bytes: their number stays the same. Assumes nothing.
 use Prim.Native.Nat.{_-_, _≤_}
-use mathlib.Core.Path.{_≡_, refl}
+use mathlib.Core.Path.{_≡_}
 use lib.ListN.{length}
-use native.Mathlib.Omega.{arith}
 use borrow.Author.Needs.{needs}
 use Rattle.figures.proofs.plan.write_table.Statement.{statement}
 use Rattle.figures.proofs.plan.write_table.Tie as tie
@@ -49,17 +48,5 @@ returns c = search needs
 pub write-table-spec : {M : Type 1} → statement M
 write-table-spec =
     tie.close
-    (tie.spec
-    Inv-loop
-    μ-loop
-    words-read-requires
-    add-words
-    loop-holds
-    cast-word-of
-    word-of-requires
-    put-word-requires
-    add-n
-    loop-less
-    loop-again
-    same-length
-    returns)
+    (tie.spec Inv-loop μ-loop words-read-requires add-words loop-holds cast-word-of word-of-requires put-word-requires add-n loop-less
+    loop-again same-length returns)

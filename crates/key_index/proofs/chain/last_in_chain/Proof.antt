@@ -12,7 +12,9 @@ abbrev μ-loop : tie.MeasureT-loop
 μ-loop index count from key place₀ place = place
 
 loop-holds : tie.Need-loop-holds Inv-loop μ-loop
-loop-holds c = follows (c .pre .1)
+loop-holds c =
+    let (_, in-chain) = c .pre in
+    follows in-chain
 
 cast-at : tie.Need-cast-at Inv-loop μ-loop
 cast-at c = search needs
@@ -27,7 +29,10 @@ shared-slice-read-if1 : tie.Need-shared-slice-read-if1 Inv-loop μ-loop
 shared-slice-read-if1 c = search needs
 
 returns : tie.Need-returns Inv-loop μ-loop
-returns c = follows-to-key (c .before .before .before .loop .inv) (c .before .before .loop-test .taken) (c .if1 .taken)
+returns c =
+    let at-loop-test = c .before .before in
+    let at-loop = at-loop-test .before in
+    follows-to-key (at-loop .loop .inv) (at-loop-test .loop-test .taken) (c .if1 .taken)
 
 add-place : tie.Need-add-place Inv-loop μ-loop
 add-place c = search needs
@@ -39,10 +44,20 @@ shared-slice-read-place : tie.Need-shared-slice-read-place Inv-loop μ-loop
 shared-slice-read-place c = search needs
 
 loop-less : tie.Need-loop-less Inv-loop μ-loop
-loop-less c = follows-less (c .before .before .before .before .loop .inv) (c .before .before .before .before .before .pre .0) (c .before .before .before .loop-test .taken)
+loop-less c =
+    let at-loop-test = c .before .before .before in
+    let at-loop = at-loop-test .before in
+    let at-start = at-loop .before in
+    let (indexed, _) = at-start .pre in
+    follows-less (at-loop .loop .inv) indexed (at-loop-test .loop-test .taken)
 
 loop-again : tie.Need-loop-again Inv-loop μ-loop
-loop-again c = follows-on (c .before .before .before .before .loop .inv) (c .before .before .before .before .before .pre .0) (c .before .before .before .loop-test .taken) (c .before .if1 .left)
+loop-again c =
+    let at-loop-test = c .before .before .before in
+    let at-loop = at-loop-test .before in
+    let at-start = at-loop .before in
+    let (indexed, _) = at-start .pre in
+    follows-on (at-loop .loop .inv) indexed (at-loop-test .loop-test .taken) (c .before .if1 .left)
 
 returns-2 : tie.Need-returns-2 Inv-loop μ-loop
 returns-2 c = follows-to-none (c .before .loop .inv) (omega arith)
@@ -50,18 +65,5 @@ returns-2 c = follows-to-none (c .before .loop .inv) (omega arith)
 pub last-in-chain-spec : {M : Type 1} → statement M
 last-in-chain-spec =
     tie.close
-    (tie.spec
-    Inv-loop
-    μ-loop
-    loop-holds
-    cast-at
-    add-if1
-    mul-if1
-    shared-slice-read-if1
-    returns
-    add-place
-    mul-place
-    shared-slice-read-place
-    loop-less
-    loop-again
-    returns-2)
+    (tie.spec Inv-loop μ-loop loop-holds cast-at add-if1 mul-if1 shared-slice-read-if1 returns add-place mul-place shared-slice-read-place
+    loop-less loop-again returns-2)

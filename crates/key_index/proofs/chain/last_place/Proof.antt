@@ -18,18 +18,18 @@ shared-slice-read-last-in-chain : tie.Need-shared-slice-read-last-in-chain
 shared-slice-read-last-in-chain c = search needs
 
 last-in-chain-requires : tie.Need-last-in-chain-requires
-last-in-chain-requires c κs = (c .before .before .before .pre, begins (c .before .before .before .pre) (c .before .before .before .args .key) (c .before .chain-of .result) (c .before .chain-of .ensures .0) .0)
+last-in-chain-requires c κs =
+    let at-start = c .before .before .before in
+    (at-start .pre, begins (at-start .pre) (at-start .args .key) (c .before .chain-of .result) (c .before .chain-of .ensures .0) .0)
 
 returns : tie.Need-returns
-returns c = c .last-in-chain .ensures ∙ begins (c .before .before .before .before .pre) (c .before .before .before .before .args .key) (c .before .before .chain-of .result) (c .before .before .chain-of .ensures .0) .1
+returns c =
+    let at-chain-of = c .before .before in
+    let at-start = at-chain-of .before .before in
+    let (chain-of-is, _) = at-chain-of .chain-of .ensures in
+    c .last-in-chain .ensures ∙ begins (at-start .pre) (at-start .args .key) (at-chain-of .chain-of .result) chain-of-is .1
 
 pub last-place-spec : {M : Type 1} → statement M
 last-place-spec =
     tie.close
-    (tie.spec
-    chain-of-requires
-    cast-chain
-    mul-last-in-chain
-    shared-slice-read-last-in-chain
-    last-in-chain-requires
-    returns)
+    (tie.spec chain-of-requires cast-chain mul-last-in-chain shared-slice-read-last-in-chain last-in-chain-requires returns)

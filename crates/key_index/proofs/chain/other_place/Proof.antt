@@ -18,22 +18,25 @@ last-place-requires : tie.Need-last-place-requires
 last-place-requires c κs = search needs
 
 returns : tie.Need-returns
-returns c = other-is-last (c .before .before .before .before .args .index .now) (c .before .before .before .before .args .count) (c .before .before .before .before .args .place) (c .before .last-place .result) (c .before .before .before .before .pre .1) (c .before .before .before .before .pre .2) (c .before .last-place .ensures) (c .if1 .taken)
+returns c =
+    let at-start = c .before .before .before .before in
+    let (_, place-least, place-bound) = at-start .pre in
+    other-is-last (at-start .args .index .now) (at-start .args .count) (at-start .args .place) (c .before .last-place .result) place-least
+    place-bound (c .before .last-place .ensures) (c .if1 .taken)
 
 place-before-requires : tie.Need-place-before-requires
 place-before-requires c κs = search needs
 
 returns-2 : tie.Need-returns-2
-returns-2 c = c .place-before .ensures ∙ other-is-before (c .before .before .before .before .before .args .index .now) (c .before .before .before .before .before .args .count) (c .before .before .before .before .before .args .place) (c .before .before .last-place .result) (c .before .before .before .before .before .pre .1) (c .before .before .before .before .before .pre .2) (c .before .before .last-place .ensures) (c .before .if1 .left)
+returns-2 c =
+    let at-last-place = c .before .before in
+    let at-start = at-last-place .before .before .before in
+    let (_, place-least, place-bound) = at-start .pre in
+    c .place-before .ensures
+    ∙ other-is-before (at-start .args .index .now) (at-start .args .count) (at-start .args .place) (at-last-place .last-place .result)
+    place-least place-bound (at-last-place .last-place .ensures) (c .before .if1 .left)
 
 pub other-place-spec : {M : Type 1} → statement M
 other-place-spec =
     tie.close
-    (tie.spec
-    add-last-place
-    mul-last-place
-    shared-slice-read-last-place
-    last-place-requires
-    returns
-    place-before-requires
-    returns-2)
+    (tie.spec add-last-place mul-last-place shared-slice-read-last-place last-place-requires returns place-before-requires returns-2)

@@ -24,20 +24,19 @@ shared-slice-read-last-in-chain-2 : tie.Need-shared-slice-read-last-in-chain-2
 shared-slice-read-last-in-chain-2 c = search needs
 
 last-in-chain-requires : tie.Need-last-in-chain-requires
-last-in-chain-requires c κs = (c .before .before .before .pre .0, goes-back (c .before .before .before .pre .0) (c .before .before .before .args .place) (c .before .before .before .pre .1) (c .before .before .before .pre .2) .0)
+last-in-chain-requires c κs =
+    let at-start = c .before .before .before in
+    let (indexed, place-least, place-bound) = at-start .pre in
+    (indexed, goes-back indexed (at-start .args .place) place-least place-bound .0)
 
 returns : tie.Need-returns
-returns c = c .last-in-chain .ensures ∙ goes-back (c .before .before .before .before .pre .0) (c .before .before .before .before .args .place) (c .before .before .before .before .pre .1) (c .before .before .before .before .pre .2) .1
+returns c =
+    let at-start = c .before .before .before .before in
+    let (indexed, place-least, place-bound) = at-start .pre in
+    c .last-in-chain .ensures ∙ goes-back indexed (at-start .args .place) place-least place-bound .1
 
 pub place-before-spec : {M : Type 1} → statement M
 place-before-spec =
     tie.close
-    (tie.spec
-    add-last-in-chain
-    mul-last-in-chain
-    shared-slice-read-last-in-chain
-    add-last-in-chain-2
-    mul-last-in-chain-2
-    shared-slice-read-last-in-chain-2
-    last-in-chain-requires
-    returns)
+    (tie.spec add-last-in-chain mul-last-in-chain shared-slice-read-last-in-chain add-last-in-chain-2 mul-last-in-chain-2
+    shared-slice-read-last-in-chain-2 last-in-chain-requires returns)

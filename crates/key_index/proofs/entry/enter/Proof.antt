@@ -52,25 +52,13 @@ same-length : tie.Need-same-length
 same-length c = search needs
 
 returns : tie.Need-returns
-returns c = entered-in (c .before .before .before .pre .0) (c .before .before .before .pre .1) (c .before .before .before .args .key) (c .before .chain-of .result) (c .before .chain-of .ensures .0)
+returns c =
+    let at-start = c .before .before .before in
+    let (indexed, count-bound) = at-start .pre in
+    entered-in indexed count-bound (at-start .args .key) (c .before .chain-of .result) (c .before .chain-of .ensures .0)
 
 pub enter-spec : {M : Type 1} → statement M
 enter-spec =
     tie.close
-    (tie.spec
-    chain-of-requires
-    cast-chain
-    mul-index
-    slice-read-index
-    add-index
-    mul-index-2
-    slice-write-index
-    add-index-2
-    mul-index-3
-    slice-write-index-2
-    cast-index
-    add-index-3
-    mul-index-4
-    slice-write-index-3
-    same-length
-    returns)
+    (tie.spec chain-of-requires cast-chain mul-index slice-read-index add-index mul-index-2 slice-write-index add-index-2 mul-index-3
+    slice-write-index-2 cast-index add-index-3 mul-index-4 slice-write-index-3 same-length returns)

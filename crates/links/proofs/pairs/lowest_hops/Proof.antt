@@ -12,10 +12,17 @@ abbrev μ-loop : tie.MeasureT-loop
 μ-loop table s link-index pairs₀ i₀ pairs i = s .«half_links» - i
 
 loop-holds : tie.Need-loop-holds Inv-loop μ-loop
-loop-holds c = offering-starts (c .before .before .before .pre .0) (c .before .before .before .pre .1)
+loop-holds c =
+    let at-start = c .before .before .before in
+    let (checked, cleared, _) = at-start .pre in
+    offering-starts checked cleared
 
 offer-requires : tie.Need-offer-requires Inv-loop μ-loop
-offer-requires c κs = (c .before .before .before .before .before .before .before .pre .0, c .before .if1 .taken, c .before .before .before .loop .inv .so-far .size, c .before .before .before .before .before .before .before .pre .2)
+offer-requires c κs =
+    let at-loop = c .before .before .before in
+    let at-start = at-loop .before .before .before .before in
+    let (checked, _, link-index) = at-start .pre in
+    (checked, c .before .if1 .taken, at-loop .loop .inv .so-far .size, link-index)
 
 add-i : tie.Need-add-i Inv-loop μ-loop
 add-i c = search needs
@@ -24,24 +31,25 @@ loop-less : tie.Need-loop-less Inv-loop μ-loop
 loop-less c = search needs
 
 loop-again : tie.Need-loop-again Inv-loop μ-loop
-loop-again c = offering-goes-on (c .before .before .before .before .before .before .before .before .before .before .pre .0) (c .before .before .before .before .before .before .loop .inv) (c .before .before .before .before .if1 .taken) _ (c .before .before .offer .ensures)
+loop-again c =
+    let at-offer = c .before .before in
+    let at-if1 = at-offer .before .before in
+    let at-loop = at-if1 .before .before in
+    let at-start = at-loop .before .before .before .before in
+    let (checked, _, _) = at-start .pre in
+    offering-goes-on checked (at-loop .loop .inv) (at-if1 .if1 .taken) _ (at-offer .offer .ensures)
 
 same-length : tie.Need-same-length Inv-loop μ-loop
 same-length c = search needs
 
 returns : tie.Need-returns Inv-loop μ-loop
-returns c = offering-ends (c .before .before .before .before .before .before .pre .0) (c .before .before .loop .inv) (c .if1 .left)
+returns c =
+    let at-loop = c .before .before in
+    let at-start = at-loop .before .before .before .before in
+    let (checked, _, _) = at-start .pre in
+    offering-ends checked (at-loop .loop .inv) (c .if1 .left)
 
 pub lowest-hops-spec : {M : Type 1} → statement M
 lowest-hops-spec =
     tie.close
-    (tie.spec
-    Inv-loop
-    μ-loop
-    loop-holds
-    offer-requires
-    add-i
-    loop-less
-    loop-again
-    same-length
-    returns)
+    (tie.spec Inv-loop μ-loop loop-holds offer-requires add-i loop-less loop-again same-length returns)

@@ -34,14 +34,13 @@ is-usable-requires c κs = search needs
 
 returns : tie.Need-returns
 returns c =
-    let at-is-usable = c .before in
-    let at-link-metric = at-is-usable .before in
+    let at-link-metric = c .before .before in
     let at-half-link = at-link-metric .before .before .before in
     let at-start = at-half-link .before .before .before .before in
     offered-unusable (planAt (wordsOf (at-start .args .table .now)) (at-start .args .s) .halfLinks) (at-start .args .pairs .now)
     (halfLinkNumber (wordsOf (at-start .args .table .now)) (at-start .args .s) (at-start .args .i))
-    (halfLinkValues (at-half-link .half-link .result)) (at-half-link .half-link .ensures) (at-link-metric .link-metric .result .0) (at-link-metric .link-metric .ensures)
-    (sym (not-true _ (c .if1 .taken)) ∙ at-is-usable .is-usable .ensures)
+    (halfLinkValues (at-half-link .half-link .result)) (at-half-link .half-link .ensures) (at-link-metric .link-metric .result .0)
+    (at-link-metric .link-metric .ensures) (sym (not-true _ (c .if1 .taken)) ∙ c .before .is-usable .ensures)
 
 mul-lesser : tie.Need-mul-lesser
 mul-lesser c = search needs
@@ -50,16 +49,22 @@ slice-read-lesser : tie.Need-slice-read-lesser
 slice-read-lesser c =
     let at-half-link = c .before .before .before .before .before .before in
     let at-start = at-half-link .before .before .before .before in
-    omega (arith, at-start .pre .2, place-there (at-start .pre .0) (at-start .args .i) (at-start .pre .1) (halfLinkValues (at-half-link .half-link .result)) (at-half-link .half-link .ensures))
+    let (checked, i-bound, pairs-room, _) = at-start .pre in
+    omega (
+      arith,
+      pairs-room,
+      place-there checked (at-start .args .i) i-bound (halfLinkValues (at-half-link .half-link .result)) (at-half-link .half-link .ensures),
+    )
 
 hop-number-requires : tie.Need-hop-number-requires
 hop-number-requires c κs =
-    let at-if1 = c .before in
-    let at-is-usable = at-if1 .before in
+    let at-is-usable = c .before .before in
     let at-link-metric = at-is-usable .before in
     let at-half-link = at-link-metric .before .before .before in
     let at-start = at-half-link .before .before .before .before in
-    hop-fits (at-start .pre .0) (at-start .args .i) (at-start .pre .1) (halfLinkValues (at-half-link .half-link .result)) (at-half-link .half-link .ensures) (at-link-metric .link-metric .result .0) (sym (not-false _ (at-if1 .if1 .left)) ∙ at-is-usable .is-usable .ensures)
+    let (checked, i-bound, _, _) = at-start .pre in
+    hop-fits checked (at-start .args .i) i-bound (halfLinkValues (at-half-link .half-link .result)) (at-half-link .half-link .ensures)
+    (at-link-metric .link-metric .result .0) (sym (not-false _ (c .before .if1 .left)) ∙ at-is-usable .is-usable .ensures)
 
 lesser-requires : tie.Need-lesser-requires
 lesser-requires c κs = search needs
@@ -71,41 +76,31 @@ slice-write-pairs : tie.Need-slice-write-pairs
 slice-write-pairs c =
     let at-half-link = c .before .before .before .before .before .before .before .before in
     let at-start = at-half-link .before .before .before .before in
-    omega (arith, at-start .pre .2, place-there (at-start .pre .0) (at-start .args .i) (at-start .pre .1) (halfLinkValues (at-half-link .half-link .result)) (at-half-link .half-link .ensures))
+    let (checked, i-bound, pairs-room, _) = at-start .pre in
+    omega (
+      arith,
+      pairs-room,
+      place-there checked (at-start .args .i) i-bound (halfLinkValues (at-half-link .half-link .result)) (at-half-link .half-link .ensures),
+    )
 
 same-length : tie.Need-same-length
 same-length c = search needs
 
 returns-2 : tie.Need-returns-2
 returns-2 c =
-    let at-hop-number = c .before in
-    let at-if1 = at-hop-number .before .before in
+    let at-if1 = c .before .before .before in
     let at-is-usable = at-if1 .before in
     let at-link-metric = at-is-usable .before in
     let at-half-link = at-link-metric .before .before .before in
     let at-start = at-half-link .before .before .before .before in
     offered-usable (planAt (wordsOf (at-start .args .table .now)) (at-start .args .s) .halfLinks) (at-start .args .pairs .now)
     (halfLinkNumber (wordsOf (at-start .args .table .now)) (at-start .args .s) (at-start .args .i))
-    (halfLinkValues (at-half-link .half-link .result)) (at-half-link .half-link .ensures) (at-link-metric .link-metric .result .0) (at-link-metric .link-metric .ensures)
-    (sym (not-false _ (at-if1 .if1 .left)) ∙ at-is-usable .is-usable .ensures) (at-hop-number .hop-number .result) (c .lesser .result) (at-hop-number .hop-number .ensures) (c .lesser .ensures)
+    (halfLinkValues (at-half-link .half-link .result)) (at-half-link .half-link .ensures) (at-link-metric .link-metric .result .0)
+    (at-link-metric .link-metric .ensures) (sym (not-false _ (at-if1 .if1 .left)) ∙ at-is-usable .is-usable .ensures)
+    (c .before .hop-number .result) (c .lesser .result) (c .before .hop-number .ensures) (c .lesser .ensures)
 
 pub offer-spec : {M : Type 1} → statement M
 offer-spec =
     tie.close
-    (tie.spec
-    half-link-requires
-    cast-at
-    mul-at
-    cast-at-2
-    add-at
-    link-metric-requires
-    is-usable-requires
-    returns
-    mul-lesser
-    slice-read-lesser
-    hop-number-requires
-    lesser-requires
-    mul-pairs
-    slice-write-pairs
-    same-length
-    returns-2)
+    (tie.spec half-link-requires cast-at mul-at cast-at-2 add-at link-metric-requires is-usable-requires returns mul-lesser
+    slice-read-lesser hop-number-requires lesser-requires mul-pairs slice-write-pairs same-length returns-2)

@@ -13,27 +13,46 @@ half-link-requires : tie.Need-half-link-requires
 half-link-requires c κs = search needs
 
 returns : tie.Need-returns
-returns c = counted-higher (planAt (wordsOf (c .before .before .before .before .before .args .table .now)) (c .before .before .before .before .before .args .s) .halfLinks) (halfLinkNumber (wordsOf (c .before .before .before .before .before .args .table .now)) (c .before .before .before .before .before .args .s) (c .before .before .before .before .before .args .i)) (halfLinkValues (c .before .before .half-link .result)) (c .before .before .half-link .ensures) (c .if1 .taken)
+returns c =
+    let at-half-link = c .before .before in
+    let at-start = at-half-link .before .before .before in
+    counted-higher (planAt (wordsOf (at-start .args .table .now)) (at-start .args .s) .halfLinks)
+    (halfLinkNumber (wordsOf (at-start .args .table .now)) (at-start .args .s) (at-start .args .i))
+    (halfLinkValues (at-half-link .half-link .result)) (at-half-link .half-link .ensures) (c .if1 .taken)
 
 link-metric-requires : tie.Need-link-metric-requires
-link-metric-requires c κs = (c .before .before .before .before .before .pre .0, c .before .before .before .before .before .pre .1, c .before .before .half-link .ensures, c .before .before .before .before .before .pre .2)
+link-metric-requires c κs =
+    let at-half-link = c .before .before in
+    let at-start = at-half-link .before .before .before in
+    let (checked, i-bound, link-index) = at-start .pre in
+    (checked, i-bound, at-half-link .half-link .ensures, link-index)
 
 is-usable-requires : tie.Need-is-usable-requires
 is-usable-requires c κs = search needs
 
 returns-2 : tie.Need-returns-2
-returns-2 c = counted-usable (planAt (wordsOf (c .before .before .before .before .before .before .before .before .args .table .now)) (c .before .before .before .before .before .before .before .before .args .s) .halfLinks) (halfLinkNumber (wordsOf (c .before .before .before .before .before .before .before .before .args .table .now)) (c .before .before .before .before .before .before .before .before .args .s) (c .before .before .before .before .before .before .before .before .args .i)) (halfLinkValues (c .before .before .before .before .before .half-link .result)) (c .before .before .before .before .before .half-link .ensures) (c .before .before .before .if1 .left) (c .before .before .link-metric .result .0) (c .before .before .link-metric .ensures) (sym (c .if2 .taken) ∙ c .before .is-usable .ensures)
+returns-2 c =
+    let at-link-metric = c .before .before in
+    let at-if1 = at-link-metric .before in
+    let at-half-link = at-if1 .before .before in
+    let at-start = at-half-link .before .before .before in
+    counted-usable (planAt (wordsOf (at-start .args .table .now)) (at-start .args .s) .halfLinks)
+    (halfLinkNumber (wordsOf (at-start .args .table .now)) (at-start .args .s) (at-start .args .i))
+    (halfLinkValues (at-half-link .half-link .result)) (at-half-link .half-link .ensures) (at-if1 .if1 .left)
+    (at-link-metric .link-metric .result .0) (at-link-metric .link-metric .ensures) (sym (c .if2 .taken) ∙ c .before .is-usable .ensures)
 
 returns-3 : tie.Need-returns-3
-returns-3 c = counted-unusable (planAt (wordsOf (c .before .before .before .before .before .before .before .before .args .table .now)) (c .before .before .before .before .before .before .before .before .args .s) .halfLinks) (halfLinkNumber (wordsOf (c .before .before .before .before .before .before .before .before .args .table .now)) (c .before .before .before .before .before .before .before .before .args .s) (c .before .before .before .before .before .before .before .before .args .i)) (halfLinkValues (c .before .before .before .before .before .half-link .result)) (c .before .before .before .before .before .half-link .ensures) (c .before .before .before .if1 .left) (c .before .before .link-metric .result .0) (c .before .before .link-metric .ensures) (sym (c .if2 .left) ∙ c .before .is-usable .ensures)
+returns-3 c =
+    let at-link-metric = c .before .before in
+    let at-if1 = at-link-metric .before in
+    let at-half-link = at-if1 .before .before in
+    let at-start = at-half-link .before .before .before in
+    counted-unusable (planAt (wordsOf (at-start .args .table .now)) (at-start .args .s) .halfLinks)
+    (halfLinkNumber (wordsOf (at-start .args .table .now)) (at-start .args .s) (at-start .args .i))
+    (halfLinkValues (at-half-link .half-link .result)) (at-half-link .half-link .ensures) (at-if1 .if1 .left)
+    (at-link-metric .link-metric .result .0) (at-link-metric .link-metric .ensures) (sym (c .if2 .left) ∙ c .before .is-usable .ensures)
 
 pub count-one-spec : {M : Type 1} → statement M
 count-one-spec =
     tie.close
-    (tie.spec
-    half-link-requires
-    returns
-    link-metric-requires
-    is-usable-requires
-    returns-2
-    returns-3)
+    (tie.spec half-link-requires returns link-metric-requires is-usable-requires returns-2 returns-3)

@@ -16,13 +16,27 @@ abbrev μ-loop : tie.MeasureT-loop
 μ-loop table s links count₀ i₀ count i = s .«half_links» - i
 
 loop-holds : tie.Need-loop-holds Inv-loop μ-loop
-loop-holds c = counting-starts (wordsOf (c .before .before .args .table .now)) (c .before .before .args .s)
+loop-holds c =
+    let at-start = c .before .before in
+    counting-starts (wordsOf (at-start .args .table .now)) (at-start .args .s)
 
 count-one-requires : tie.Need-count-one-requires Inv-loop μ-loop
 count-one-requires c κs = search needs
 
 add-count : tie.Need-add-count Inv-loop μ-loop
-add-count c = omega (arith, c .count-one .ensures, counted-most (planAt (wordsOf (c .before .before .before .before .before .before .args .table .now)) (c .before .before .before .before .before .before .args .s) .halfLinks) (halfLinkNumber (wordsOf (c .before .before .before .before .before .before .args .table .now)) (c .before .before .before .before .before .before .args .s) (c .before .before .before .loop .i)), c .before .before .before .loop .inv .most, c .before .before .before .before .before .before .pre .0 .whole .bounded, c .before .before .before .before .before .before .pre .0 .whole .within)
+add-count c =
+    let at-loop = c .before .before .before in
+    let at-start = at-loop .before .before .before in
+    let (checked, _) = at-start .pre in
+    omega (
+      arith,
+      c .count-one .ensures,
+      counted-most (planAt (wordsOf (at-start .args .table .now)) (at-start .args .s) .halfLinks)
+          (halfLinkNumber (wordsOf (at-start .args .table .now)) (at-start .args .s) (at-loop .loop .i)),
+      at-loop .loop .inv .most,
+      checked .whole .bounded,
+      checked .whole .within,
+    )
 
 add-i : tie.Need-add-i Inv-loop μ-loop
 add-i c = search needs
@@ -31,21 +45,20 @@ loop-less : tie.Need-loop-less Inv-loop μ-loop
 loop-less c = search needs
 
 loop-again : tie.Need-loop-again Inv-loop μ-loop
-loop-again c = counting-goes-on (wordsOf (c .before .before .before .before .before .before .args .table .now)) (c .before .before .before .before .before .before .args .s) (c .before .before .before .loop .inv) (c .count-one .result) (c .before .if1 .taken) (c .count-one .ensures)
+loop-again c =
+    let at-loop = c .before .before .before in
+    let at-start = at-loop .before .before .before in
+    counting-goes-on (wordsOf (at-start .args .table .now)) (at-start .args .s) (at-loop .loop .inv) (c .count-one .result)
+    (c .before .if1 .taken) (c .count-one .ensures)
 
 returns : tie.Need-returns Inv-loop μ-loop
-returns c = counting-ends (wordsOf (c .before .before .before .before .before .args .table .now)) (c .before .before .before .before .before .args .s) (c .before .before .loop .inv) (c .before .before .before .before .before .pre .0 .laws) (c .if1 .left)
+returns c =
+    let at-loop = c .before .before in
+    let at-start = at-loop .before .before .before in
+    let (checked, _) = at-start .pre in
+    counting-ends (wordsOf (at-start .args .table .now)) (at-start .args .s) (at-loop .loop .inv) (checked .laws) (c .if1 .left)
 
 pub count-usable-spec : {M : Type 1} → statement M
 count-usable-spec =
     tie.close
-    (tie.spec
-    Inv-loop
-    μ-loop
-    loop-holds
-    count-one-requires
-    add-count
-    add-i
-    loop-less
-    loop-again
-    returns)
+    (tie.spec Inv-loop μ-loop loop-holds count-one-requires add-count add-i loop-less loop-again returns)

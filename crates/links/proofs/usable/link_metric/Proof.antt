@@ -17,7 +17,10 @@ other-place-requires : tie.Need-other-place-requires
 other-place-requires c κs = search needs
 
 returns : tie.Need-returns
-returns c = metric-alone (c .before .before .before .before .pre .0) (c .before .before .before .before .pre .3) (c .before .before .before .before .args .i) (c .before .before .before .before .pre .1) (halfLinkValues (c .before .before .before .before .args .h)) (c .before .before .before .before .pre .2) (c .before .other-place .result) (c .before .other-place .ensures) (c .if1 .taken)
+returns c =
+    let at-start = c .before .before .before .before in
+    metric-alone (at-start .pre .0) (at-start .pre .3) (at-start .args .i) (at-start .pre .1) (halfLinkValues (at-start .args .h))
+    (at-start .pre .2) (c .before .other-place .result) (c .before .other-place .ensures) (c .if1 .taken)
 
 cast-half-link : tie.Need-cast-half-link
 cast-half-link c = search needs
@@ -26,24 +29,31 @@ sub-half-link : tie.Need-sub-half-link
 sub-half-link c = search needs
 
 half-link-requires : tie.Need-half-link-requires
-half-link-requires c κs = (c .before .before .before .before .pre .0 .whole, omega (arith, mate-within (c .before .before .before .before .pre .0) (c .before .before .before .before .pre .3) (c .before .before .before .before .args .i) (c .before .before .before .before .pre .1) (halfLinkValues (c .before .before .before .before .args .h)) (c .before .before .before .before .pre .2) (c .before .other-place .result) (c .before .other-place .ensures)))
+half-link-requires c κs =
+    let at-start = c .before .before .before .before in (
+      at-start .pre .0 .whole,
+      omega (
+        arith,
+        mate-within (at-start .pre .0) (at-start .pre .3) (at-start .args .i) (at-start .pre .1) (halfLinkValues (at-start .args .h))
+            (at-start .pre .2) (c .before .other-place .result) (c .before .other-place .ensures),
+      ),
+    )
 
 combined-requires : tie.Need-combined-requires
 combined-requires c κs = search needs
 
 returns-2 : tie.Need-returns-2
-returns-2 c = c .combined .ensures ∙ metric-linked (c .before .before .before .before .before .before .pre .0) (c .before .before .before .before .before .before .pre .3) (c .before .before .before .before .before .before .args .i) (c .before .before .before .before .before .before .pre .1) (halfLinkValues (c .before .before .before .before .before .before .args .h)) (c .before .before .before .before .before .before .pre .2) (c .before .before .before .other-place .result) (c .before .before .before .other-place .ensures) (c .before .before .if1 .left) (halfLinkValues (c .before .half-link .result)) (c .before .half-link .ensures)
+returns-2 c =
+    let at-if1 = c .before .before in
+    let at-other-place = at-if1 .before in
+    let at-start = at-other-place .before .before .before in
+    c .combined .ensures
+    ∙ metric-linked (at-start .pre .0) (at-start .pre .3) (at-start .args .i) (at-start .pre .1) (halfLinkValues (at-start .args .h))
+    (at-start .pre .2) (at-other-place .other-place .result) (at-other-place .other-place .ensures) (at-if1 .if1 .left)
+    (halfLinkValues (c .before .half-link .result)) (c .before .half-link .ensures)
 
 pub link-metric-spec : {M : Type 1} → statement M
 link-metric-spec =
     tie.close
-    (tie.spec
-    cast-other-place
-    add-other-place
-    other-place-requires
-    returns
-    cast-half-link
-    sub-half-link
-    half-link-requires
-    combined-requires
-    returns-2)
+    (tie.spec cast-other-place add-other-place other-place-requires returns cast-half-link sub-half-link half-link-requires
+    combined-requires returns-2)

@@ -36,45 +36,62 @@ write-address-requires : tie.Need-write-address-requires
 write-address-requires c κs = search needs
 
 write-byte-requires-2 : tie.Need-write-byte-requires-2
-write-byte-requires-2 c κs = omega (arith, (c .before .before .before .before .before .before .before .before .before .before .before .before .before .before .before .before .before .write-word .ensures .end-is), (c .before .before .before .before .before .before .before .before .before .before .before .before .write-fields .ensures .1), (c .before .before .before .before .before .before .before .before .write-byte .ensures .end-is), (c .before .before .before .write-address .ensures .end-is), length-digits 16 12 (c .before .before .before .before .before .address-of .result))
+write-byte-requires-2 c κs =
+    let at-write-address = c .before .before .before in
+    let at-address-of = at-write-address .before .before in
+    let at-write-byte = at-address-of .before .before .before in
+    let at-write-fields = at-write-byte .before .before .before .before in
+    let at-write-word = at-write-fields .before .before .before .before .before in
+    let (_, write-fields-bound) = at-write-fields .write-fields .ensures in
+    omega (
+      arith,
+      (at-write-word .write-word .ensures .end-is),
+      write-fields-bound,
+      (at-write-byte .write-byte .ensures .end-is),
+      (at-write-address .write-address .ensures .end-is),
+      length-digits 16 12 (at-address-of .address-of .result),
+    )
 
 same-length : tie.Need-same-length
 same-length c = search needs
 
 returns : tie.Need-returns
 returns c =
-    let after-word = (c .before .before .before .before .before .before .before .before .before .before .before .before .before .before .before .before .before .before .before .before .write-word .ensures .end-is) in
-    let after-numbers = (c .before .before .before .before .before .before .before .before .before .before .before .before .before .before .before .write-fields .ensures .1) in
-    let after-space = (c .before .before .before .before .before .before .before .before .before .before .before .write-byte .ensures .end-is) in
-    let after-address = (c .before .before .before .before .before .before .write-address .ensures .end-is) in
-    let twelve = length-digits 16 12 (c .before .before .before .before .before .before .before .before .address-of .result) in
-    let room = (c .before .before .before .before .before .before .before .before .before .before .before .before .before .before .before .before .before .before .before .before .before .before .before .before .before .before .pre) in (
+    let at-write-byte2 = c .before .before in
+    let at-write-address = at-write-byte2 .before .before .before .before in
+    let at-address-of = at-write-address .before .before in
+    let at-write-byte = at-address-of .before .before .before in
+    let at-write-fields = at-write-byte .before .before .before .before in
+    let at-write-word = at-write-fields .before .before .before .before .before in
+    let at-port-of = at-write-word .before .before .before in
+    let at-vid-of = at-port-of .before in
+    let at-start = at-vid-of .before .before in
+    let (written, write-fields-bound) = at-write-fields .write-fields .ensures in
+    let (vid-of-is, _) = at-vid-of .vid-of .ensures in
+    let (port-of-is, _) = at-port-of .port-of .ensures in
+    let after-word = (at-write-word .write-word .ensures .end-is) in
+    let after-numbers = write-fields-bound in
+    let after-space = (at-write-byte .write-byte .ensures .end-is) in
+    let after-address = (at-write-address .write-address .ensures .end-is) in
+    let twelve = length-digits 16 12 (at-address-of .address-of .result) in
+    let room = (at-start .pre) in (
       written-as
-          (written-on (c .before .before .before .before .before .before .before .before .before .before .before .before .before .before .before .before .before .before .before .before .write-word .ensures)
-          (written-on (c .before .before .before .before .before .before .before .before .before .before .before .before .before .before .before .write-fields .ensures .0)
-          (written-on (c .before .before .before .before .before .before .before .before .before .before .before .write-byte .ensures)
-          (written-on (c .before .before .before .before .before .before .write-address .ensures) (c .before .before .write-byte2 .ensures) (omega (arith, after-word, after-numbers, after-space, after-address, twelve, room)))
+          (written-on (at-write-word .write-word .ensures)
+          (written-on written
+          (written-on (at-write-byte .write-byte .ensures)
+          (written-on (at-write-address .write-address .ensures) (at-write-byte2 .write-byte2 .ensures)
+          (omega (arith, after-word, after-numbers, after-space, after-address, twelve, room)))
           (omega (arith, after-word, after-numbers, after-space, room)))
           (omega (arith, after-word, after-numbers, room)))
           (omega (arith, after-word, room)))
           _
-          (line-of-numbers (c .before .before .before .before .before .before .before .before .before .before .before .before .before .before .before .before .before .before .before .before .before .before .before .before .before .before .args .bridge) (entryOf (c .before .before .before .before .before .before .before .before .before .before .before .before .before .before .before .before .before .before .before .before .before .before .before .before .before .before .args .first) (c .before .before .before .before .before .before .before .before .before .before .before .before .before .before .before .before .before .before .before .before .before .before .before .before .before .before .args .upper) (c .before .before .before .before .before .before .before .before .before .before .before .before .before .before .before .before .before .before .before .before .before .before .before .before .before .before .args .lower)) (c .before .before .before .before .before .before .before .before .before .before .before .before .before .before .before .before .before .before .before .before .before .before .before .before .vid-of .ensures .0) (c .before .before .before .before .before .before .before .before .before .before .before .before .before .before .before .before .before .before .before .before .before .before .before .port-of .ensures .0) (c .before .before .before .before .before .before .before .before .address-of .ensures)),
-      omega (arith, after-word, after-numbers, after-space, after-address, twelve, (c .before .before .write-byte2 .ensures .end-is)),
+          (line-of-numbers (at-start .args .bridge) (entryOf (at-start .args .first) (at-start .args .upper) (at-start .args .lower))
+          vid-of-is port-of-is (at-address-of .address-of .ensures)),
+      omega (arith, after-word, after-numbers, after-space, after-address, twelve, (at-write-byte2 .write-byte2 .ensures .end-is)),
     )
 
 pub write-entry-line-spec : {M : Type 1} → statement M
 write-entry-line-spec =
     tie.close
-    (tie.spec
-    vid-of-requires
-    port-of-requires
-    slice-aggregate-write-word
-    write-word-requires
-    slice-aggregate-write-fields
-    write-fields-requires
-    write-byte-requires
-    address-of-requires
-    write-address-requires
-    write-byte-requires-2
-    same-length
-    returns)
+    (tie.spec vid-of-requires port-of-requires slice-aggregate-write-word write-word-requires slice-aggregate-write-fields
+    write-fields-requires write-byte-requires address-of-requires write-address-requires write-byte-requires-2 same-length returns)

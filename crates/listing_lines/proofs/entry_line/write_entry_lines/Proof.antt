@@ -45,7 +45,11 @@ shared-slice-read-write-entry-line-3 :
 shared-slice-read-write-entry-line-3 c = search needs
 
 write-entry-line-requires : tie.Need-write-entry-line-requires Inv-loop μ-loop
-write-entry-line-requires c κs = entry-listing-room (c .before .before .before .before .before .loop .inv) (c .before .before .before .before .before .before .before .before .pre) (c .before .before .before .before .loop-test .taken)
+write-entry-line-requires c κs =
+    let at-loop-test = c .before .before .before .before in
+    let at-loop = at-loop-test .before in
+    let at-start = at-loop .before .before .before in
+    entry-listing-room (at-loop .loop .inv) (at-start .pre) (at-loop-test .loop-test .taken)
 
 add-i : tie.Need-add-i Inv-loop μ-loop
 add-i c = search needs
@@ -54,7 +58,13 @@ loop-less : tie.Need-loop-less Inv-loop μ-loop
 loop-less c = search needs
 
 loop-again : tie.Need-loop-again Inv-loop μ-loop
-loop-again c = entry-listing-goes-on (c .before .before .before .before .before .before .before .before .loop .inv) (c .before .before .before .before .before .before .before .before .before .before .before .pre) (c .before .before .before .before .before .before .before .loop-test .taken) _ _ (c .before .before .write-entry-line .ensures .0) (c .before .before .write-entry-line .ensures .1)
+loop-again c =
+    let at-write-entry-line = c .before .before in
+    let at-loop-test = at-write-entry-line .before .before .before .before .before in
+    let at-loop = at-loop-test .before in
+    let at-start = at-loop .before .before .before in
+    let (written, write-entry-line-bound) = at-write-entry-line .write-entry-line .ensures in
+    entry-listing-goes-on (at-loop .loop .inv) (at-start .pre) (at-loop-test .loop-test .taken) _ _ written write-entry-line-bound
 
 same-length : tie.Need-same-length Inv-loop μ-loop
 same-length c = search needs
@@ -65,22 +75,6 @@ returns c = entry-listing-ends (c .before .loop .inv) (c .loop-test .left)
 pub write-entry-lines-spec : {M : Type 1} → statement M
 write-entry-lines-spec =
     tie.close
-    (tie.spec
-    Inv-loop
-    μ-loop
-    loop-holds
-    sub-loop
-    mul-write-entry-line
-    shared-slice-read-write-entry-line
-    add-write-entry-line
-    mul-write-entry-line-2
-    shared-slice-read-write-entry-line-2
-    add-write-entry-line-2
-    mul-write-entry-line-3
-    shared-slice-read-write-entry-line-3
-    write-entry-line-requires
-    add-i
-    loop-less
-    loop-again
-    same-length
-    returns)
+    (tie.spec Inv-loop μ-loop loop-holds sub-loop mul-write-entry-line shared-slice-read-write-entry-line add-write-entry-line
+    mul-write-entry-line-2 shared-slice-read-write-entry-line-2 add-write-entry-line-2 mul-write-entry-line-3
+    shared-slice-read-write-entry-line-3 write-entry-line-requires add-i loop-less loop-again same-length returns)

@@ -33,31 +33,37 @@ same-length c = search needs
 
 returns : tie.Need-returns
 returns c =
-    let after-word = (c .before .before .before .before .before .before .before .before .before .before .before .before .before .before .before .write-word .ensures .end-is) in
-    let after-numbers = (c .before .before .before .before .before .before .before .before .before .before .write-fields .ensures .1) in
-    let after-bridges = (c .before .before .before .before .before .before .write-fields2 .ensures .1) in
-    let few = (c .before .before .before .before .before .before .before .before .before .before .before .before .before .before .before .before .before .before .before .before .pre .0) in
-    let room = (c .before .before .before .before .before .before .before .before .before .before .before .before .before .before .before .before .before .before .before .before .pre .1) in (
+    let at-write-byte = c .before .before in
+    let at-write-fields2 = at-write-byte .before .before .before .before in
+    let at-write-fields = at-write-fields2 .before .before .before .before in
+    let at-write-word = at-write-fields .before .before .before .before .before in
+    let at-start = at-write-word .before .before .before .before .before in
+    let (written, write-fields-bound) = at-write-fields .write-fields .ensures in
+    let (the-written, write-fields2-bound) = at-write-fields2 .write-fields2 .ensures in
+    let (bridges-length, out-room) = at-start .pre in
+    let after-word = (at-write-word .write-word .ensures .end-is) in
+    let after-numbers = write-fields-bound in
+    let after-bridges = write-fields2-bound in
+    let few = bridges-length in
+    let room = out-room in (
       written-as
-          (written-on (c .before .before .before .before .before .before .before .before .before .before .before .before .before .before .before .write-word .ensures)
-          (written-on (c .before .before .before .before .before .before .before .before .before .before .write-fields .ensures .0)
-          (written-on (c .before .before .before .before .before .before .write-fields2 .ensures .0) (c .before .before .write-byte .ensures) (omega (arith, after-word, after-numbers, after-bridges, few, room)))
+          (written-on (at-write-word .write-word .ensures)
+          (written-on written
+          (written-on the-written (at-write-byte .write-byte .ensures)
+          (omega (arith, after-word, after-numbers, after-bridges, few, room)))
           (omega (arith, after-word, after-numbers, room)))
           (omega (arith, after-word, room)))
           _
-          (ap (λ (t : List ℕ). pathWord ++ t) (fields-of-both ((c .before .before .before .before .before .before .before .before .before .before .before .before .before .before .before .before .before .before .before .before .args .vid) ∷ (c .before .before .before .before .before .before .before .before .before .before .before .before .before .before .before .before .before .before .before .before .args .from) ∷ (c .before .before .before .before .before .before .before .before .before .before .before .before .before .before .before .before .before .before .before .before .args .to) ∷ (c .before .before .before .before .before .before .before .before .before .before .before .before .before .before .before .before .before .before .before .before .args .cost .0) ∷ (c .before .before .before .before .before .before .before .before .before .before .before .before .before .before .before .before .before .before .before .before .args .hops .0) ∷ []) (c .before .before .before .before .before .before .before .before .before .before .before .before .before .before .before .before .before .before .before .before .args .bridges .now) (newline ∷ []))),
-      omega (arith, after-word, after-numbers, after-bridges, few, (c .before .before .write-byte .ensures .end-is)),
+          (ap (λ (t : List ℕ). pathWord ++ t)
+          (fields-of-both
+          ((at-start .args .vid) ∷ (at-start .args .from) ∷ (at-start .args .to) ∷ (at-start .args .cost .0) ∷ (at-start .args .hops .0)
+          ∷ [])
+          (at-start .args .bridges .now) (newline ∷ []))),
+      omega (arith, after-word, after-numbers, after-bridges, few, (at-write-byte .write-byte .ensures .end-is)),
     )
 
 pub write-given-path-spec : {M : Type 1} → statement M
 write-given-path-spec =
     tie.close
-    (tie.spec
-    slice-aggregate-write-word
-    write-word-requires
-    slice-aggregate-write-fields
-    write-fields-requires
-    write-fields-requires-2
-    write-byte-requires
-    same-length
-    returns)
+    (tie.spec slice-aggregate-write-word write-word-requires slice-aggregate-write-fields write-fields-requires write-fields-requires-2
+    write-byte-requires same-length returns)

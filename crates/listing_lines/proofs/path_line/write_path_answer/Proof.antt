@@ -20,11 +20,12 @@ bridges-requires c κs = search needs
 
 slice-aggregate-write-given-path : tie.Need-slice-aggregate-write-given-path
 slice-aggregate-write-given-path c =
-    let at-bridges = c .before in
-    let at-answer = at-bridges .before .before in
+    let at-answer = c .before .before .before in
     let at-start = at-answer .before .before .before .before in
-    let fits = given-fits (pathValues (at-start .args .answer)) (at-start .args .list .now) (ap pathValues (at-answer .answer .given .1))
-    (at-bridges .bridges .ensures) (at-start .pre .0) in
+    let (list-room, _, _) = at-start .pre in
+    let fits =
+    given-fits (pathValues (at-start .args .answer)) (at-start .args .list .now) (ap pathValues (at-answer .answer .given .1))
+    (c .before .bridges .ensures) list-room in
     simp length-take (omega (arith, fits))
 
 write-given-path-requires : tie.Need-write-given-path-requires
@@ -32,9 +33,11 @@ write-given-path-requires c κs =
     let at-bridges = c .before .before in
     let at-answer = at-bridges .before .before in
     let at-start = at-answer .before .before .before .before in
-    let fits = given-fits (pathValues (at-start .args .answer)) (at-start .args .list .now) (ap pathValues (at-answer .answer .given .1))
-    (at-bridges .bridges .ensures) (at-start .pre .0) in
-    simp length-take (omega (arith, fits, at-start .pre .1, at-start .pre .2))
+    let (list-room, list-length, out-room) = at-start .pre in
+    let fits =
+    given-fits (pathValues (at-start .args .answer)) (at-start .args .list .now) (ap pathValues (at-answer .answer .given .1))
+    (at-bridges .bridges .ensures) list-room in
+    simp length-take (omega (arith, fits, list-length, out-room))
 
 enum-told : tie.Need-enum-told
 enum-told c = search needs
@@ -50,12 +53,13 @@ returns c =
     let at-write-given-path = c .before .before in
     let at-bridges = at-write-given-path .before .before .before in
     let at-answer = at-bridges .before .before in
-    let at-start = at-answer .before .before .before .before in (
-      written-as (at-write-given-path .write-given-path .ensures .0) _
+    let at-start = at-answer .before .before .before .before in
+    let (written, write-given-path-bound) = at-write-given-path .write-given-path .ensures in (
+      written-as written _
           (ap (pathLine (at-start .args .vid) (at-start .args .from) (at-start .args .to))
           (given-bridges (pathValues (at-start .args .answer)) (at-start .args .list .now) (ap pathValues (at-answer .answer .given .1))
           (at-bridges .bridges .ensures))),
-      at-write-given-path .write-given-path .ensures .1,
+      write-given-path-bound,
     )
 
 same-length-2 : tie.Need-same-length-2
@@ -65,24 +69,18 @@ returns-2 : tie.Need-returns-2
 returns-2 c =
     let at-write-none = c .before .before in
     let at-enum-told = at-write-none .before .before in
-    let at-start = at-enum-told .before .before .before .before in (
-      written-as (at-write-none .write-none .ensures .0) _
-          (ap (λ (o : Outcome CostAndHops). pathLine (at-start .args .vid) (at-start .args .from) (at-start .args .to) (givenPath o (at-start .args .list .now)))
+    let at-start = at-enum-told .before .before .before .before in
+    let (written, write-none-bound) = at-write-none .write-none .ensures in (
+      written-as written _
+          (ap
+          (λ (o : Outcome CostAndHops).
+          pathLine (at-start .args .vid) (at-start .args .from) (at-start .args .to) (givenPath o (at-start .args .list .now)))
           (sym (ap pathValues (at-enum-told .enum-told .given .1)))),
-      omega (arith, at-write-none .write-none .ensures .1),
+      omega (arith, write-none-bound),
     )
 
 pub write-path-answer-spec : {M : Type 1} → statement M
 write-path-answer-spec =
     tie.close
-    (tie.spec
-    enum-known-answer
-    bridges-requires
-    slice-aggregate-write-given-path
-    write-given-path-requires
-    enum-told
-    write-none-requires
-    same-length
-    returns
-    same-length-2
-    returns-2)
+    (tie.spec enum-known-answer bridges-requires slice-aggregate-write-given-path write-given-path-requires enum-told write-none-requires
+    same-length returns same-length-2 returns-2)

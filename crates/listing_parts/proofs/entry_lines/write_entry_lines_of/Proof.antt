@@ -11,16 +11,35 @@ list-in-network-requires : tie.Need-list-in-network-requires
 list-in-network-requires c κs = search needs
 
 slice-reshare-prefix-write-entry-lines : tie.Need-slice-reshare-prefix-write-entry-lines
-slice-reshare-prefix-write-entry-lines c = omega (arith, few-listed (c .before .before .before .before .before .before .before .before .before .before .before .before .before .before .before .before .pre .0 .0 .checked) (c .before .before .before .before .before .before .before .before .before .before .before .before .before .before .before .before .args .b) (c .before .before .before .before .before .before .before .before .before .before .before .before .before .before .before .before .pre .0 .1) (c .before .before .before .before .before .before .list-in-network .ensures .0), c .before .before .before .before .before .before .before .before .before .before .before .before .before .before .before .before .pre .0 .2)
+slice-reshare-prefix-write-entry-lines c =
+    let at-list-in-network = c .before .before .before .before .before .before in
+    let at-start = at-list-in-network .before .before .before .before .before .before .before .before .before .before in
+    let ((table-network, b-bound, words-room, _), _) = at-start .pre in
+    let (appended, _) = at-list-in-network .list-in-network .ensures in
+    omega (arith, few-listed (table-network .checked) (at-start .args .b) b-bound appended, words-room)
 
 slice-aggregate-write-entry-lines : tie.Need-slice-aggregate-write-entry-lines
-slice-aggregate-write-entry-lines c = simp length-take (omega (arith, few-listed (c .before .before .before .before .before .before .before .before .before .before .before .before .before .before .before .before .before .pre .0 .0 .checked) (c .before .before .before .before .before .before .before .before .before .before .before .before .before .before .before .before .before .args .b) (c .before .before .before .before .before .before .before .before .before .before .before .before .before .before .before .before .before .pre .0 .1) (c .before .before .before .before .before .before .before .list-in-network .ensures .0), c .before .before .before .before .before .before .before .before .before .before .before .before .before .before .before .before .before .pre .0 .2))
+slice-aggregate-write-entry-lines c =
+    let at-list-in-network = c .before .before .before .before .before .before .before in
+    let at-start = at-list-in-network .before .before .before .before .before .before .before .before .before .before in
+    let ((table-network, b-bound, words-room, _), _) = at-start .pre in
+    let (appended, _) = at-list-in-network .list-in-network .ensures in
+    simp length-take (omega (arith, few-listed (table-network .checked) (at-start .args .b) b-bound appended, words-room))
 
 cast-write-entry-lines : tie.Need-cast-write-entry-lines
-cast-write-entry-lines c = omega (arith, c .before .before .before .before .before .before .before .before .before .before .before .before .before .before .before .before .before .pre .0 .1, few-bridges (c .before .before .before .before .before .before .before .before .before .before .before .before .before .before .before .before .before .pre .0 .0 .checked))
+cast-write-entry-lines c =
+    let at-start =
+    c .before .before .before .before .before .before .before .before .before .before .before .before .before .before .before .before .before in
+    let ((table-network, b-bound, _, _), _) = at-start .pre in
+    omega (arith, b-bound, few-bridges (table-network .checked))
 
 write-entry-lines-requires : tie.Need-write-entry-lines-requires
-write-entry-lines-requires c κs = omega (arith, few-bytes (c .before .before .before .before .before .before .before .before .before .before .before .before .before .before .before .before .before .before .pre .0 .0 .checked) (c .before .before .before .before .before .before .before .before .before .before .before .before .before .before .before .before .before .before .args .b) (c .before .before .before .before .before .before .before .before .before .before .before .before .before .before .before .before .before .before .pre .0 .1) (c .before .before .before .before .before .before .before .before .list-in-network .ensures .0), c .before .before .before .before .before .before .before .before .before .before .before .before .before .before .before .before .before .before .pre .0 .3)
+write-entry-lines-requires c κs =
+    let at-list-in-network = c .before .before .before .before .before .before .before .before in
+    let at-start = at-list-in-network .before .before .before .before .before .before .before .before .before .before in
+    let ((table-network, b-bound, _, out-room), _) = at-start .pre in
+    let (appended, _) = at-list-in-network .list-in-network .ensures in
+    omega (arith, few-bytes (table-network .checked) (at-start .args .b) b-bound appended, out-room)
 
 same-length : tie.Need-same-length
 same-length c = search needs
@@ -36,19 +55,21 @@ same-length-4 c = search needs
 
 returns : tie.Need-returns
 returns c =
-    (c .before .before .before .before .before .before .before .before .before .before .before .list-in-network .ensures .1, (lines-listed (c .before .before .before .before .before .before .before .before .before .before .before .before .before .before .before .before .before .before .before .before .before .pre .0 .0 .checked) (c .before .before .before .before .before .before .before .before .before .before .before .before .before .before .before .before .before .before .before .before .before .args .b) (c .before .before .before .before .before .before .before .before .before .before .before .before .before .before .before .before .before .before .before .before .before .pre .0 .1) (c .before .before .before .before .before .before .before .before .before .before .before .list-in-network .ensures .0) (c .before .before .write-entry-lines .ensures .0), omega (arith, c .before .before .write-entry-lines .ensures .1, few-bytes (c .before .before .before .before .before .before .before .before .before .before .before .before .before .before .before .before .before .before .before .before .before .pre .0 .0 .checked) (c .before .before .before .before .before .before .before .before .before .before .before .before .before .before .before .before .before .before .before .before .before .args .b) (c .before .before .before .before .before .before .before .before .before .before .before .before .before .before .before .before .before .before .before .before .before .pre .0 .1) (c .before .before .before .before .before .before .before .before .before .before .before .list-in-network .ensures .0))))
+    let at-write-entry-lines = c .before .before in
+    let at-list-in-network = at-write-entry-lines .before .before .before .before .before .before .before .before .before in
+    let at-start = at-list-in-network .before .before .before .before .before .before .before .before .before .before in
+    let (appended, trees-kept) = at-list-in-network .list-in-network .ensures in
+    let ((table-network, b-bound, _, _), _) = at-start .pre in
+    let (written, write-entry-lines-bound) = at-write-entry-lines .write-entry-lines .ensures in (
+      trees-kept,
+      (
+        lines-listed (table-network .checked) (at-start .args .b) b-bound appended written,
+        omega (arith, write-entry-lines-bound, few-bytes (table-network .checked) (at-start .args .b) b-bound appended),
+      ),
+    )
 
 pub write-entry-lines-of-spec : {M : Type 1} → statement M
 write-entry-lines-of-spec =
     tie.close
-    (tie.spec
-    list-in-network-requires
-    slice-reshare-prefix-write-entry-lines
-    slice-aggregate-write-entry-lines
-    cast-write-entry-lines
-    write-entry-lines-requires
-    same-length
-    same-length-2
-    same-length-3
-    same-length-4
-    returns)
+    (tie.spec list-in-network-requires slice-reshare-prefix-write-entry-lines slice-aggregate-write-entry-lines cast-write-entry-lines
+    write-entry-lines-requires same-length same-length-2 same-length-3 same-length-4 returns)

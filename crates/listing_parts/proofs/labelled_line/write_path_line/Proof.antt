@@ -22,8 +22,9 @@ write-path-answer-requires : tie.Need-write-path-answer-requires
 write-path-answer-requires c κs =
     let at-labelled-path = c .before .before .before in
     let at-start = at-labelled-path .before .before .before .before in
-    let answer = labels-answer (at-start .args .labels .now) (at-start .args .from) (at-start .pre .1) (replicate 64 0) _ (length-replicate {A = ℕ} 64 0) _
-    (at-labelled-path .labelled-path .ensures) in
+    let answer =
+    labels-answer (at-start .args .labels .now) (at-start .args .from) (at-start .pre .1) (replicate 64 0) _
+    (length-replicate {A = ℕ} 64 0) _ (at-labelled-path .labelled-path .ensures) in
     (answer .0, search needs, at-start .pre .2)
 
 same-length : tie.Need-same-length
@@ -34,20 +35,17 @@ returns c =
     let at-write-path-answer = c .before .before in
     let at-labelled-path = at-write-path-answer .before .before .before .before in
     let at-start = at-labelled-path .before .before .before .before in
-    let answer = labels-answer (at-start .args .labels .now) (at-start .args .from) (at-start .pre .1) (replicate 64 0) _ (length-replicate {A = ℕ} 64 0) _
+    let (_, followable, _) = at-start .pre in
+    let (written, write-path-answer-bound) = at-write-path-answer .write-path-answer .ensures in
+    let answer =
+    labels-answer (at-start .args .labels .now) (at-start .args .from) followable (replicate 64 0) _ (length-replicate {A = ℕ} 64 0) _
     (at-labelled-path .labelled-path .ensures) in (
-      written-as (at-write-path-answer .write-path-answer .ensures .0) _
-          (ap (pathLine (at-start .args .vid) (at-start .args .from) (at-start .args .to)) (answer .1)),
-      at-write-path-answer .write-path-answer .ensures .1,
+      written-as written _ (ap (pathLine (at-start .args .vid) (at-start .args .from) (at-start .args .to)) (answer .1)),
+      write-path-answer-bound,
     )
 
 pub write-path-line-spec : {M : Type 1} → statement M
 write-path-line-spec =
     tie.close
-    (tie.spec
-    slice-aggregate-labelled-path
-    labelled-path-requires
-    slice-aggregate-write-path-answer
-    write-path-answer-requires
-    same-length
+    (tie.spec slice-aggregate-labelled-path labelled-path-requires slice-aggregate-write-path-answer write-path-answer-requires same-length
     returns)

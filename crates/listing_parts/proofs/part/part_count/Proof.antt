@@ -6,13 +6,22 @@ use Rattle.listing_parts.proofs.part.part_count.Statement.{statement}
 use Rattle.listing_parts.proofs.part.part_count.Tie as tie
 
 mul-result : tie.Need-mul-result
-mul-result c = omega (arith, few-pairs ((c .before .args .s .vids)) ((c .before .args .s .bridges)) ((c .before .pre .1)) ((c .before .pre .0)))
+mul-result c =
+    let at-start = c .before in
+    let (bridges-bound, vids-bound) = at-start .pre in
+    omega (arith, few-pairs ((at-start .args .s .vids)) ((at-start .args .s .bridges)) vids-bound bridges-bound)
 
 add-result : tie.Need-add-result
-add-result c = omega (arith, few-pairs ((c .before .args .s .vids)) ((c .before .args .s .bridges)) ((c .before .pre .1)) ((c .before .pre .0)))
+add-result c =
+    let at-start = c .before in
+    let (bridges-bound, vids-bound) = at-start .pre in
+    omega (arith, few-pairs ((at-start .args .s .vids)) ((at-start .args .s .bridges)) vids-bound bridges-bound)
 
 add-result-2 : tie.Need-add-result-2
-add-result-2 c = omega (arith, few-pairs ((c .before .before .args .s .vids)) ((c .before .before .args .s .bridges)) ((c .before .before .pre .1)) ((c .before .before .pre .0)), (c .before .before .pre .0))
+add-result-2 c =
+    let at-start = c .before .before in
+    let (bridges-bound, vids-bound) = at-start .pre in
+    omega (arith, few-pairs ((at-start .args .s .vids)) ((at-start .args .s .bridges)) vids-bound bridges-bound, bridges-bound)
 
 returns : tie.Need-returns
 returns c = search needs

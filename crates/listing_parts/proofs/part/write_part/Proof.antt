@@ -16,25 +16,59 @@ same-length c = search needs
 
 returns : tie.Need-returns
 returns c =
-    (c .before .before .before .before .before .before .before .before .before .before .before .pre .1 .1, (counts-part (wordsOf (c .before .before .before .before .before .before .before .before .before .before .before .args .table .now)) (c .before .before .before .before .before .before .before .before .before .before .before .args .s) (c .before .before .before .before .if1 .taken) (c .before .before .before .before .before .before .before .before .before .before .before .pre .0 .1) (c .before .before .write-counts .ensures .0), omega (arith, c .before .before .write-counts .ensures .1)))
+    let at-write-counts = c .before .before in
+    let at-if1 = at-write-counts .before .before in
+    let at-start = at-if1 .before .before .before .before .before .before .before in
+    let ((_, counts-is, _), (_, trees-kept, _, _)) = at-start .pre in
+    let (written, write-counts-bound) = at-write-counts .write-counts .ensures in (
+      trees-kept,
+      (
+        counts-part (wordsOf (at-start .args .table .now)) (at-start .args .s) (at-if1 .if1 .taken) counts-is written,
+        omega (arith, write-counts-bound),
+      ),
+    )
 
 sub-pair : tie.Need-sub-pair
 sub-pair c = search needs
 
 mul-pairs : tie.Need-mul-pairs
-mul-pairs c = omega (arith, few-pairs (c .before .before .before .before .before .before .before .before .args .s .vids) (c .before .before .before .before .before .before .before .before .args .s .bridges) (few-vids (c .before .before .before .before .before .before .before .before .pre .0 .0 .checked)) (few-bridges (c .before .before .before .before .before .before .before .before .pre .0 .0 .checked)))
+mul-pairs c =
+    let at-start = c .before .before .before .before .before .before .before .before in
+    let ((table-network, _, _), _) = at-start .pre in
+    omega (
+      arith,
+      few-pairs (at-start .args .s .vids) (at-start .args .s .bridges) (few-vids (table-network .checked))
+          (few-bridges (table-network .checked)),
+    )
 
 div-write-path-lines : tie.Need-div-write-path-lines
-div-write-path-lines c = some-bridge (wordsOf (c .before .before .before .before .before .before .before .before .before .before .args .table .now)) (c .before .before .before .before .before .before .before .before .before .before .args .s) (c .before .before .before .before .before .before .before .before .before .before .args .part) (c .before .before .before .if1 .left) (c .before .if2 .taken)
+div-write-path-lines c =
+    let at-if1 = c .before .before .before in
+    let at-start = at-if1 .before .before .before .before .before .before .before in
+    some-bridge (wordsOf (at-start .args .table .now)) (at-start .args .s) (at-start .args .part) (at-if1 .if1 .left)
+    (c .before .if2 .taken)
 
 rem-write-path-lines : tie.Need-rem-write-path-lines
-rem-write-path-lines c = some-bridge (wordsOf (c .before .before .before .before .before .before .before .before .before .before .before .args .table .now)) (c .before .before .before .before .before .before .before .before .before .before .before .args .s) (c .before .before .before .before .before .before .before .before .before .before .before .args .part) (c .before .before .before .before .if1 .left) (c .before .before .if2 .taken)
+rem-write-path-lines c =
+    let at-if2 = c .before .before in
+    let at-if1 = at-if2 .before .before in
+    let at-start = at-if1 .before .before .before .before .before .before .before in
+    some-bridge (wordsOf (at-start .args .table .now)) (at-start .args .s) (at-start .args .part) (at-if1 .if1 .left) (at-if2 .if2 .taken)
 
 write-path-lines-requires : tie.Need-write-path-lines-requires
-write-path-lines-requires c κs = (
-  (c .before .before .before .before .before .before .before .before .before .before .before .before .before .before .pre .0 .0, known-vid (wordsOf (c .before .before .before .before .before .before .before .before .before .before .before .before .before .before .args .table .now)) (c .before .before .before .before .before .before .before .before .before .before .before .before .before .before .args .s) (c .before .before .before .before .before .before .before .before .before .before .before .before .before .before .args .part) (c .before .before .before .before .before .before .before .if1 .left) (c .before .before .before .before .before .if2 .taken), known-from (wordsOf (c .before .before .before .before .before .before .before .before .before .before .before .before .before .before .args .table .now)) (c .before .before .before .before .before .before .before .before .before .before .before .before .before .before .args .s) (c .before .before .before .before .before .before .before .before .before .before .before .before .before .before .args .part) (c .before .before .before .before .before .before .before .if1 .left) (c .before .before .before .before .before .if2 .taken)),
-  (c .before .before .before .before .before .before .before .before .before .before .before .before .before .before .pre .1 .0, c .before .before .before .before .before .before .before .before .before .before .before .before .before .before .pre .1 .1, omega (arith, few-bridges (c .before .before .before .before .before .before .before .before .before .before .before .before .before .before .pre .0 .0 .checked), c .before .before .before .before .before .before .before .before .before .before .before .before .before .before .pre .1 .3)),
-)
+write-path-lines-requires c κs =
+    let at-if2 = c .before .before .before .before .before in
+    let at-if1 = at-if2 .before .before in
+    let at-start = at-if1 .before .before .before .before .before .before .before in
+    let ((table-network, _, _), (path-ids-room, trees-kept, _, out-room)) = at-start .pre in (
+      (
+        table-network,
+        known-vid (wordsOf (at-start .args .table .now)) (at-start .args .s) (at-start .args .part) (at-if1 .if1 .left) (at-if2 .if2 .taken),
+        known-from (wordsOf (at-start .args .table .now)) (at-start .args .s) (at-start .args .part) (at-if1 .if1 .left)
+            (at-if2 .if2 .taken),
+      ),
+      (path-ids-room, trees-kept, omega (arith, few-bridges (table-network .checked), out-room)),
+    )
 
 same-length-2 : tie.Need-same-length-2
 same-length-2 c = search needs
@@ -46,14 +80,36 @@ same-length-4 : tie.Need-same-length-4
 same-length-4 c = search needs
 
 returns-2 : tie.Need-returns-2
-returns-2 c = (
-  c .before .before .before .before .before .before .write-path-lines .ensures .0,
-  (path-lines-part (wordsOf (c .before .before .before .before .before .before .before .before .before .before .before .before .before .before .before .before .before .before .before .before .before .args .table .now)) (c .before .before .before .before .before .before .before .before .before .before .before .before .before .before .before .before .before .before .before .before .before .args .s) (c .before .before .before .before .before .before .before .before .before .before .before .before .before .before .before .before .before .before .before .before .before .args .part) (c .before .before .before .before .before .before .before .before .before .before .before .before .before .before .if1 .left) (c .before .before .before .before .before .before .before .before .before .before .before .before .if2 .taken) (c .before .before .before .before .before .before .write-path-lines .ensures .1 .0), omega (arith, c .before .before .before .before .before .before .write-path-lines .ensures .1 .1, few-bridges (c .before .before .before .before .before .before .before .before .before .before .before .before .before .before .before .before .before .before .before .before .before .pre .0 .0 .checked))),
-)
+returns-2 c =
+    let at-write-path-lines = c .before .before .before .before .before .before in
+    let at-if2 = at-write-path-lines .before .before .before .before .before .before in
+    let at-if1 = at-if2 .before .before in
+    let at-start = at-if1 .before .before .before .before .before .before .before in
+    let (trees-kept, (written, write-path-lines-bound)) = at-write-path-lines .write-path-lines .ensures in
+    let ((table-network, _, _), _) = at-start .pre in (
+      trees-kept,
+      (
+        path-lines-part (wordsOf (at-start .args .table .now)) (at-start .args .s) (at-start .args .part) (at-if1 .if1 .left)
+            (at-if2 .if2 .taken) written,
+        omega (arith, write-path-lines-bound, few-bridges (table-network .checked)),
+      ),
+    )
 
 write-entry-lines-of-requires : tie.Need-write-entry-lines-of-requires
 write-entry-lines-of-requires c κs =
-    ((c .before .before .before .before .before .before .before .before .before .before .before .before .before .pre .0 .0, known-bridge (wordsOf (c .before .before .before .before .before .before .before .before .before .before .before .before .before .args .table .now)) (c .before .before .before .before .before .before .before .before .before .before .before .before .before .args .s) (c .before .before .before .before .before .before .before .before .before .before .before .before .before .args .part) (c .before .before .before .before .before .before .if1 .left) (c .before .before .before .before .if2 .left) (c .before .before .before .before .before .before .before .before .before .before .before .before .before .pre .0 .2), c .before .before .before .before .before .before .before .before .before .before .before .before .before .pre .1 .2, c .before .before .before .before .before .before .before .before .before .before .before .before .before .pre .1 .3), (c .before .before .before .before .before .before .before .before .before .before .before .before .before .pre .1 .0, c .before .before .before .before .before .before .before .before .before .before .before .before .before .pre .1 .1))
+    let at-if2 = c .before .before .before .before in
+    let at-if1 = at-if2 .before .before in
+    let at-start = at-if1 .before .before .before .before .before .before .before in
+    let ((table-network, _, part-bound), (path-ids-room, trees-kept, words-room, out-room)) = at-start .pre in (
+      (
+        table-network,
+        known-bridge (wordsOf (at-start .args .table .now)) (at-start .args .s) (at-start .args .part) (at-if1 .if1 .left)
+            (at-if2 .if2 .left) part-bound,
+        words-room,
+        out-room,
+      ),
+      (path-ids-room, trees-kept),
+    )
 
 same-length-5 : tie.Need-same-length-5
 same-length-5 c = search needs
@@ -68,30 +124,23 @@ same-length-8 : tie.Need-same-length-8
 same-length-8 c = search needs
 
 returns-3 : tie.Need-returns-3
-returns-3 c = (
-  c .before .before .before .before .before .before .before .before .write-entry-lines-of .ensures .0,
-  (entry-lines-part (wordsOf (c .before .before .before .before .before .before .before .before .before .before .before .before .before .before .before .before .before .before .before .before .before .before .args .table .now)) (c .before .before .before .before .before .before .before .before .before .before .before .before .before .before .before .before .before .before .before .before .before .before .args .s) (c .before .before .before .before .before .before .before .before .before .before .before .before .before .before .before .before .before .before .before .before .before .before .args .part) (c .before .before .before .before .before .before .before .before .before .before .before .before .before .before .before .if1 .left) (c .before .before .before .before .before .before .before .before .before .before .before .before .before .if2 .left) (c .before .before .before .before .before .before .before .before .write-entry-lines-of .ensures .1 .0), c .before .before .before .before .before .before .before .before .write-entry-lines-of .ensures .1 .1),
-)
+returns-3 c =
+    let at-write-entry-lines-of = c .before .before .before .before .before .before .before .before in
+    let at-if2 = at-write-entry-lines-of .before .before .before .before .before in
+    let at-if1 = at-if2 .before .before in
+    let at-start = at-if1 .before .before .before .before .before .before .before in
+    let (trees-kept, (written, write-entry-lines-of-bound)) = at-write-entry-lines-of .write-entry-lines-of .ensures in (
+      trees-kept,
+      (
+        entry-lines-part (wordsOf (at-start .args .table .now)) (at-start .args .s) (at-start .args .part) (at-if1 .if1 .left)
+            (at-if2 .if2 .left) written,
+        write-entry-lines-of-bound,
+      ),
+    )
 
 pub write-part-spec : {M : Type 1} → statement M
 write-part-spec =
     tie.close
-    (tie.spec
-    write-counts-requires
-    same-length
-    returns
-    sub-pair
-    mul-pairs
-    div-write-path-lines
-    rem-write-path-lines
-    write-path-lines-requires
-    same-length-2
-    same-length-3
-    same-length-4
-    returns-2
-    write-entry-lines-of-requires
-    same-length-5
-    same-length-6
-    same-length-7
-    same-length-8
-    returns-3)
+    (tie.spec write-counts-requires same-length returns sub-pair mul-pairs div-write-path-lines rem-write-path-lines
+    write-path-lines-requires same-length-2 same-length-3 same-length-4 returns-2 write-entry-lines-of-requires same-length-5 same-length-6
+    same-length-7 same-length-8 returns-3)

@@ -26,10 +26,16 @@ abbrev μ-loop : tie.MeasureT-loop
 μ-loop table s network k from path-ids₀ store₀ out₀ v next₀ to₀ path-ids store out next to = s .bridges - to
 
 vid-requires : tie.Need-vid-requires Inv-loop μ-loop
-vid-requires c κs = ((c .before .before .before .before .before .pre .0 .0) .checked .whole, c .before .before .before .before .before .pre .0 .1)
+vid-requires c κs =
+    let at-start = c .before .before .before .before .before in
+    let ((table-network, k-bound, _), _) = at-start .pre in
+    (table-network .checked .whole, k-bound)
 
 loop-holds : tie.Need-loop-holds Inv-loop μ-loop
-loop-holds c = (few-starts _ 764 _ _ 0, c .before .before .before .before .before .before .pre .1 .1, refl, refl)
+loop-holds c =
+    let at-start = c .before .before .before .before .before .before in
+    let (_, (_, trees-kept, _)) = at-start .pre in
+    (few-starts _ 764 _ _ 0, trees-kept, refl, refl)
 
 add-to : tie.Need-add-to Inv-loop μ-loop
 add-to c = search needs
@@ -38,26 +44,55 @@ loop-less : tie.Need-loop-less Inv-loop μ-loop
 loop-less c = search needs
 
 loop-again : tie.Need-loop-again Inv-loop μ-loop
-loop-again c = (
-  few-goes-on (c .before .before .before .loop .inv .0) (omega (arith, c .before .before .before .before .before .before .before .before .before .before .pre .1 .2)) (c .before .if1 .taken)
-      (one-bridge (planAt (wordsOf (c .before .before .before .before .before .before .before .before .before .before .args .table .now)) (c .before .before .before .before .before .before .before .before .before .before .args .s)) (vidNumber (wordsOf (c .before .before .before .before .before .before .before .before .before .before .args .table .now)) (c .before .before .before .before .before .before .before .before .before .before .args .s) (c .before .before .before .before .before .before .before .before .before .before .args .k) .vid) (c .before .before .before .before .before .before .before .before .before .before .args .from) (c .before .before .before .loop .to) (c .if2 .taken) _ _)
-      (omega arith),
-  c .before .before .before .loop .inv .1,
-  c .before .before .before .loop .inv .2,
-  c .before .before .before .loop .inv .3,
-)
+loop-again c =
+    let at-loop = c .before .before .before in
+    let at-start = at-loop .before .before .before .before .before .before .before in
+    let (appending-few, trees-kept, path-ids-length, store-length) = at-loop .loop .inv in
+    let (_, (_, _, out-room)) = at-start .pre in (
+      few-goes-on appending-few (omega (arith, out-room)) (c .before .if1 .taken)
+          (one-bridge (planAt (wordsOf (at-start .args .table .now)) (at-start .args .s))
+          (vidNumber (wordsOf (at-start .args .table .now)) (at-start .args .s) (at-start .args .k) .vid) (at-start .args .from)
+          (at-loop .loop .to) (c .if2 .taken) _ _)
+          (omega arith),
+      trees-kept,
+      path-ids-length,
+      store-length,
+    )
 
 kept-tree-requires : tie.Need-kept-tree-requires Inv-loop μ-loop
-kept-tree-requires c κs = (
-  (is-network (c .before .before .before .before .before .before .before .before .before .before .before .before .pre .0 .0), index-fits (c .before .before .before .before .before .before .before .before .before .before .before .before .pre .0 .0) (c .before .before .before .before .before .before .before .before .before .before .before .before .args .k) (c .before .before .before .before .before .before .before .before .before .before .before .before .pre .0 .1) _ (c .before .before .before .before .before .before .vid .ensures) .0, index-fits (c .before .before .before .before .before .before .before .before .before .before .before .before .pre .0 .0) (c .before .before .before .before .before .before .before .before .before .before .before .before .args .k) (c .before .before .before .before .before .before .before .before .before .before .before .before .pre .0 .1) _ (c .before .before .before .before .before .before .vid .ensures) .1, omega (arith, c .before .before .before .if1 .taken, bridges-in-table (c .before .before .before .before .before .before .before .before .before .before .before .before .pre .0 .0))),
-  (omega (arith, c .before .before .before .before .before .before .before .before .before .before .before .before .pre .1 .0, c .before .before .before .before .before .loop .inv .2), c .before .before .before .before .before .loop .inv .1),
-)
+kept-tree-requires c κs =
+    let at-if1 = c .before .before .before in
+    let at-loop = at-if1 .before .before in
+    let at-vid = at-loop .before in
+    let at-start = at-vid .before .before .before .before .before .before in
+    let ((table-network, k-bound, _), (path-ids-room, _, _)) = at-start .pre in
+    let (_, trees-kept, path-ids-length, _) = at-loop .loop .inv in (
+      (
+        is-network table-network,
+        index-fits table-network (at-start .args .k) k-bound _ (at-vid .vid .ensures) .0,
+        index-fits table-network (at-start .args .k) k-bound _ (at-vid .vid .ensures) .1,
+        omega (arith, at-if1 .if1 .taken, bridges-in-table table-network),
+      ),
+      (omega (arith, path-ids-room, path-ids-length), trees-kept),
+    )
 
 add-write-path-line : tie.Need-add-write-path-line Inv-loop μ-loop
-add-write-path-line c = omega (arith, c .before .before .before .before .kept-tree .ensures .1 .0, c .before .store .given, c .before .before .before .before .before .before .before .before .before .before .loop .inv .3, c .before .before .before .before .before .before .before .before .before .before .before .before .before .before .before .before .before .good)
+add-write-path-line c =
+    let at-kept-tree = c .before .before .before .before in
+    let at-loop = at-kept-tree .before .before .before .before .before .before in
+    let at-good = at-loop .before .before .before .before .before .before .before in
+    let (_, (kept-tree-bound, _)) = at-kept-tree .kept-tree .ensures in
+    let (_, _, _, store-length) = at-loop .loop .inv in
+    omega (arith, kept-tree-bound, c .before .store .given, store-length, at-good .good)
 
 mul-write-path-line : tie.Need-mul-write-path-line Inv-loop μ-loop
-mul-write-path-line c = omega (arith, c .before .before .before .before .kept-tree .ensures .1 .0, c .before .store .given, c .before .before .before .before .before .before .before .before .before .before .loop .inv .3, c .before .before .before .before .before .before .before .before .before .before .before .before .before .before .before .before .before .good)
+mul-write-path-line c =
+    let at-kept-tree = c .before .before .before .before in
+    let at-loop = at-kept-tree .before .before .before .before .before .before in
+    let at-good = at-loop .before .before .before .before .before .before .before in
+    let (_, (kept-tree-bound, _)) = at-kept-tree .kept-tree .ensures in
+    let (_, _, _, store-length) = at-loop .loop .inv in
+    omega (arith, kept-tree-bound, c .before .store .given, store-length, at-good .good)
 
 sub-write-path-line : tie.Need-sub-write-path-line Inv-loop μ-loop
 sub-write-path-line c = search needs
@@ -69,17 +104,34 @@ part-write-path-line-end : tie.Need-part-write-path-line-end Inv-loop μ-loop
 part-write-path-line-end c = search needs
 
 cast-write-path-line : tie.Need-cast-write-path-line Inv-loop μ-loop
-cast-write-path-line c = omega (arith, c .before .before .before .before .before .before .before .before .before .before .before .before .before .before .before .before .before .before .before .pre .0 .2, few-bridges ((c .before .before .before .before .before .before .before .before .before .before .before .before .before .before .before .before .before .before .before .pre .0 .0) .checked))
+cast-write-path-line c =
+    let at-start =
+    c .before .before .before .before .before .before .before .before .before .before .before .before .before .before .before .before .before .before .before in
+    let ((table-network, _, from-bound), _) = at-start .pre in
+    omega (arith, from-bound, few-bridges (table-network .checked))
 
 cast-write-path-line-2 : tie.Need-cast-write-path-line-2 Inv-loop μ-loop
-cast-write-path-line-2 c = omega (arith, c .before .before .before .before .before .before .before .before .before .before .if1 .taken, few-bridges ((c .before .before .before .before .before .before .before .before .before .before .before .before .before .before .before .before .before .before .before .pre .0 .0) .checked))
+cast-write-path-line-2 c =
+    let at-if1 = c .before .before .before .before .before .before .before .before .before .before in
+    let at-start = at-if1 .before .before .before .before .before .before .before .before .before in
+    let ((table-network, _, _), _) = at-start .pre in
+    omega (arith, at-if1 .if1 .taken, few-bridges (table-network .checked))
 
 write-path-line-requires : tie.Need-write-path-line-requires Inv-loop μ-loop
-write-path-line-requires c κs = (
-  simp (length-take, length-drop) (omega (arith, c .before .before .before .before .before .before .before .kept-tree .ensures .1 .0)),
-  pair-followable (c .before .before .before .before .before .before .before .before .before .before .before .before .before .before .before .before .before .before .before .before .pre .0 .0) (c .before .before .before .before .before .before .before .before .before .before .before .before .before .before .before .before .before .before .before .before .args .k) (c .before .before .before .before .before .before .before .before .before .before .before .before .before .before .before .before .before .before .before .before .pre .0 .1) _ (c .before .before .before .before .before .before .before .before .before .before .before .before .before .before .vid .ensures) (c .before .before .before .before .before .before .before .before .before .before .before .before .before .before .before .before .before .before .before .before .args .from) (c .before .before .before .before .before .before .before .before .before .before .before .before .before .loop .to) (c .before .before .before .before .before .before .before .before .before .before .before .before .before .before .before .before .before .before .before .before .pre .0 .2) (c .before .before .before .before .before .before .before .before .before .before .before .if1 .taken) (lent-tree _ (c .before .before .before .before .before .before .before .kept-tree .result) (c .before .before .before .before .before .before .before .kept-tree .ensures .1 .1)),
-  few-room (c .before .before .before .before .before .before .before .before .before .before .before .before .before .loop .inv .0) (omega (arith, c .before .before .before .before .before .before .before .before .before .before .before .before .before .before .before .before .before .before .before .before .pre .1 .2)) (c .before .before .before .before .before .before .before .before .before .before .before .if1 .taken),
-)
+write-path-line-requires c κs =
+    let at-kept-tree = c .before .before .before .before .before .before .before in
+    let at-if1 = at-kept-tree .before .before .before .before in
+    let at-loop = at-if1 .before .before in
+    let at-vid = at-loop .before in
+    let at-start = at-vid .before .before .before .before .before .before in
+    let (_, (kept-tree-bound, tree-in)) = at-kept-tree .kept-tree .ensures in
+    let ((table-network, k-bound, from-bound), (_, _, out-room)) = at-start .pre in
+    let (appending-few, _, _, _) = at-loop .loop .inv in (
+      simp (length-take, length-drop) (omega (arith, kept-tree-bound)),
+      pair-followable table-network (at-start .args .k) k-bound _ (at-vid .vid .ensures) (at-start .args .from) (at-loop .loop .to)
+          from-bound (at-if1 .if1 .taken) (lent-tree _ (at-kept-tree .kept-tree .result) tree-in),
+      few-room appending-few (omega (arith, out-room)) (at-if1 .if1 .taken),
+    )
 
 add-to-2 : tie.Need-add-to-2 Inv-loop μ-loop
 add-to-2 c = search needs
@@ -89,9 +141,23 @@ loop-less-2 c = search needs
 
 loop-again-2 : tie.Need-loop-again-2 Inv-loop μ-loop
 loop-again-2 c = (
-  few-goes-on (c .before .before .before .before .before .before .before .before .before .before .before .before .before .before .before .before .loop .inv .0) (omega (arith, c .before .before .before .before .before .before .before .before .before .before .before .before .before .before .before .before .before .before .before .before .before .before .before .pre .1 .2)) (c .before .before .before .before .before .before .before .before .before .before .before .before .before .before .if1 .taken)
-      (pair-written (c .before .before .before .before .before .before .before .before .before .before .before .before .before .before .before .before .before .before .before .before .before .before .before .pre .0 .0) (c .before .before .before .before .before .before .before .before .before .before .before .before .before .before .before .before .before .before .before .before .before .before .before .args .k) (c .before .before .before .before .before .before .before .before .before .before .before .before .before .before .before .before .before .before .before .before .before .before .before .pre .0 .1) _ (c .before .before .before .before .before .before .before .before .before .before .before .before .before .before .before .before .before .vid .ensures) (c .before .before .before .before .before .before .before .before .before .before .before .before .before .before .before .before .before .before .before .before .before .before .before .args .from) (c .before .before .before .before .before .before .before .before .before .before .before .before .before .before .before .before .loop .to) (c .before .before .before .before .before .before .before .before .before .before .before .before .before .before .before .before .before .before .before .before .before .before .before .pre .0 .2) (c .before .before .before .before .before .before .before .before .before .before .before .before .before .before .if1 .taken) (lent-tree _ (c .before .before .before .before .before .before .before .before .before .before .kept-tree .result) (c .before .before .before .before .before .before .before .before .before .before .kept-tree .ensures .1 .1)) (c .before .before .before .before .before .before .before .before .before .before .before .before .before .if2 .left) (c .before .before .write-path-line .ensures .0)) (c .before .before .write-path-line .ensures .1),
-  c .before .before .before .before .before .before .before .before .before .before .kept-tree .ensures .0,
+  let at-write-path-line = c .before .before in
+      let at-kept-tree = at-write-path-line .before .before .before .before .before .before .before .before in
+      let at-if2 = at-kept-tree .before .before .before in
+      let at-if1 = at-if2 .before in
+      let at-loop = at-if1 .before .before in
+      let at-vid = at-loop .before in
+      let at-start = at-vid .before .before .before .before .before .before in
+      let (appending-few, _, _, _) = at-loop .loop .inv in
+      let ((table-network, k-bound, from-bound), (_, _, out-room)) = at-start .pre in
+      let (_, (_, tree-in)) = at-kept-tree .kept-tree .ensures in
+      let (written, write-path-line-bound) = at-write-path-line .write-path-line .ensures in
+      few-goes-on appending-few (omega (arith, out-room)) (at-if1 .if1 .taken)
+      (pair-written table-network (at-start .args .k) k-bound _ (at-vid .vid .ensures) (at-start .args .from) (at-loop .loop .to)
+      from-bound (at-if1 .if1 .taken) (lent-tree _ (at-kept-tree .kept-tree .result) tree-in) (at-if2 .if2 .left) written)
+      write-path-line-bound,
+  let at-kept-tree = c .before .before .before .before .before .before .before .before .before .before in
+      let (trees-kept, _) = at-kept-tree .kept-tree .ensures in trees-kept,
   search needs,
   search needs,
 )
@@ -103,35 +169,25 @@ same-length-2 : tie.Need-same-length-2 Inv-loop μ-loop
 same-length-2 c = search needs
 
 same-length-3 : tie.Need-same-length-3 Inv-loop μ-loop
-same-length-3 c = c .before .before .loop .inv .0 .same-length
+same-length-3 c =
+    let at-loop = c .before .before in
+    let (appending-few, _, _, _) = at-loop .loop .inv in
+    appending-few .same-length
 
 returns : tie.Need-returns Inv-loop μ-loop
-returns c = (c .before .before .loop .inv .1, pairs-written (c .before .before .before .before .before .before .before .before .before .pre .0 .0) (vidNumber (wordsOf (c .before .before .before .before .before .before .before .before .before .args .table .now)) (c .before .before .before .before .before .before .before .before .before .args .s) (c .before .before .before .before .before .before .before .before .before .args .k) .vid) (c .before .before .before .before .before .before .before .before .before .args .from) (c .before .before .loop .inv .0) (c .before .before .before .before .before .before .before .before .before .pre .1 .2) (c .if1 .left))
+returns c =
+    let at-loop = c .before .before in
+    let at-start = at-loop .before .before .before .before .before .before .before in
+    let (appending-few, trees-kept, _, _) = at-loop .loop .inv in
+    let ((table-network, _, _), (_, _, out-room)) = at-start .pre in (
+      trees-kept,
+      pairs-written table-network (vidNumber (wordsOf (at-start .args .table .now)) (at-start .args .s) (at-start .args .k) .vid)
+          (at-start .args .from) appending-few out-room (c .if1 .left),
+    )
 
 pub write-path-lines-spec : {M : Type 1} → statement M
 write-path-lines-spec =
     tie.close
-    (tie.spec
-    Inv-loop
-    μ-loop
-    vid-requires
-    loop-holds
-    add-to
-    loop-less
-    loop-again
-    kept-tree-requires
-    add-write-path-line
-    mul-write-path-line
-    sub-write-path-line
-    part-write-path-line-start
-    part-write-path-line-end
-    cast-write-path-line
-    cast-write-path-line-2
-    write-path-line-requires
-    add-to-2
-    loop-less-2
-    loop-again-2
-    same-length
-    same-length-2
-    same-length-3
-    returns)
+    (tie.spec Inv-loop μ-loop vid-requires loop-holds add-to loop-less loop-again kept-tree-requires add-write-path-line mul-write-path-line
+    sub-write-path-line part-write-path-line-start part-write-path-line-end cast-write-path-line cast-write-path-line-2
+    write-path-line-requires add-to-2 loop-less-2 loop-again-2 same-length same-length-2 same-length-3 returns)

@@ -19,13 +19,23 @@ slice-aggregate-make-network : tie.Need-slice-aggregate-make-network
 slice-aggregate-make-network c = search needs
 
 make-network-requires : tie.Need-make-network-requires
-make-network-requires c κs = let passed = c .before .before .before .before .before .before .examine .ensures .1 _ (c .before .before .before .examined .given .1) in (passed .0, passed .1, c .before .before .before .before .before .before .before .before .before .before .before .pre .0)
+make-network-requires c κs =
+    let at-examined = c .before .before .before in
+    let at-examine = at-examined .before .before .before in
+    let at-start = at-examine .before .before .before .before .before in
+    let (_, the-passed) = at-examine .examine .ensures in
+    let (network-length, _, _) = at-start .pre in
+    let passed = the-passed _ (at-examined .examined .given .1) in (passed .0, passed .1, network-length)
 
 slice-aggregate-counts : tie.Need-slice-aggregate-counts
 slice-aggregate-counts c = search needs
 
 counts-requires : tie.Need-counts-requires
-counts-requires c κs = c .before .before .before .before .before .before .before .before .before .before .examine .ensures .1 _ (c .before .before .before .before .before .before .before .examined .given .1)
+counts-requires c κs =
+    let at-examined = c .before .before .before .before .before .before .before in
+    let at-examine = at-examined .before .before .before in
+    let (_, passed) = at-examine .examine .ensures in
+    passed _ (at-examined .examined .given .1)
 
 enum-known-examined-2 : tie.Need-enum-known-examined-2
 enum-known-examined-2 c = search needs
@@ -35,24 +45,24 @@ same-length c = search needs
 
 returns : tie.Need-returns
 returns c =
-    begun-accepted (c .before .before .before .before .before .before .before .before .before .before .before .before .before .before .before .before .args .table .now) (c .before .before .before .before .before .before .before .before .before .before .before .examine .result) (c .before .before .before .before .before .before .before .before .before .before .before .examine .ensures .0) _ (c .before .before .before .before .before .before .before .before .examined .given .1) (c .before .before .before .before .make-network .ensures)
-    (no-trees _ _ (c .before .before .before .before .before .before .before .before .before .before .before .before .before .before .before .before .pre .1) (c .before .before .before .before .before .before .before .before .before .before .before .before .before .before .before .before .pre .2)) (c .counts .result) (c .counts .ensures)
+    let at-make-network = c .before .before .before .before in
+    let at-examined = at-make-network .before .before .before .before in
+    let at-examine = at-examined .before .before .before in
+    let at-start = at-examine .before .before .before .before .before in
+    let (examine-is, _) = at-examine .examine .ensures in
+    let (_, store-room, all-zero) = at-start .pre in
+    begun-accepted (at-start .args .table .now) (at-examine .examine .result) examine-is _ (at-examined .examined .given .1)
+    (at-make-network .make-network .ensures) (no-trees _ _ store-room all-zero) (c .counts .result) (c .counts .ensures)
 
 returns-2 : tie.Need-returns-2
-returns-2 c = begun-refused (c .before .before .before .before .before .before .before .before .before .args .table .now) (c .before .before .before .before .examine .result) (c .before .before .before .before .examine .ensures .0) _ _ _ (c .before .examined2 .given .1) _
+returns-2 c =
+    let at-examine = c .before .before .before .before in
+    let at-start = at-examine .before .before .before .before .before in
+    let (examine-is, _) = at-examine .examine .ensures in
+    begun-refused (at-start .args .table .now) (at-examine .examine .result) examine-is _ _ _ (c .before .examined2 .given .1) _
 
 pub begin-listing-spec : {M : Type 1} → statement M
 begin-listing-spec =
     tie.close
-    (tie.spec
-    slice-aggregate-examine
-    examine-requires
-    enum-known-examined
-    slice-aggregate-make-network
-    make-network-requires
-    slice-aggregate-counts
-    counts-requires
-    enum-known-examined-2
-    same-length
-    returns
-    returns-2)
+    (tie.spec slice-aggregate-examine examine-requires enum-known-examined slice-aggregate-make-network make-network-requires
+    slice-aggregate-counts counts-requires enum-known-examined-2 same-length returns returns-2)

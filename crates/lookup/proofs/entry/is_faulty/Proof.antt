@@ -1,6 +1,5 @@
 -- `lookup::entry::is_faulty` finds what 14 calls a fault of one entry: each test of the code is one of `faultyEntry`. Assumes nothing.
 use native.Mathlib.Omega.{arith}
-use Prim.Native.Nat.{_%_, _/_}
 use mathlib.Core.Path.{sym}
 use borrow.Author.Tests.{not-true, not-false}
 use Rattle.rule.specs.Words.{bits}
@@ -21,8 +20,12 @@ within-requires c κs = search needs
 
 returns : tie.Need-returns
 returns c =
-    sym (vid-outside (entryOf (c .before .before .before .args .first) (c .before .before .before .args .upper) (c .before .before .before .args .lower)) (bits (c .before .before .before .args .upper) 31 16)
-    (c .before .within .result) (c .before .before .vid-of .result) (c .before .within .ensures) (c .before .before .vid-of .ensures .0) (not-true _ (c .if1 .taken)))
+    let at-vid-of = c .before .before in
+    let at-start = at-vid-of .before in
+    let (vid-of-is, _) = at-vid-of .vid-of .ensures in
+    sym
+    (vid-outside (entryOf (at-start .args .first) (at-start .args .upper) (at-start .args .lower)) (bits (at-start .args .upper) 31 16)
+    (c .before .within .result) (at-vid-of .vid-of .result) (c .before .within .ensures) vid-of-is (not-true _ (c .if1 .taken)))
 
 port-of-requires : tie.Need-port-of-requires
 port-of-requires c κs = search needs
@@ -35,15 +38,21 @@ within-requires-2 c κs = search needs
 
 returns-2 : tie.Need-returns-2
 returns-2 c =
-    sym (port-outside (entryOf (c .before .before .before .before .before .before .args .first) (c .before .before .before .before .before .before .args .upper) (c .before .before .before .before .before .before .args .lower)) (bits (c .before .before .before .before .before .before .args .upper) 31 16)
-    (c .before .within2 .result) (c .before .before .port-of .result) (c .before .within2 .ensures) (c .before .before .port-of .ensures .0) (not-true _ (c .if2 .taken)))
+    let at-port-of = c .before .before in
+    let at-start = at-port-of .before .before .before .before in
+    let (port-of-is, _) = at-port-of .port-of .ensures in
+    sym
+    (port-outside (entryOf (at-start .args .first) (at-start .args .upper) (at-start .args .lower)) (bits (at-start .args .upper) 31 16)
+    (c .before .within2 .result) (at-port-of .port-of .result) (c .before .within2 .ensures) port-of-is (not-true _ (c .if2 .taken)))
 
 zero-bits-of-requires : tie.Need-zero-bits-of-requires
 zero-bits-of-requires c = search needs
 
 returns-3 : tie.Need-returns-3
 returns-3 c =
-    sym (zero-bit-set (entryOf (c .before .before .before .before .before .before .before .before .args .first) (c .before .before .before .before .before .before .before .before .args .upper) (c .before .before .before .before .before .before .before .before .args .lower)) (bits (c .before .before .before .before .before .before .before .before .args .upper) 31 16)
+    let at-start = c .before .before .before .before .before .before .before .before in
+    sym
+    (zero-bit-set (entryOf (at-start .args .first) (at-start .args .upper) (at-start .args .lower)) (bits (at-start .args .upper) 31 16)
     (λ e. c .if3 .taken (omega arith)))
 
 address-of-requires : tie.Need-address-of-requires
@@ -60,27 +69,25 @@ kind-of-requires c κs = search needs
 
 returns-4 : tie.Need-returns-4
 returns-4 c =
-    sym (by-group-bit (entryOf (c .before .before .before .before .before .before .before .before .before .before .before .args .first) (c .before .before .before .before .before .before .before .before .before .before .before .args .upper) (c .before .before .before .before .before .before .before .before .before .before .before .args .lower)) (bits (c .before .before .before .before .before .before .before .before .before .before .before .args .upper) 31 16)
-    _ _ _ _ (c .before .before .before .before .before .before .before .before .before .within .ensures) (c .before .before .before .before .before .before .before .before .before .before .vid-of .ensures .0) (not-false _ (c .before .before .before .before .before .before .before .before .if1 .left))
-    (c .before .before .before .before .before .before .within2 .ensures) (c .before .before .before .before .before .before .before .port-of .ensures .0) (not-false _ (c .before .before .before .before .before .if2 .left)) (omega arith)
-    _ _ (omega arith) (c .kind-of .ensures))
+    let at-if3 = c .before .before .before in
+    let at-zero-bits-of = at-if3 .before in
+    let at-if2 = at-zero-bits-of .before in
+    let at-within2 = at-if2 .before in
+    let at-port-of = at-within2 .before in
+    let at-if1 = at-port-of .before in
+    let at-within = at-if1 .before in
+    let at-vid-of = at-within .before in
+    let at-start = at-vid-of .before in
+    let (vid-of-is, _) = at-vid-of .vid-of .ensures in
+    let (port-of-is, _) = at-port-of .port-of .ensures in
+    sym
+    (by-group-bit (entryOf (at-start .args .first) (at-start .args .upper) (at-start .args .lower)) (bits (at-start .args .upper) 31 16) _
+    _ _ _ (at-within .within .ensures) vid-of-is (not-false _ (at-if1 .if1 .left)) (at-within2 .within2 .ensures) port-of-is
+    (not-false _ (at-if2 .if2 .left)) (omega (arith, at-zero-bits-of .zero-bits-of .ensures, at-if3 .if3 .left)) _ _ (omega arith)
+    (c .kind-of .ensures))
 
 pub is-faulty-spec : {M : Type 1} → statement M
 is-faulty-spec =
     tie.close
-    (tie.spec
-    vid-of-requires
-    cast-within
-    within-requires
-    returns
-    port-of-requires
-    cast-within-2
-    within-requires-2
-    returns-2
-    zero-bits-of-requires
-    returns-3
-    address-of-requires
-    group-bit-requires
-    add-result
-    kind-of-requires
-    returns-4)
+    (tie.spec vid-of-requires cast-within within-requires returns port-of-requires cast-within-2 within-requires-2 returns-2
+    zero-bits-of-requires returns-3 address-of-requires group-bit-requires add-result kind-of-requires returns-4)

@@ -1,5 +1,4 @@
 -- `lookup::entry::is_match` tests the VID, then the address. Assumes nothing.
-use mathlib.Core.Path.{sym}
 use borrow.Author.Tests.{eq-eqb, ne-eqb}
 use borrow.Author.Needs.{needs}
 use Rattle.lookup.proofs.entry.is_match.Statement.{statement}
@@ -15,7 +14,10 @@ address-of-requires : tie.Need-address-of-requires
 address-of-requires c κs = search needs
 
 returns-2 : tie.Need-returns-2
-returns-2 c = simp (← (c .before .before .vid-of .ensures .0), eq-eqb _ _ (c .before .if1 .left), c .address-of .ensures)
+returns-2 c =
+    let at-vid-of = c .before .before in
+    let (vid-of-is, _) = at-vid-of .vid-of .ensures in
+    simp (← vid-of-is, eq-eqb _ _ (c .before .if1 .left), c .address-of .ensures)
 
 pub is-match-spec : {M : Type 1} → statement M
 is-match-spec = tie.close (tie.spec vid-of-requires returns address-of-requires returns-2)

@@ -47,7 +47,10 @@ is-faulty-requires : tie.Need-is-faulty-requires Inv-loop μ-loop
 is-faulty-requires c κs = search needs
 
 returns : tie.Need-returns Inv-loop μ-loop
-returns c = sym (testing-finds (c .before .before .before .before .before .before .loop .inv) (c .before .before .before .before .before .loop-test .taken) (sym (c .before .is-faulty .ensures) ∙ c .if1 .taken))
+returns c =
+    let at-loop-test = c .before .before .before .before .before in
+    let at-loop = at-loop-test .before in
+    sym (testing-finds (at-loop .loop .inv) (at-loop-test .loop-test .taken) (sym (c .before .is-faulty .ensures) ∙ c .if1 .taken))
 
 add-at : tie.Need-add-at Inv-loop μ-loop
 add-at c = search needs
@@ -56,7 +59,10 @@ loop-less : tie.Need-loop-less Inv-loop μ-loop
 loop-less c = search needs
 
 loop-again : tie.Need-loop-again Inv-loop μ-loop
-loop-again c = testing-goes-on (c .before .before .before .before .before .before .loop .inv) (c .before .before .before .before .before .loop-test .taken) (sym (c .before .is-faulty .ensures) ∙ c .if1 .left)
+loop-again c =
+    let at-loop-test = c .before .before .before .before .before in
+    let at-loop = at-loop-test .before in
+    testing-goes-on (at-loop .loop .inv) (at-loop-test .loop-test .taken) (sym (c .before .is-faulty .ensures) ∙ c .if1 .left)
 
 returns-2 : tie.Need-returns-2 Inv-loop μ-loop
 returns-2 c = sym (testing-ends (c .before .loop .inv) (c .loop-test .left))
@@ -64,22 +70,6 @@ returns-2 c = sym (testing-ends (c .before .loop .inv) (c .loop-test .left))
 pub is-faulty-list-spec : {M : Type 1} → statement M
 is-faulty-list-spec =
     tie.close
-    (tie.spec
-    Inv-loop
-    μ-loop
-    loop-holds
-    sub-loop
-    mul-is-faulty
-    shared-slice-read-is-faulty
-    add-is-faulty
-    mul-is-faulty-2
-    shared-slice-read-is-faulty-2
-    add-is-faulty-2
-    mul-is-faulty-3
-    shared-slice-read-is-faulty-3
-    is-faulty-requires
-    returns
-    add-at
-    loop-less
-    loop-again
-    returns-2)
+    (tie.spec Inv-loop μ-loop loop-holds sub-loop mul-is-faulty shared-slice-read-is-faulty add-is-faulty mul-is-faulty-2
+    shared-slice-read-is-faulty-2 add-is-faulty-2 mul-is-faulty-3 shared-slice-read-is-faulty-3 is-faulty-requires returns add-at loop-less
+    loop-again returns-2)

@@ -57,16 +57,26 @@ loop-less : tie.Need-loop-less Inv-loop μ-loop
 loop-less c = search needs
 
 loop-again : tie.Need-loop-again Inv-loop μ-loop
-loop-again c = looking-passes (c .before .before .before .before .before .before .loop .inv) (c .before .before .before .before .before .loop-test .taken) (sym (c .before .is-match .ensures) ∙ not-true _ (c .if1 .taken))
+loop-again c =
+    let at-loop-test = c .before .before .before .before .before in
+    let at-loop = at-loop-test .before in
+    looking-passes (at-loop .loop .inv) (at-loop-test .loop-test .taken) (sym (c .before .is-match .ensures) ∙ not-true _ (c .if1 .taken))
 
 port-of-requires : tie.Need-port-of-requires Inv-loop μ-loop
 port-of-requires c κs = search needs
 
 returns : tie.Need-returns Inv-loop μ-loop
 returns c =
-    ap (λ p. answered (some p)) (c .port-of .ensures .0)
-    ∙ ap answered (sym (looking-finds (c .before .before .before .before .before .before .before .before .loop .inv) (c .before .before .before .before .before .before .before .loop-test .taken)
-    (sym (c .before .before .before .is-match .ensures) ∙ not-false _ (c .before .before .if1 .left)) (c .before .if2 .taken)))
+    let at-if1 = c .before .before in
+    let at-is-match = at-if1 .before in
+    let at-loop-test = at-is-match .before .before .before .before in
+    let at-loop = at-loop-test .before in
+    let (port-of-is, _) = c .port-of .ensures in
+    ap (λ p. answered (some p)) port-of-is
+    ∙ ap answered
+    (sym
+    (looking-finds (at-loop .loop .inv) (at-loop-test .loop-test .taken)
+    (sym (at-is-match .is-match .ensures) ∙ not-false _ (at-if1 .if1 .left)) (c .before .if2 .taken)))
 
 sub-left : tie.Need-sub-left Inv-loop μ-loop
 sub-left c = search needs
@@ -78,7 +88,12 @@ loop-less-2 : tie.Need-loop-less-2 Inv-loop μ-loop
 loop-less-2 c = search needs
 
 loop-again-2 : tie.Need-loop-again-2 Inv-loop μ-loop
-loop-again-2 c = looking-counts (c .before .before .before .before .before .before .before .loop .inv) (c .before .before .before .before .before .before .loop-test .taken) (sym (c .before .before .is-match .ensures) ∙ not-false _ (c .before .if1 .left)) (omega arith)
+loop-again-2 c =
+    let at-is-match = c .before .before in
+    let at-loop-test = at-is-match .before .before .before .before in
+    let at-loop = at-loop-test .before in
+    looking-counts (at-loop .loop .inv) (at-loop-test .loop-test .taken)
+    (sym (at-is-match .is-match .ensures) ∙ not-false _ (c .before .if1 .left)) (omega arith)
 
 returns-2 : tie.Need-returns-2 Inv-loop μ-loop
 returns-2 c = ap answered (sym (looking-ends (c .before .loop .inv) (c .loop-test .left)))
@@ -86,27 +101,6 @@ returns-2 c = ap answered (sym (looking-ends (c .before .loop .inv) (c .loop-tes
 pub matching-spec : {M : Type 1} → statement M
 matching-spec =
     tie.close
-    (tie.spec
-    Inv-loop
-    μ-loop
-    loop-holds
-    sub-loop
-    mul-first
-    shared-slice-read-first
-    add-is-match
-    mul-is-match
-    shared-slice-read-is-match
-    add-is-match-2
-    mul-is-match-2
-    shared-slice-read-is-match-2
-    is-match-requires
-    add-at
-    loop-less
-    loop-again
-    port-of-requires
-    returns
-    sub-left
-    add-at-2
-    loop-less-2
-    loop-again-2
-    returns-2)
+    (tie.spec Inv-loop μ-loop loop-holds sub-loop mul-first shared-slice-read-first add-is-match mul-is-match shared-slice-read-is-match
+    add-is-match-2 mul-is-match-2 shared-slice-read-is-match-2 is-match-requires add-at loop-less loop-again port-of-requires returns
+    sub-left add-at-2 loop-less-2 loop-again-2 returns-2)

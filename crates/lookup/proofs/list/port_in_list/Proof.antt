@@ -1,5 +1,4 @@
 -- `lookup::list::port_in_list` refuses a faulty list and answers from any other. Assumes nothing.
-use mathlib.Core.Path.{sym, _∙_}
 use Rattle.rule.specs.Lookup.{lookupOutcome}
 use borrow.Author.Needs.{needs}
 use Rattle.lookup.proofs.list.port_in_list.Statement.{statement}
@@ -17,7 +16,9 @@ matching-requires c κs = search needs
 
 returns-2 : tie.Need-returns-2
 unfolding lookupOutcome
-returns-2 c = simp (← (c .before .before .is-faulty-list .ensures), c .before .if1 .left, c .matching .ensures)
+returns-2 c =
+    let at-is-faulty-list = c .before .before in
+    simp (← (at-is-faulty-list .is-faulty-list .ensures), c .before .if1 .left, c .matching .ensures)
 
 pub port-in-list-spec : {M : Type 1} → statement M
 port-in-list-spec = tie.close (tie.spec is-faulty-list-requires returns matching-requires returns-2)

@@ -24,7 +24,10 @@ mul-k : tie.Need-mul-k Inv-loop μ-loop
 mul-k c = search needs
 
 loop-holds : tie.Need-loop-holds Inv-loop μ-loop
-loop-holds c = row-starts (c .before .before .pre .2) (64 * c .before .before .args .u + 64) (omega arith)
+loop-holds c =
+    let at-start = c .before .before in
+    let (_, _, listed, _) = at-start .pre in
+    row-starts listed (64 * at-start .args .u + 64) (omega arith)
 
 mul-hop : tie.Need-mul-hop Inv-loop μ-loop
 mul-hop c = search needs
@@ -39,46 +42,134 @@ loop-less : tie.Need-loop-less Inv-loop μ-loop
 loop-less c = search needs
 
 loop-again : tie.Need-loop-again Inv-loop μ-loop
-loop-again c = row-passes (c .before .before .before .loop .inv) (c .before .before .loop-test .taken) (c .if1 .taken)
+loop-again c =
+    let at-loop-test = c .before .before in
+    let at-loop = at-loop-test .before in
+    row-passes (at-loop .loop .inv) (at-loop-test .loop-test .taken) (c .if1 .taken)
 
 cast-network : tie.Need-cast-network Inv-loop μ-loop
 cast-network c = search needs
 
 add-network : tie.Need-add-network Inv-loop μ-loop
-add-network c = omega (arith, room-for-hop (c .before .before .before .loop .inv .listed) (c .if1 .left) (c .before .before .before .before .before .before .pre .0) (omega (arith, c .before .before .loop-test .taken, c .before .before .before .before .before .before .pre .1)))
+add-network c =
+    let at-loop-test = c .before .before in
+    let at-loop = at-loop-test .before in
+    let at-start = at-loop .before .before .before in
+    let (room, u-bound, _, _) = at-start .pre in
+    omega (arith, room-for-hop (at-loop .loop .inv .listed) (c .if1 .left) room (omega (arith, at-loop-test .loop-test .taken, u-bound)))
 
 mul-network : tie.Need-mul-network Inv-loop μ-loop
-mul-network c = omega (arith, room-for-hop (c .before .before .before .loop .inv .listed) (c .if1 .left) (c .before .before .before .before .before .before .pre .0) (omega (arith, c .before .before .loop-test .taken, c .before .before .before .before .before .before .pre .1)))
+mul-network c =
+    let at-loop-test = c .before .before in
+    let at-loop = at-loop-test .before in
+    let at-start = at-loop .before .before .before in
+    let (room, u-bound, _, _) = at-start .pre in
+    omega (arith, room-for-hop (at-loop .loop .inv .listed) (c .if1 .left) room (omega (arith, at-loop-test .loop-test .taken, u-bound)))
 
 slice-write-network : tie.Need-slice-write-network Inv-loop μ-loop
-slice-write-network c = omega (arith, room-for-hop (c .before .before .before .loop .inv .listed) (c .if1 .left) (c .before .before .before .before .before .before .pre .0) (omega (arith, c .before .before .loop-test .taken, c .before .before .before .before .before .before .pre .1)), c .before .before .before .loop .inv .same-length, c .before .before .before .before .before .before .pre .3)
+slice-write-network c =
+    let at-loop-test = c .before .before in
+    let at-loop = at-loop-test .before in
+    let at-start = at-loop .before .before .before in
+    let (room, u-bound, _, network-room) = at-start .pre in
+    omega (
+      arith,
+      room-for-hop (at-loop .loop .inv .listed) (c .if1 .left) room (omega (arith, at-loop-test .loop-test .taken, u-bound)),
+      at-loop .loop .inv .same-length,
+      network-room,
+    )
 
 cost-of-hop-requires : tie.Need-cost-of-hop-requires Inv-loop μ-loop
-cost-of-hop-requires c κs = c .before .before .before .before .before .before .pre .0 .narrow (c .before .before .before .loop .k) (omega (arith, c .before .before .loop-test .taken, c .before .before .before .before .before .before .pre .1)) (c .if1 .left)
+cost-of-hop-requires c κs =
+    let at-loop-test = c .before .before in
+    let at-loop = at-loop-test .before in
+    let at-start = at-loop .before .before .before in
+    let (room, u-bound, _, _) = at-start .pre in
+    room .narrow (at-loop .loop .k) (omega (arith, at-loop-test .loop-test .taken, u-bound)) (c .if1 .left)
 
 add-network-2 : tie.Need-add-network-2 Inv-loop μ-loop
-add-network-2 c = omega (arith, room-for-hop (c .before .before .before .before .loop .inv .listed) (c .before .if1 .left) (c .before .before .before .before .before .before .before .pre .0) (omega (arith, c .before .before .before .loop-test .taken, c .before .before .before .before .before .before .before .pre .1)))
+add-network-2 c =
+    let at-loop-test = c .before .before .before in
+    let at-loop = at-loop-test .before in
+    let at-start = at-loop .before .before .before in
+    let (room, u-bound, _, _) = at-start .pre in
+    omega (
+      arith,
+      room-for-hop (at-loop .loop .inv .listed) (c .before .if1 .left) room (omega (arith, at-loop-test .loop-test .taken, u-bound)),
+    )
 
 mul-network-2 : tie.Need-mul-network-2 Inv-loop μ-loop
-mul-network-2 c = omega (arith, room-for-hop (c .before .before .before .before .loop .inv .listed) (c .before .if1 .left) (c .before .before .before .before .before .before .before .pre .0) (omega (arith, c .before .before .before .loop-test .taken, c .before .before .before .before .before .before .before .pre .1)))
+mul-network-2 c =
+    let at-loop-test = c .before .before .before in
+    let at-loop = at-loop-test .before in
+    let at-start = at-loop .before .before .before in
+    let (room, u-bound, _, _) = at-start .pre in
+    omega (
+      arith,
+      room-for-hop (at-loop .loop .inv .listed) (c .before .if1 .left) room (omega (arith, at-loop-test .loop-test .taken, u-bound)),
+    )
 
 slice-write-network-2 : tie.Need-slice-write-network-2 Inv-loop μ-loop
-slice-write-network-2 c = simp length-set (omega (arith, room-for-hop (c .before .before .before .before .loop .inv .listed) (c .before .if1 .left) (c .before .before .before .before .before .before .before .pre .0) (omega (arith, c .before .before .before .loop-test .taken, c .before .before .before .before .before .before .before .pre .1)), c .before .before .before .before .loop .inv .same-length, c .before .before .before .before .before .before .before .pre .3))
+slice-write-network-2 c =
+    let at-loop-test = c .before .before .before in
+    let at-loop = at-loop-test .before in
+    let at-start = at-loop .before .before .before in
+    let (room, u-bound, _, network-room) = at-start .pre in
+    simp length-set
+    (omega (
+      arith,
+      room-for-hop (at-loop .loop .inv .listed) (c .before .if1 .left) room (omega (arith, at-loop-test .loop-test .taken, u-bound)),
+      at-loop .loop .inv .same-length,
+      network-room,
+    ))
 
 port-of-hop-requires : tie.Need-port-of-hop-requires Inv-loop μ-loop
 port-of-hop-requires c κs = search needs
 
 add-network-3 : tie.Need-add-network-3 Inv-loop μ-loop
-add-network-3 c = omega (arith, room-for-hop (c .before .before .before .before .before .loop .inv .listed) (c .before .before .if1 .left) (c .before .before .before .before .before .before .before .before .pre .0) (omega (arith, c .before .before .before .before .loop-test .taken, c .before .before .before .before .before .before .before .before .pre .1)))
+add-network-3 c =
+    let at-if1 = c .before .before in
+    let at-loop-test = at-if1 .before .before in
+    let at-loop = at-loop-test .before in
+    let at-start = at-loop .before .before .before in
+    let (room, u-bound, _, _) = at-start .pre in
+    omega
+    (arith, room-for-hop (at-loop .loop .inv .listed) (at-if1 .if1 .left) room (omega (arith, at-loop-test .loop-test .taken, u-bound)))
 
 mul-network-3 : tie.Need-mul-network-3 Inv-loop μ-loop
-mul-network-3 c = omega (arith, room-for-hop (c .before .before .before .before .before .loop .inv .listed) (c .before .before .if1 .left) (c .before .before .before .before .before .before .before .before .pre .0) (omega (arith, c .before .before .before .before .loop-test .taken, c .before .before .before .before .before .before .before .before .pre .1)))
+mul-network-3 c =
+    let at-if1 = c .before .before in
+    let at-loop-test = at-if1 .before .before in
+    let at-loop = at-loop-test .before in
+    let at-start = at-loop .before .before .before in
+    let (room, u-bound, _, _) = at-start .pre in
+    omega
+    (arith, room-for-hop (at-loop .loop .inv .listed) (at-if1 .if1 .left) room (omega (arith, at-loop-test .loop-test .taken, u-bound)))
 
 slice-write-network-3 : tie.Need-slice-write-network-3 Inv-loop μ-loop
-slice-write-network-3 c = simp length-set (omega (arith, room-for-hop (c .before .before .before .before .before .loop .inv .listed) (c .before .before .if1 .left) (c .before .before .before .before .before .before .before .before .pre .0) (omega (arith, c .before .before .before .before .loop-test .taken, c .before .before .before .before .before .before .before .before .pre .1)), c .before .before .before .before .before .loop .inv .same-length, c .before .before .before .before .before .before .before .before .pre .3))
+slice-write-network-3 c =
+    let at-if1 = c .before .before in
+    let at-loop-test = at-if1 .before .before in
+    let at-loop = at-loop-test .before in
+    let at-start = at-loop .before .before .before in
+    let (room, u-bound, _, network-room) = at-start .pre in
+    simp length-set
+    (omega (
+      arith,
+      room-for-hop (at-loop .loop .inv .listed) (at-if1 .if1 .left) room (omega (arith, at-loop-test .loop-test .taken, u-bound)),
+      at-loop .loop .inv .same-length,
+      network-room,
+    ))
 
 add-at : tie.Need-add-at Inv-loop μ-loop
-add-at c = omega (arith, room-for-hop (c .before .before .before .before .before .loop .inv .listed) (c .before .before .if1 .left) (c .before .before .before .before .before .before .before .before .pre .0) (omega (arith, c .before .before .before .before .loop-test .taken, c .before .before .before .before .before .before .before .before .pre .1)))
+add-at c =
+    let at-if1 = c .before .before in
+    let at-loop-test = at-if1 .before .before in
+    let at-loop = at-loop-test .before in
+    let at-start = at-loop .before .before .before in
+    let (room, u-bound, _, _) = at-start .pre in
+    omega
+    (arith, room-for-hop (at-loop .loop .inv .listed) (at-if1 .if1 .left) room (omega (arith, at-loop-test .loop-test .taken, u-bound)))
 
 add-k-2 : tie.Need-add-k-2 Inv-loop μ-loop
 add-k-2 c = search needs
@@ -87,7 +178,15 @@ loop-less-2 : tie.Need-loop-less-2 Inv-loop μ-loop
 loop-less-2 c = search needs
 
 loop-again-2 : tie.Need-loop-again-2 Inv-loop μ-loop
-loop-again-2 c = row-takes (c .before .before .before .before .before .loop .inv) (c .before .before .before .before .loop-test .taken) (c .before .before .if1 .left) (room-for-hop (c .before .before .before .before .before .loop .inv .listed) (c .before .before .if1 .left) (c .before .before .before .before .before .before .before .before .pre .0) (omega (arith, c .before .before .before .before .loop-test .taken, c .before .before .before .before .before .before .before .before .pre .1))) (c .before .before .before .before .before .before .before .before .pre .3) _ _ (c .before .cost-of-hop .ensures) (c .port-of-hop .ensures)
+loop-again-2 c =
+    let at-if1 = c .before .before in
+    let at-loop-test = at-if1 .before .before in
+    let at-loop = at-loop-test .before in
+    let at-start = at-loop .before .before .before in
+    let (room, u-bound, _, network-room) = at-start .pre in
+    row-takes (at-loop .loop .inv) (at-loop-test .loop-test .taken) (at-if1 .if1 .left)
+    (room-for-hop (at-loop .loop .inv .listed) (at-if1 .if1 .left) room (omega (arith, at-loop-test .loop-test .taken, u-bound)))
+    network-room _ _ (c .before .cost-of-hop .ensures) (c .port-of-hop .ensures)
 
 same-length : tie.Need-same-length Inv-loop μ-loop
 same-length c = search needs
@@ -98,33 +197,6 @@ returns c = row-ends (c .before .loop .inv) (c .loop-test .left)
 pub list-hops-spec : {M : Type 1} → statement M
 list-hops-spec =
     tie.close
-    (tie.spec
-    Inv-loop
-    μ-loop
-    mul-end
-    add-end
-    mul-k
-    loop-holds
-    mul-hop
-    shared-slice-read-hop
-    add-k
-    loop-less
-    loop-again
-    cast-network
-    add-network
-    mul-network
-    slice-write-network
-    cost-of-hop-requires
-    add-network-2
-    mul-network-2
-    slice-write-network-2
-    port-of-hop-requires
-    add-network-3
-    mul-network-3
-    slice-write-network-3
-    add-at
-    add-k-2
-    loop-less-2
-    loop-again-2
-    same-length
-    returns)
+    (tie.spec Inv-loop μ-loop mul-end add-end mul-k loop-holds mul-hop shared-slice-read-hop add-k loop-less loop-again cast-network
+    add-network mul-network slice-write-network cost-of-hop-requires add-network-2 mul-network-2 slice-write-network-2 port-of-hop-requires
+    add-network-3 mul-network-3 slice-write-network-3 add-at add-k-2 loop-less-2 loop-again-2 same-length returns)

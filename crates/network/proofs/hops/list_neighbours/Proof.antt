@@ -18,16 +18,33 @@ slice-write-network : tie.Need-slice-write-network Inv-loop μ-loop
 slice-write-network c = search needs
 
 loop-holds : tie.Need-loop-holds Inv-loop μ-loop
-loop-holds c = filling-starts (c .before .before .args .pairs .now) (c .before .before .args .n) (c .before .before .args .network .now) (omega (arith, c .before .before .pre .1))
+loop-holds c =
+    let at-start = c .before .before in
+    let (_, network-room) = at-start .pre in
+    filling-starts (at-start .args .pairs .now) (at-start .args .n) (at-start .args .network .now) (omega (arith, network-room))
 
 list-hops-requires : tie.Need-list-hops-requires Inv-loop μ-loop
-list-hops-requires c κs = (c .before .before .before .before .before .pre .0, c .before .loop-test .taken, c .before .before .loop .inv .listed, omega (arith, c .before .before .loop .inv .same-length, length-set (c .before .before .before .before .before .args .network .now) 1 0, c .before .before .before .before .before .pre .1))
+list-hops-requires c κs =
+    let at-loop = c .before .before in
+    let at-start = at-loop .before .before .before in
+    let (room, network-room) = at-start .pre in (
+      room,
+      c .before .loop-test .taken,
+      at-loop .loop .inv .listed,
+      omega (arith, at-loop .loop .inv .same-length, length-set (at-start .args .network .now) 1 0, network-room),
+    )
 
 add-u : tie.Need-add-u Inv-loop μ-loop
 add-u c = search needs
 
 cast-network : tie.Need-cast-network Inv-loop μ-loop
-cast-network c = omega (arith, filling-room (c .before .before .before .before .before .loop .inv) (c .before .before .list-hops .ensures) (c .before .before .before .before .before .before .before .before .pre .0) (c .before .before .before .before .loop-test .taken))
+cast-network c =
+    let at-list-hops = c .before .before in
+    let at-loop-test = at-list-hops .before .before in
+    let at-loop = at-loop-test .before in
+    let at-start = at-loop .before .before .before in
+    let (room, _) = at-start .pre in
+    omega (arith, filling-room (at-loop .loop .inv) (at-list-hops .list-hops .ensures) room (at-loop-test .loop-test .taken))
 
 add-network : tie.Need-add-network Inv-loop μ-loop
 add-network c = search needs
@@ -36,35 +53,49 @@ mul-network : tie.Need-mul-network Inv-loop μ-loop
 mul-network c = search needs
 
 slice-write-network-2 : tie.Need-slice-write-network-2 Inv-loop μ-loop
-slice-write-network-2 c = omega (arith, c .before .before .before .before .loop-test .taken, c .before .before .list-hops .ensures .same-length, c .before .before .before .before .before .loop .inv .same-length, length-set (c .before .before .before .before .before .before .before .before .args .network .now) 1 0, c .before .before .before .before .before .before .before .before .pre .0 .most, c .before .before .before .before .before .before .before .before .pre .1)
+slice-write-network-2 c =
+    let at-list-hops = c .before .before in
+    let at-loop-test = at-list-hops .before .before in
+    let at-loop = at-loop-test .before in
+    let at-start = at-loop .before .before .before in
+    let (room, network-room) = at-start .pre in
+    omega (
+      arith,
+      at-loop-test .loop-test .taken,
+      at-list-hops .list-hops .ensures .same-length,
+      at-loop .loop .inv .same-length,
+      length-set (at-start .args .network .now) 1 0,
+      room .most,
+      network-room,
+    )
 
 loop-less : tie.Need-loop-less Inv-loop μ-loop
 loop-less c = search needs
 
 loop-again : tie.Need-loop-again Inv-loop μ-loop
-loop-again c = filling-goes-on (c .before .before .before .before .before .loop .inv) (c .before .before .list-hops .ensures) (c .before .before .before .before .loop-test .taken) (c .before .before .before .before .before .before .before .before .pre .0 .most) (omega (arith, length-set (c .before .before .before .before .before .before .before .before .args .network .now) 1 0, c .before .before .before .before .before .before .before .before .pre .1))
+loop-again c =
+    let at-list-hops = c .before .before in
+    let at-loop-test = at-list-hops .before .before in
+    let at-loop = at-loop-test .before in
+    let at-start = at-loop .before .before .before in
+    let (room, network-room) = at-start .pre in
+    filling-goes-on (at-loop .loop .inv) (at-list-hops .list-hops .ensures) (at-loop-test .loop-test .taken) (room .most)
+    (omega (arith, length-set (at-start .args .network .now) 1 0, network-room))
 
 same-length : tie.Need-same-length Inv-loop μ-loop
-same-length c = c .before .loop .inv .same-length ∙ length-set (c .before .before .before .before .args .network .now) 1 0
+same-length c =
+    let at-start = c .before .before .before .before in
+    c .before .loop .inv .same-length ∙ length-set (at-start .args .network .now) 1 0
 
 returns : tie.Need-returns Inv-loop μ-loop
-returns c = (filling-ends (c .before .loop .inv) (c .loop-test .left), c .before .loop .inv .same-length ∙ length-set (c .before .before .before .before .args .network .now) 1 0)
+returns c =
+    let at-start = c .before .before .before .before in (
+      filling-ends (c .before .loop .inv) (c .loop-test .left),
+      c .before .loop .inv .same-length ∙ length-set (at-start .args .network .now) 1 0,
+    )
 
 pub list-neighbours-spec : {M : Type 1} → statement M
 list-neighbours-spec =
     tie.close
-    (tie.spec
-    Inv-loop
-    μ-loop
-    slice-write-network
-    loop-holds
-    list-hops-requires
-    add-u
-    cast-network
-    add-network
-    mul-network
-    slice-write-network-2
-    loop-less
-    loop-again
-    same-length
-    returns)
+    (tie.spec Inv-loop μ-loop slice-write-network loop-holds list-hops-requires add-u cast-network add-network mul-network
+    slice-write-network-2 loop-less loop-again same-length returns)

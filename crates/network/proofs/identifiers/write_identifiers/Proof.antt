@@ -45,7 +45,12 @@ mul-words-4 : tie.Need-mul-words-4 Inv-loop μ-loop
 mul-words-4 c = search needs
 
 slice-write-words-2 : tie.Need-slice-write-words-2 Inv-loop μ-loop
-slice-write-words-2 c = simp length-set (omega (arith, c .before .before .before .before .before .loop .inv .same-length, c .before .before .before .if1 .taken, c .before .before .before .before .before .before .before .before .pre .1))
+slice-write-words-2 c =
+    let at-if1 = c .before .before .before in
+    let at-loop = at-if1 .before .before in
+    let at-start = at-loop .before .before .before in
+    let (_, words-room) = at-start .pre in
+    simp length-set (omega (arith, at-loop .loop .inv .same-length, at-if1 .if1 .taken, words-room))
 
 add-u : tie.Need-add-u Inv-loop μ-loop
 add-u c = search needs
@@ -54,33 +59,24 @@ loop-less : tie.Need-loop-less Inv-loop μ-loop
 loop-less c = search needs
 
 loop-again : tie.Need-loop-again Inv-loop μ-loop
-loop-again c = identifying-on (c .before .before .before .before .before .loop .inv) _ (c .before .before .before .if1 .taken) (c .before .before .before .before .before .before .before .before .pre .1) (c .before .before .bridge .ensures)
+loop-again c =
+    let at-bridge = c .before .before in
+    let at-if1 = at-bridge .before in
+    let at-loop = at-if1 .before .before in
+    let at-start = at-loop .before .before .before in
+    let (_, words-room) = at-start .pre in
+    identifying-on (at-loop .loop .inv) _ (at-if1 .if1 .taken) words-room (at-bridge .bridge .ensures)
 
 same-length : tie.Need-same-length Inv-loop μ-loop
 same-length c = search needs
 
 returns : tie.Need-returns Inv-loop μ-loop
-returns c = identifying-ends (c .before .before .loop .inv) (c .if1 .left)
+returns c =
+    let at-loop = c .before .before in
+    identifying-ends (at-loop .loop .inv) (c .if1 .left)
 
 pub write-identifiers-spec : {M : Type 1} → statement M
 write-identifiers-spec =
     tie.close
-    (tie.spec
-    Inv-loop
-    μ-loop
-    loop-holds
-    bridge-requires
-    cast-words
-    mul-words
-    mul-words-2
-    slice-write-words
-    cast-words-2
-    mul-words-3
-    add-words
-    mul-words-4
-    slice-write-words-2
-    add-u
-    loop-less
-    loop-again
-    same-length
-    returns)
+    (tie.spec Inv-loop μ-loop loop-holds bridge-requires cast-words mul-words mul-words-2 slice-write-words cast-words-2 mul-words-3
+    add-words mul-words-4 slice-write-words-2 add-u loop-less loop-again same-length returns)

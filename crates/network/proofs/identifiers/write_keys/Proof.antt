@@ -40,28 +40,26 @@ loop-less : tie.Need-loop-less Inv-loop μ-loop
 loop-less c = search needs
 
 loop-again : tie.Need-loop-again Inv-loop μ-loop
-loop-again c = masking-on (c .before .before .before .loop .inv) (c .before .before .before .before .before .before .before .pre .2) _ (omega (arith, c .before .before .before .before .bridges .ensures)) (c .masked-identifier .ensures ∙ ap (λ (x : ℕ). maskedBytes 8 (c .before .before .before .before .before .before .before .args .mask) x) (c .before .identifier .ensures))
+loop-again c =
+    let at-loop = c .before .before .before in
+    let at-bridges = at-loop .before in
+    let at-start = at-bridges .before .before .before in
+    let (_, _, keys-room) = at-start .pre in
+    masking-on (at-loop .loop .inv) keys-room _ (omega (arith, at-bridges .bridges .ensures))
+    (c .masked-identifier .ensures ∙ ap (λ (x : ℕ). maskedBytes 8 (at-start .args .mask) x) (c .before .identifier .ensures))
 
 same-length : tie.Need-same-length Inv-loop μ-loop
 same-length c = search needs
 
 returns : tie.Need-returns Inv-loop μ-loop
-returns c = masking-ends (c .before .loop .inv) (c .before .before .before .before .before .pre .2) (omega (arith, c .before .before .bridges .ensures))
+returns c =
+    let at-bridges = c .before .before in
+    let at-start = at-bridges .before .before .before in
+    let (_, _, keys-room) = at-start .pre in
+    masking-ends (c .before .loop .inv) keys-room (omega (arith, at-bridges .bridges .ensures))
 
 pub write-keys-spec : {M : Type 1} → statement M
 write-keys-spec =
     tie.close
-    (tie.spec
-    Inv-loop
-    μ-loop
-    bridges-requires
-    loop-holds
-    identifier-requires
-    masked-identifier-requires
-    mul-keys
-    slice-write-keys
-    add-u
-    loop-less
-    loop-again
-    same-length
-    returns)
+    (tie.spec Inv-loop μ-loop bridges-requires loop-holds identifier-requires masked-identifier-requires mul-keys slice-write-keys add-u
+    loop-less loop-again same-length returns)

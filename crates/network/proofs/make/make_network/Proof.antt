@@ -1,10 +1,9 @@
 use Prim.Native.Nat.{ℕ}
-use lib.ListN.{length-replicate, getD-replicate}
+use lib.ListN.{length-replicate, getD-replicate, length-take, length-drop}
 use Rattle.links.specs.Pairs.{noHop}
 -- `network::make::make_network` lists the hops, then writes the identifiers behind them and the number of bridges in front. Assumes nothing.
 use native.Mathlib.Omega.{arith}
 use mathlib.Core.Path.{sym, _∙_}
-use lib.ListN.{length-take, length-drop}
 use Rattle.verdict.specs.laws.CheckedLaws.{few-bridges}
 use Rattle.network.specs.laws.NeighbourLaws.{room}
 use Rattle.network.specs.laws.NetworkLaws.{made-length, network-of-table}
@@ -16,17 +15,26 @@ slice-aggregate-lowest-hops : tie.Need-slice-aggregate-lowest-hops
 slice-aggregate-lowest-hops c = search needs
 
 lowest-hops-requires : tie.Need-lowest-hops-requires
-lowest-hops-requires c κs = (
-  c .before .before .before .before .pre .0,
-  record { size = omega (arith, length-replicate {A = ℕ} 4096 noHop); empty = λ k l. getD-replicate {A = ℕ} 4096 k noHop 0 (omega (arith, few-bridges (c .before .before .before .before .pre .0))) },
-  c .before .before .before .before .pre .1,
-)
+lowest-hops-requires c κs =
+    let at-start = c .before .before .before .before in
+    let (checked, link-index, _) = at-start .pre in (
+      checked,
+      record {
+        size = omega (arith, length-replicate {A = ℕ} 4096 noHop);
+        empty = λ k l. getD-replicate {A = ℕ} 4096 k noHop 0 (omega (arith, few-bridges checked));
+      },
+      link-index,
+    )
 
 slice-aggregate-list-neighbours : tie.Need-slice-aggregate-list-neighbours
 slice-aggregate-list-neighbours c = search needs
 
 list-neighbours-requires : tie.Need-list-neighbours-requires
-list-neighbours-requires c κs = (room (c .before .before .before .before .before .before .before .before .pre .0) (c .before .before .before .before .before .before .before .before .pre .1 .indexed .few) (c .before .before .before .lowest-hops .ensures), omega (arith, c .before .before .before .before .before .before .before .before .pre .2))
+list-neighbours-requires c κs =
+    let at-lowest-hops = c .before .before .before in
+    let at-start = at-lowest-hops .before .before .before .before .before in
+    let (checked, link-index, network-length) = at-start .pre in
+    (room checked (link-index .indexed .few) (at-lowest-hops .lowest-hops .ensures), omega (arith, network-length))
 
 sub-write-identifiers : tie.Need-sub-write-identifiers
 sub-write-identifiers c = search needs
@@ -38,7 +46,12 @@ part-write-identifiers-end : tie.Need-part-write-identifiers-end
 part-write-identifiers-end c = search needs
 
 write-identifiers-requires : tie.Need-write-identifiers-requires
-write-identifiers-requires c κs = (c .before .before .before .before .before .before .before .before .before .before .before .before .pre .0 .whole, simp (length-take, length-drop) (omega (arith, c .before .before .before .list-neighbours .ensures .1, c .before .before .before .before .before .before .before .before .before .before .before .before .pre .2, few-bridges (c .before .before .before .before .before .before .before .before .before .before .before .before .pre .0))))
+write-identifiers-requires c κs =
+    let at-list-neighbours = c .before .before .before in
+    let at-start = at-list-neighbours .before .before .before .before .before .before .before .before .before in
+    let (checked, _, network-length) = at-start .pre in
+    let (_, the-network-length) = at-list-neighbours .list-neighbours .ensures in
+    (checked .whole, simp (length-take, length-drop) (omega (arith, the-network-length, network-length, few-bridges checked)))
 
 cast-network : tie.Need-cast-network
 cast-network c = search needs
@@ -47,24 +60,37 @@ slice-write-network : tie.Need-slice-write-network
 slice-write-network c = search needs
 
 same-length : tie.Need-same-length
-same-length c = made-length (c .before .before .before .before .before .before .before .before .before .before .before .before .before .before .before .before .pre .0) (c .before .before .before .before .before .before .before .before .before .before .before .before .before .before .before .before .pre .1 .indexed .few) (c .before .before .before .before .before .before .before .before .before .before .before .lowest-hops .ensures) (c .before .before .before .before .before .before .before .list-neighbours .ensures .0) (c .before .before .before .before .before .before .before .list-neighbours .ensures .1 ∙ c .before .before .before .before .before .before .before .before .before .before .before .before .before .before .before .before .pre .2) (c .before .before .before .write-identifiers .ensures) (search needs) ∙ sym (c .before .before .before .before .before .before .before .before .before .before .before .before .before .before .before .before .pre .2)
+same-length c =
+    made-length
+    (c .before .before .before .before .before .before .before .before .before .before .before .before .before .before .before .before .pre .0)
+    (c .before .before .before .before .before .before .before .before .before .before .before .before .before .before .before .before .pre .1 .indexed .few)
+    (c .before .before .before .before .before .before .before .before .before .before .before .lowest-hops .ensures)
+    (c .before .before .before .before .before .before .before .list-neighbours .ensures .0)
+    (c .before .before .before .before .before .before .before .list-neighbours .ensures .1
+    ∙ c .before .before .before .before .before .before .before .before .before .before .before .before .before .before .before .before .pre .2)
+    (c .before .before .before .write-identifiers .ensures) (search needs)
+    ∙ sym
+    (c .before .before .before .before .before .before .before .before .before .before .before .before .before .before .before .before .pre .2)
 
 returns : tie.Need-returns
-returns c = record { checked = c .before .before .before .before .before .before .before .before .before .before .before .before .before .before .before .before .pre .0; network = network-of-table (c .before .before .before .before .before .before .before .before .before .before .before .before .before .before .before .before .pre .0) (c .before .before .before .before .before .before .before .before .before .before .before .before .before .before .before .before .pre .1 .indexed .few) (c .before .before .before .before .before .before .before .before .before .before .before .lowest-hops .ensures) (c .before .before .before .before .before .before .before .list-neighbours .ensures .0) (c .before .before .before .before .before .before .before .list-neighbours .ensures .1 ∙ c .before .before .before .before .before .before .before .before .before .before .before .before .before .before .before .before .pre .2) (c .before .before .before .write-identifiers .ensures) (search needs) }
+returns c =
+    record {
+      checked =
+          c .before .before .before .before .before .before .before .before .before .before .before .before .before .before .before .before .pre .0;
+      network =
+          network-of-table
+          (c .before .before .before .before .before .before .before .before .before .before .before .before .before .before .before .before .pre .0)
+          (c .before .before .before .before .before .before .before .before .before .before .before .before .before .before .before .before .pre .1 .indexed .few)
+          (c .before .before .before .before .before .before .before .before .before .before .before .lowest-hops .ensures)
+          (c .before .before .before .before .before .before .before .list-neighbours .ensures .0)
+          (c .before .before .before .before .before .before .before .list-neighbours .ensures .1
+          ∙ c .before .before .before .before .before .before .before .before .before .before .before .before .before .before .before .before .pre .2)
+          (c .before .before .before .write-identifiers .ensures) (search needs);
+    }
 
 pub make-network-spec : {M : Type 1} → statement M
 make-network-spec =
     tie.close
-    (tie.spec
-    slice-aggregate-lowest-hops
-    lowest-hops-requires
-    slice-aggregate-list-neighbours
-    list-neighbours-requires
-    sub-write-identifiers
-    part-write-identifiers-start
-    part-write-identifiers-end
-    write-identifiers-requires
-    cast-network
-    slice-write-network
-    same-length
-    returns)
+    (tie.spec slice-aggregate-lowest-hops lowest-hops-requires slice-aggregate-list-neighbours list-neighbours-requires
+    sub-write-identifiers part-write-identifiers-start part-write-identifiers-end write-identifiers-requires cast-network
+    slice-write-network same-length returns)

@@ -20,7 +20,9 @@ wide-requires : tie.Need-wide-requires
 wide-requires c κs = search needs
 
 returns : tie.Need-returns
-returns c = c .wide .ensures ∙ sym (part-at (c .before .before .before .args .network .now) startsAt 65 (c .before .before .before .args .u) (omega arith))
+returns c =
+    let at-start = c .before .before .before in
+    c .wide .ensures ∙ sym (part-at (at-start .args .network .now) startsAt 65 (at-start .args .u) (omega arith))
 
 pub first-hop-spec : {M : Type 1} → statement M
 first-hop-spec =

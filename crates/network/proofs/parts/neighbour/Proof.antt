@@ -20,7 +20,9 @@ wide-requires : tie.Need-wide-requires
 wide-requires c κs = search needs
 
 returns : tie.Need-returns
-returns c = c .wide .ensures ∙ sym (part-at (c .before .before .before .args .network .now) neighboursAt 512 (c .before .before .before .args .i) (omega arith))
+returns c =
+    let at-start = c .before .before .before in
+    c .wide .ensures ∙ sym (part-at (at-start .args .network .now) neighboursAt 512 (at-start .args .i) (omega arith))
 
 pub neighbour-spec : {M : Type 1} → statement M
 neighbour-spec =

@@ -1,6 +1,6 @@
 -- `network::parts::port` reads a word of its part. Assumes nothing.
 use native.Mathlib.Omega.{arith}
-use mathlib.Core.Path.{sym, _∙_}
+use mathlib.Core.Path.{sym}
 use Rattle.network.specs.Layout.{portsAt}
 use Rattle.network.specs.laws.LayoutLaws.{part-at}
 use borrow.Author.Needs.{needs}

@@ -48,7 +48,18 @@ slice-aggregate-tree : tie.Need-slice-aggregate-tree
 slice-aggregate-tree c = search needs
 
 tree-requires : tie.Need-tree-requires
-tree-requires c κs = (network-represented (c .before .before .before .before .before .before .before .before .before .before .before .before .before .before .args .index) _ _ (c .before .before .before .before .before .before .before .before .before .before .mask-of .ensures) (c .before .before .before .before .before .before .before .before .write-keys .ensures) _ (c .before .before .before .before .before .before .bridges .ensures) (c .before .before .before .before .before .before .before .before .before .before .before .before .before .before .pre .0), omega (arith, c .before .before .before .before .before .before .bridges .ensures, c .before .before .before .before .before .before .before .before .before .before .before .before .before .before .pre .3), omega (arith, c .before .before .before .before .before .before .before .before .before .before .before .before .before .before .pre .4), omega (arith, c .before .before .before .before .before .before .before .before .before .before .before .before .before .before .pre .5))
+tree-requires c κs =
+    let at-bridges = c .before .before .before .before .before .before in
+    let at-write-keys = at-bridges .before .before in
+    let at-mask-of = at-write-keys .before .before in
+    let at-start = at-mask-of .before .before .before .before in
+    let (is-network, _, _, root-bound, labels-room, path-ids-room) = at-start .pre in (
+      network-represented (at-start .args .index) _ _ (at-mask-of .mask-of .ensures) (at-write-keys .write-keys .ensures) _
+          (at-bridges .bridges .ensures) is-network,
+      omega (arith, at-bridges .bridges .ensures, root-bound),
+      omega (arith, labels-room),
+      omega (arith, path-ids-room),
+    )
 
 same-length : tie.Need-same-length
 same-length c = search needs
@@ -57,27 +68,18 @@ same-length-2 : tie.Need-same-length-2
 same-length-2 c = search needs
 
 returns : tie.Need-returns
-returns c = tree-in-network (c .before .before .before .before .before .before .before .before .before .before .before .before .before .before .before .before .before .before .before .args .index) _ _ (c .before .before .before .before .before .before .before .before .before .before .before .before .before .before .before .mask-of .ensures) (c .before .before .before .before .before .before .before .before .before .before .before .before .before .write-keys .ensures) _ (c .before .before .before .before .before .before .before .before .before .before .before .bridges .ensures) _ _ (c .before .before .before .before .tree .ensures)
+returns c =
+    let at-tree = c .before .before .before .before in
+    let at-bridges = at-tree .before .before .before .before .before .before .before in
+    let at-write-keys = at-bridges .before .before in
+    let at-mask-of = at-write-keys .before .before in
+    let at-start = at-mask-of .before .before .before .before in
+    tree-in-network (at-start .args .index) _ _ (at-mask-of .mask-of .ensures) (at-write-keys .write-keys .ensures) _
+    (at-bridges .bridges .ensures) _ _ (at-tree .tree .ensures)
 
 pub tree-in-network-spec : {M : Type 1} → statement M
 tree-in-network-spec =
     tie.close
-    (tie.spec
-    mask-of-requires
-    slice-aggregate-write-keys
-    write-keys-requires
-    bridges-requires
-    sub-tree
-    part-tree-start
-    part-tree-end
-    sub-tree-2
-    part-tree-start-2
-    part-tree-end-2
-    sub-tree-3
-    part-tree-start-3
-    part-tree-end-3
-    slice-aggregate-tree
-    tree-requires
-    same-length
-    same-length-2
-    returns)
+    (tie.spec mask-of-requires slice-aggregate-write-keys write-keys-requires bridges-requires sub-tree part-tree-start part-tree-end
+    sub-tree-2 part-tree-start-2 part-tree-end-2 sub-tree-3 part-tree-start-3 part-tree-end-3 slice-aggregate-tree tree-requires same-length
+    same-length-2 returns)

@@ -18,22 +18,32 @@ slice-aggregate-tree-in-network-2 : tie.Need-slice-aggregate-tree-in-network-2
 slice-aggregate-tree-in-network-2 c = search needs
 
 tree-in-network-requires : tie.Need-tree-in-network-requires
-tree-in-network-requires c κs = (is-network (c .before .before .before .before .make-network .ensures), c .before .before .before .before .before .before .before .before .before .pre .1, c .before .before .before .before .before .before .before .before .before .pre .2, omega (arith, bridges-in-table (c .before .before .before .before .make-network .ensures), c .before .before .before .before .before .before .before .before .before .pre .3), c .before .before .before .before .before .before .before .before .before .pre .4, search needs)
+tree-in-network-requires c κs = (
+  let at-make-network = c .before .before .before .before in is-network (at-make-network .make-network .ensures),
+  let at-start = c .before .before .before .before .before .before .before .before .before in
+      let (_, index-least, _, _, _, _) = at-start .pre in index-least,
+  let at-start = c .before .before .before .before .before .before .before .before .before in
+      let (_, _, index-bound, _, _, _) = at-start .pre in index-bound,
+  let at-make-network = c .before .before .before .before in
+      let at-start = at-make-network .before .before .before .before .before in
+      let (_, _, _, root-bound, _, _) = at-start .pre in
+      omega (arith, bridges-in-table (at-make-network .make-network .ensures), root-bound),
+  let at-start = c .before .before .before .before .before .before .before .before .before in
+      let (_, _, _, _, labels-room, _) = at-start .pre in labels-room,
+  search needs,
+)
 
 same-length : tie.Need-same-length
 same-length c = search needs
 
 returns : tie.Need-returns
-returns c = c .before .before .before .tree-in-network .ensures .of-plan _ (c .before .before .before .before .before .before .before .before .make-network .ensures .network)
+returns c =
+    let at-tree-in-network = c .before .before .before in
+    let at-make-network = at-tree-in-network .before .before .before .before .before in
+    at-tree-in-network .tree-in-network .ensures .of-plan _ (at-make-network .make-network .ensures .network)
 
 pub tree-of-table-spec : {M : Type 1} → statement M
 tree-of-table-spec =
     tie.close
-    (tie.spec
-    slice-aggregate-make-network
-    make-network-requires
-    slice-aggregate-tree-in-network
-    slice-aggregate-tree-in-network-2
-    tree-in-network-requires
-    same-length
-    returns)
+    (tie.spec slice-aggregate-make-network make-network-requires slice-aggregate-tree-in-network slice-aggregate-tree-in-network-2
+    tree-in-network-requires same-length returns)

@@ -36,7 +36,18 @@ add-if1 : tie.Need-add-if1
 add-if1 c = search needs
 
 returns : tie.Need-returns
-returns c = (c .before .before .before .before .before .before .pre .1 .1, (omega (arith, c .before .before .before .before .before .before .pre .1 .1 .has-line, c .before .before .line-of .ensures .1), tree-there (c .before .before .before .before .before .before .pre .1 .1) (c .before .before .before .before .before .before .args .index) (c .before .before .before .before .before .before .args .root) (c .before .before .before .before .before .before .pre .0 .1) (c .before .before .before .before .before .before .pre .0 .2) (c .before .before .before .before .before .before .pre .0 .3) (c .before .before .line-of .result) (c .before .before .line-of .ensures .0) (c .if1 .taken)))
+returns c =
+    let at-line-of = c .before .before in
+    let at-start = at-line-of .before .before .before .before in
+    let ((_, index-least, index-bound, root-bound), (_, trees-kept)) = at-start .pre in
+    let (line-of-is, line-of-bound) = at-line-of .line-of .ensures in (
+      trees-kept,
+      (
+        omega (arith, trees-kept .has-line, line-of-bound),
+        tree-there trees-kept (at-start .args .index) (at-start .args .root) index-least index-bound root-bound
+            (at-line-of .line-of .result) line-of-is (c .if1 .taken),
+      ),
+    )
 
 add-tree-in-network : tie.Need-add-tree-in-network
 add-tree-in-network c = search needs
@@ -76,36 +87,44 @@ same-length-2 c = search needs
 
 returns-2 : tie.Need-returns-2
 returns-2 c =
-    let kept = tree-kept (c .before .before .before .before .before .before .before .before .before .before .before .before .before .pre .1 .1) (c .before .before .before .before .before .before .before .before .before .before .before .before .before .args .index) (c .before .before .before .before .before .before .before .before .before .before .before .before .before .args .root) (c .before .before .before .before .before .before .before .before .before .before .before .before .before .pre .0 .1) (c .before .before .before .before .before .before .before .before .before .before .before .before .before .pre .0 .2) (c .before .before .before .before .before .before .before .before .before .before .before .before .before .pre .0 .3) (c .before .before .before .before .before .before .before .before .before .before .before .before .before .pre .0 .0 .network .represents .most) (c .before .before .before .before .before .before .before .before .before .line-of .result) (c .before .before .before .before .before .before .before .before .before .line-of .ensures .1) _ (search needs) (c .before .before .before .before .tree-in-network .ensures)
-    in let new = new-tree (c .before .before .before .before .before .before .before .before .before .before .before .before .before .pre .1 .1) (c .before .before .before .before .before .before .before .before .before .before .before .before .before .args .index) (c .before .before .before .before .before .before .before .before .before .before .before .before .before .args .root) (c .before .before .before .before .before .before .before .before .before .before .before .before .before .pre .0 .1) (c .before .before .before .before .before .before .before .before .before .before .before .before .before .pre .0 .2) (c .before .before .before .before .before .before .before .before .before .before .before .before .before .pre .0 .3) (c .before .before .before .before .before .before .before .before .before .before .before .before .before .pre .0 .0 .network .represents .most) (c .before .before .before .before .before .before .before .before .before .line-of .result) (c .before .before .before .before .before .before .before .before .before .line-of .ensures .1) _ (search needs) (c .before .before .before .before .tree-in-network .ensures)
-    in let inside = labels-inside (c .before .before .before .before .before .before .before .before .before .before .before .before .before .pre .1 .1) (c .before .before .before .before .before .before .before .before .before .before .before .before .before .args .index) (c .before .before .before .before .before .before .before .before .before .before .before .before .before .args .root) (c .before .before .before .before .before .before .before .before .before .before .before .before .before .pre .0 .1) (c .before .before .before .before .before .before .before .before .before .before .before .before .before .pre .0 .2) (c .before .before .before .before .before .before .before .before .before .before .before .before .before .pre .0 .3) (c .before .before .before .before .before .before .before .before .before .before .before .before .before .pre .0 .0 .network .represents .most) (c .before .before .before .before .before .before .before .before .before .line-of .result) (c .before .before .before .before .before .before .before .before .before .line-of .ensures .1) _ (search needs) (c .before .before .before .before .tree-in-network .ensures)
-    in (kept, (inside, new))
+    let kept =
+    tree-kept (c .before .before .before .before .before .before .before .before .before .before .before .before .before .pre .1 .1)
+    (c .before .before .before .before .before .before .before .before .before .before .before .before .before .args .index)
+    (c .before .before .before .before .before .before .before .before .before .before .before .before .before .args .root)
+    (c .before .before .before .before .before .before .before .before .before .before .before .before .before .pre .0 .1)
+    (c .before .before .before .before .before .before .before .before .before .before .before .before .before .pre .0 .2)
+    (c .before .before .before .before .before .before .before .before .before .before .before .before .before .pre .0 .3)
+    (c .before .before .before .before .before .before .before .before .before .before .before .before .before .pre .0 .0 .network .represents .most)
+    (c .before .before .before .before .before .before .before .before .before .line-of .result)
+    (c .before .before .before .before .before .before .before .before .before .line-of .ensures .1) _ (search needs)
+    (c .before .before .before .before .tree-in-network .ensures) in
+    let new =
+    new-tree (c .before .before .before .before .before .before .before .before .before .before .before .before .before .pre .1 .1)
+    (c .before .before .before .before .before .before .before .before .before .before .before .before .before .args .index)
+    (c .before .before .before .before .before .before .before .before .before .before .before .before .before .args .root)
+    (c .before .before .before .before .before .before .before .before .before .before .before .before .before .pre .0 .1)
+    (c .before .before .before .before .before .before .before .before .before .before .before .before .before .pre .0 .2)
+    (c .before .before .before .before .before .before .before .before .before .before .before .before .before .pre .0 .3)
+    (c .before .before .before .before .before .before .before .before .before .before .before .before .before .pre .0 .0 .network .represents .most)
+    (c .before .before .before .before .before .before .before .before .before .line-of .result)
+    (c .before .before .before .before .before .before .before .before .before .line-of .ensures .1) _ (search needs)
+    (c .before .before .before .before .tree-in-network .ensures) in
+    let inside =
+    labels-inside (c .before .before .before .before .before .before .before .before .before .before .before .before .before .pre .1 .1)
+    (c .before .before .before .before .before .before .before .before .before .before .before .before .before .args .index)
+    (c .before .before .before .before .before .before .before .before .before .before .before .before .before .args .root)
+    (c .before .before .before .before .before .before .before .before .before .before .before .before .before .pre .0 .1)
+    (c .before .before .before .before .before .before .before .before .before .before .before .before .before .pre .0 .2)
+    (c .before .before .before .before .before .before .before .before .before .before .before .before .before .pre .0 .3)
+    (c .before .before .before .before .before .before .before .before .before .before .before .before .before .pre .0 .0 .network .represents .most)
+    (c .before .before .before .before .before .before .before .before .before .line-of .result)
+    (c .before .before .before .before .before .before .before .before .before .line-of .ensures .1) _ (search needs)
+    (c .before .before .before .before .tree-in-network .ensures) in
+    (kept, (inside, new))
 
 pub kept-tree-spec : {M : Type 1} → statement M
 kept-tree-spec =
     tie.close
-    (tie.spec
-    sub-slot
-    mul-slot
-    add-slot
-    line-of-requires
-    mul-at
-    add-place
-    mul-if1
-    slice-read-if1
-    cast-if1
-    add-if1
-    returns
-    add-tree-in-network
-    mul-tree-in-network
-    sub-tree-in-network
-    part-tree-in-network-start
-    part-tree-in-network-end
-    tree-in-network-requires
-    cast-store
-    add-store
-    mul-store
-    slice-write-store
-    same-length
-    same-length-2
-    returns-2)
+    (tie.spec sub-slot mul-slot add-slot line-of-requires mul-at add-place mul-if1 slice-read-if1 cast-if1 add-if1 returns
+    add-tree-in-network mul-tree-in-network sub-tree-in-network part-tree-in-network-start part-tree-in-network-end tree-in-network-requires
+    cast-store add-store mul-store slice-write-store same-length same-length-2 returns-2)

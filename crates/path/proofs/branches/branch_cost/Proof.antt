@@ -15,15 +15,14 @@ is-no-path-requires c κs = search needs
 
 returns : tie.Need-returns
 returns c =
-    let at-is-no-path = c .before in
-    let at-cost-at = at-is-no-path .before in
-    rw (eq-eqb _ noPathCost (no-path (at-cost-at .cost-at .ensures) (at-is-no-path .is-no-path .ensures) (c .if1 .taken))) refl
+    let at-cost-at = c .before .before in
+    rw (eq-eqb _ noPathCost (no-path (at-cost-at .cost-at .ensures) (c .before .is-no-path .ensures) (c .if1 .taken))) refl
 
 returns-2 : tie.Need-returns-2
 returns-2 c =
-    let at-is-no-path = c .before in
-    let at-cost-at = at-is-no-path .before in
-    rw (ne-eqb _ noPathCost (a-path (at-cost-at .cost-at .ensures) (at-is-no-path .is-no-path .ensures) (c .if1 .left))) (at-cost-at .cost-at .ensures)
+    let at-cost-at = c .before .before in
+    rw (ne-eqb _ noPathCost (a-path (at-cost-at .cost-at .ensures) (c .before .is-no-path .ensures) (c .if1 .left)))
+    (at-cost-at .cost-at .ensures)
 
 pub branch-cost-spec : {M : Type 1} → statement M
 branch-cost-spec = tie.close (tie.spec cost-at-requires is-no-path-requires returns returns-2)

@@ -15,19 +15,18 @@ is-no-path-requires c κs = search needs
 
 returns : tie.Need-returns
 returns c =
-    let at-is-no-path = c .before in
-    let at-cost-at = at-is-no-path .before in
-    rw (eq-eqb _ noPathCost (no-path (at-cost-at .cost-at .ensures) (at-is-no-path .is-no-path .ensures) (c .if1 .taken))) refl
+    let at-cost-at = c .before .before in
+    rw (eq-eqb _ noPathCost (no-path (at-cost-at .cost-at .ensures) (c .before .is-no-path .ensures) (c .if1 .taken))) refl
 
 hops-at-requires : tie.Need-hops-at-requires
 hops-at-requires c κs = search needs
 
 returns-2 : tie.Need-returns-2
 returns-2 c =
-    let at-if1 = c .before in
-    let at-is-no-path = at-if1 .before in
+    let at-is-no-path = c .before .before in
     let at-cost-at = at-is-no-path .before in
-    rw (ne-eqb _ noPathCost (a-path (at-cost-at .cost-at .ensures) (at-is-no-path .is-no-path .ensures) (at-if1 .if1 .left))) (c .hops-at .ensures)
+    rw (ne-eqb _ noPathCost (a-path (at-cost-at .cost-at .ensures) (at-is-no-path .is-no-path .ensures) (c .before .if1 .left)))
+    (c .hops-at .ensures)
 
 pub branch-hops-spec : {M : Type 1} → statement M
 branch-hops-spec =

@@ -14,13 +14,19 @@ is-no-path-requires : tie.Need-is-no-path-requires
 is-no-path-requires c κs = search needs
 
 returns : tie.Need-returns
-returns c = rw (eq-eqb _ noPathCost (no-path (c .before .before .cost-at .ensures) (c .before .is-no-path .ensures) (c .if1 .taken))) refl
+returns c =
+    let at-cost-at = c .before .before in
+    rw (eq-eqb _ noPathCost (no-path (at-cost-at .cost-at .ensures) (c .before .is-no-path .ensures) (c .if1 .taken))) refl
 
 next-number-requires : tie.Need-next-number-requires
 next-number-requires c κs = search needs
 
 returns-2 : tie.Need-returns-2
-returns-2 c = rw (ne-eqb _ noPathCost (a-path (c .before .before .before .cost-at .ensures) (c .before .before .is-no-path .ensures) (c .before .if1 .left))) (c .next-number .ensures)
+returns-2 c =
+    let at-is-no-path = c .before .before in
+    let at-cost-at = at-is-no-path .before in
+    rw (ne-eqb _ noPathCost (a-path (at-cost-at .cost-at .ensures) (at-is-no-path .is-no-path .ensures) (c .before .if1 .left)))
+    (c .next-number .ensures)
 
 pub branch-last-spec : {M : Type 1} → statement M
 branch-last-spec =

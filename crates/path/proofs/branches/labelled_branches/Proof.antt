@@ -9,33 +9,30 @@ refused-requires c κs = search needs
 
 returns : tie.Need-returns
 returns c =
-    let at-if1 = c .before in
-    let at-start = at-if1 .before .before .before .before .before in
-    short-costs (at-start .args .labels .now) (at-start .args .n) (at-start .args .costs .now) (at-start .args .hops .now) (at-start .args .lasts .now) _ (c .refused .ensures)
-    (at-if1 .if1 .taken)
+    let at-start = c .before .before .before .before .before .before in
+    short-costs (at-start .args .labels .now) (at-start .args .n) (at-start .args .costs .now) (at-start .args .hops .now)
+    (at-start .args .lasts .now) _ (c .refused .ensures) (c .before .if1 .taken)
 
 refused-requires-2 : tie.Need-refused-requires-2
 refused-requires-2 c κs = search needs
 
 returns-2 : tie.Need-returns-2
 returns-2 c =
-    let at-if2 = c .before in
-    let at-if1 = at-if2 .before in
+    let at-if1 = c .before .before in
     let at-start = at-if1 .before .before .before .before .before in
-    short-hops (at-start .args .labels .now) (at-start .args .n) (at-start .args .costs .now) (at-start .args .hops .now) (at-start .args .lasts .now) _ (c .refused2 .ensures)
-    (at-if1 .if1 .left) (at-if2 .if2 .taken)
+    short-hops (at-start .args .labels .now) (at-start .args .n) (at-start .args .costs .now) (at-start .args .hops .now)
+    (at-start .args .lasts .now) _ (c .refused2 .ensures) (at-if1 .if1 .left) (c .before .if2 .taken)
 
 refused-requires-3 : tie.Need-refused-requires-3
 refused-requires-3 c κs = search needs
 
 returns-3 : tie.Need-returns-3
 returns-3 c =
-    let at-if3 = c .before in
-    let at-if2 = at-if3 .before in
+    let at-if2 = c .before .before in
     let at-if1 = at-if2 .before in
     let at-start = at-if1 .before .before .before .before .before in
-    short-lasts (at-start .args .labels .now) (at-start .args .n) (at-start .args .costs .now) (at-start .args .hops .now) (at-start .args .lasts .now) _ (c .refused3 .ensures)
-    (at-if1 .if1 .left) (at-if2 .if2 .left) (at-if3 .if3 .taken)
+    short-lasts (at-start .args .labels .now) (at-start .args .n) (at-start .args .costs .now) (at-start .args .hops .now)
+    (at-start .args .lasts .now) _ (c .refused3 .ensures) (at-if1 .if1 .left) (at-if2 .if2 .left) (c .before .if3 .taken)
 
 write-branches-requires : tie.Need-write-branches-requires
 write-branches-requires c κs = search needs
@@ -59,22 +56,12 @@ returns-4 c =
     let at-if2 = at-if3 .before in
     let at-if1 = at-if2 .before in
     let at-start = at-if1 .before .before .before .before .before in
-    branches-written (at-start .args .labels .now) (at-start .args .n) (at-start .args .costs .now) (at-start .args .hops .now) (at-start .args .lasts .now) _ _ _ (at-if1 .if1 .left)
-    (at-if2 .if2 .left) (at-if3 .if3 .left) (at-write-branches .write-branches .ensures)
+    branches-written (at-start .args .labels .now) (at-start .args .n) (at-start .args .costs .now) (at-start .args .hops .now)
+    (at-start .args .lasts .now) _ _ _ (at-if1 .if1 .left) (at-if2 .if2 .left) (at-if3 .if3 .left)
+    (at-write-branches .write-branches .ensures)
 
 pub labelled-branches-spec : {M : Type 1} → statement M
 labelled-branches-spec =
     tie.close
-    (tie.spec
-    refused-requires
-    returns
-    refused-requires-2
-    returns-2
-    refused-requires-3
-    returns-3
-    write-branches-requires
-    cast-t15
-    same-length
-    same-length-2
-    same-length-3
-    returns-4)
+    (tie.spec refused-requires returns refused-requires-2 returns-2 refused-requires-3 returns-3 write-branches-requires cast-t15
+    same-length same-length-2 same-length-3 returns-4)

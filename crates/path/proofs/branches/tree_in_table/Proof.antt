@@ -20,13 +20,22 @@ refused-requires : tie.Need-refused-requires
 refused-requires c κs = search needs
 
 returns : tie.Need-returns
-returns c = no-branches-named (planAt (wordsOf (c .before .before .before .before .before .before .before .before .before .before .args .table .now)) (c .before .before .before .before .before .before .before .before .before .before .args .s)) (c .before .before .before .before .before .before .before .before .before .before .pre .0 .laws) (c .before .before .before .before .before .before .before .before .before .before .args .vid) (c .before .before .before .before .before .before .before .before .before .before .args .from) (c .before .before .before .named-tree .ensures) _ (c .refused .ensures) (c .before .before .before .before .before .before .before .before .before .before .args .costs .now) (c .before .before .before .before .before .before .before .before .before .before .args .hops .now) (c .before .before .before .before .before .before .before .before .before .before .args .lasts .now) (c .before .if1 .taken)
+returns c =
+    let at-named-tree = c .before .before .before in
+    let at-start = at-named-tree .before .before .before .before .before .before .before in
+    let (checked, _) = at-start .pre in
+    no-branches-named (planAt (wordsOf (at-start .args .table .now)) (at-start .args .s)) (checked .laws) (at-start .args .vid)
+    (at-start .args .from) (at-named-tree .named-tree .ensures) _ (c .refused .ensures) (at-start .args .costs .now)
+    (at-start .args .hops .now) (at-start .args .lasts .now) (c .before .if1 .taken)
 
 slice-aggregate-labelled-branches : tie.Need-slice-aggregate-labelled-branches
 slice-aggregate-labelled-branches c = search needs
 
 labelled-branches-requires : tie.Need-labelled-branches-requires
-labelled-branches-requires c κs = (omega arith, few-bridges (c .before .before .before .before .before .before .before .before .before .before .before .before .before .pre .0))
+labelled-branches-requires c κs =
+    let at-start = c .before .before .before .before .before .before .before .before .before .before .before .before .before in
+    let (checked, _) = at-start .pre in
+    (omega arith, few-bridges checked)
 
 same-length : tie.Need-same-length
 same-length c = search needs
@@ -38,19 +47,19 @@ same-length-3 : tie.Need-same-length-3
 same-length-3 c = search needs
 
 returns-2 : tie.Need-returns-2
-returns-2 c = (c .before .before .before .before .before .before .labelled-branches .ensures) ∙ ap (lentToThree (c .before .before .before .before .before .before .before .before .before .before .before .before .before .before .before .before .before .before .before .before .args .costs .now) (c .before .before .before .before .before .before .before .before .before .before .before .before .before .before .before .before .before .before .before .before .args .hops .now) (c .before .before .before .before .before .before .before .before .before .before .before .before .before .before .before .before .before .before .before .before .args .lasts .now)) (named-branches (planAt (wordsOf (c .before .before .before .before .before .before .before .before .before .before .before .before .before .before .before .before .before .before .before .before .args .table .now)) (c .before .before .before .before .before .before .before .before .before .before .before .before .before .before .before .before .before .before .before .before .args .s)) (c .before .before .before .before .before .before .before .before .before .before .before .before .before .before .before .before .before .before .before .before .pre .0 .laws) (c .before .before .before .before .before .before .before .before .before .before .before .before .before .before .before .before .before .before .before .before .args .vid) (c .before .before .before .before .before .before .before .before .before .before .before .before .before .before .before .before .before .before .before .before .args .from) (c .before .before .before .before .before .before .before .before .before .before .before .before .before .named-tree .ensures) _ (sym (bridges-counted (c .before .before .before .before .before .before .before .before .before .before .before .before .before .before .before .before .before .before .before .before .pre .0))) (c .before .before .before .before .before .before .before .before .before .before .before .if1 .left))
+returns-2 c =
+    let at-labelled-branches = c .before .before .before .before .before .before in
+    let at-if1 = at-labelled-branches .before .before .before .before .before in
+    let at-named-tree = at-if1 .before .before in
+    let at-start = at-named-tree .before .before .before .before .before .before .before in
+    let (checked, _) = at-start .pre in
+    (at-labelled-branches .labelled-branches .ensures)
+    ∙ ap (lentToThree (at-start .args .costs .now) (at-start .args .hops .now) (at-start .args .lasts .now))
+    (named-branches (planAt (wordsOf (at-start .args .table .now)) (at-start .args .s)) (checked .laws) (at-start .args .vid)
+    (at-start .args .from) (at-named-tree .named-tree .ensures) _ (sym (bridges-counted checked)) (at-if1 .if1 .left))
 
 pub tree-in-table-spec : {M : Type 1} → statement M
 tree-in-table-spec =
     tie.close
-    (tie.spec
-    slice-aggregate-named-tree
-    named-tree-requires
-    refused-requires
-    returns
-    slice-aggregate-labelled-branches
-    labelled-branches-requires
-    same-length
-    same-length-2
-    same-length-3
-    returns-2)
+    (tie.spec slice-aggregate-named-tree named-tree-requires refused-requires returns slice-aggregate-labelled-branches
+    labelled-branches-requires same-length same-length-2 same-length-3 returns-2)

@@ -51,14 +51,16 @@ loop-less c = search needs
 
 loop-again : tie.Need-loop-again Inv-loop μ-loop
 loop-again c =
-    let at-branch-hops = c .before in
-    let at-branch-cost = at-branch-hops .before in
+    let at-branch-cost = c .before .before in
     let at-loop-test = at-branch-cost .before in
     let at-loop = at-loop-test .before in
-    let at-start = at-loop .before .before .before .before .before in (
-      filling-on (at-loop .loop .inv .0) _ (at-start .pre .2) (at-loop-test .loop-test .taken) (at-branch-cost .branch-cost .ensures),
-      filling-on (at-loop .loop .inv .1) _ (at-start .pre .3) (at-loop-test .loop-test .taken) (at-branch-hops .branch-hops .ensures),
-      filling-on (at-loop .loop .inv .2) _ (at-start .pre .4) (at-loop-test .loop-test .taken) (c .branch-last .ensures),
+    let at-start = at-loop .before .before .before .before .before in
+    let (filling-λ, the-filling-λ, filling-λ-3) = at-loop .loop .inv in
+    let (_, _, costs-room, hops-room, lasts-room) = at-start .pre in
+    let loop-test-taken = at-loop-test .loop-test .taken in (
+      filling-on filling-λ _ costs-room loop-test-taken (at-branch-cost .branch-cost .ensures),
+      filling-on the-filling-λ _ hops-room loop-test-taken (c .before .branch-hops .ensures),
+      filling-on filling-λ-3 _ lasts-room loop-test-taken (c .branch-last .ensures),
     )
 
 same-length : tie.Need-same-length Inv-loop μ-loop
@@ -73,32 +75,16 @@ same-length-3 c = search needs
 returns : tie.Need-returns Inv-loop μ-loop
 returns c =
     let at-loop = c .before in
+    let (filling-λ, the-filling-λ, filling-λ-3) = at-loop .loop .inv in
+    let loop-test-left = c .loop-test .left in
     record {
-      costs-are = filling-ends (at-loop .loop .inv .0) (c .loop-test .left);
-      hops-are = filling-ends (at-loop .loop .inv .1) (c .loop-test .left);
-      lasts-are = filling-ends (at-loop .loop .inv .2) (c .loop-test .left);
+      costs-are = filling-ends filling-λ loop-test-left;
+      hops-are = filling-ends the-filling-λ loop-test-left;
+      lasts-are = filling-ends filling-λ-3 loop-test-left;
     }
 
 pub write-branches-spec : {M : Type 1} → statement M
 write-branches-spec =
     tie.close
-    (tie.spec
-    Inv-loop
-    μ-loop
-    loop-holds
-    branch-cost-requires
-    mul-costs
-    slice-write-costs
-    branch-hops-requires
-    mul-hops
-    slice-write-hops
-    branch-last-requires
-    mul-lasts
-    slice-write-lasts
-    add-u
-    loop-less
-    loop-again
-    same-length
-    same-length-2
-    same-length-3
-    returns)
+    (tie.spec Inv-loop μ-loop loop-holds branch-cost-requires mul-costs slice-write-costs branch-hops-requires mul-hops slice-write-hops
+    branch-last-requires mul-lasts slice-write-lasts add-u loop-less loop-again same-length same-length-2 same-length-3 returns)

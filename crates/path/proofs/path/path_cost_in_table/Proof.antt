@@ -22,19 +22,21 @@ returns : tie.Need-returns
 returns c =
     let at-named-tree = c .before .before in
     let at-start = at-named-tree .before .before .before .before in
-    nothing-named-number (planAt (wordsOf (at-start .args .table .now)) (at-start .args .s)) (at-start .pre .0 .laws) (at-start .args .vid) (at-start .args .from)
-    (at-start .args .to) (at-named-tree .named-tree .ensures) (c .if1 .taken)
+    let (checked, _) = at-start .pre in
+    nothing-named-number (planAt (wordsOf (at-start .args .table .now)) (at-start .args .s)) (checked .laws) (at-start .args .vid)
+    (at-start .args .from) (at-start .args .to) (at-named-tree .named-tree .ensures) (c .if1 .taken)
 
 slice-aggregate-cost-at : tie.Need-slice-aggregate-cost-at
 slice-aggregate-cost-at c = search needs
 
 cost-at-requires : tie.Need-cost-at-requires
 cost-at-requires c κs =
-    let at-if1 = c .before in
-    let at-named-tree = at-if1 .before .before in
+    let at-named-tree = c .before .before .before in
     let at-start = at-named-tree .before .before .before .before in
-    let walk = named-followable (planAt (wordsOf (at-start .args .table .now)) (at-start .args .s)) (at-start .pre .0 .laws) (at-start .args .vid)
-    (at-start .args .from) (at-start .args .to) (at-named-tree .named-tree .ensures) (at-if1 .if1 .left) in
+    let (checked, _) = at-start .pre in
+    let walk =
+    named-followable (planAt (wordsOf (at-start .args .table .now)) (at-start .args .s)) (checked .laws) (at-start .args .vid)
+    (at-start .args .from) (at-start .args .to) (at-named-tree .named-tree .ensures) (c .before .if1 .left) in
     omega (arith, walk .place)
 
 is-no-path-requires : tie.Need-is-no-path-requires
@@ -45,44 +47,34 @@ add-result-2 c = search needs
 
 returns-2 : tie.Need-returns-2
 returns-2 c =
-    let at-is-no-path = c .before in
-    let at-cost-at = at-is-no-path .before in
+    let at-cost-at = c .before .before in
     let at-if1 = at-cost-at .before .before in
     let at-named-tree = at-if1 .before .before in
     let at-start = at-named-tree .before .before .before .before in
-    no-path-number (planAt (wordsOf (at-start .args .table .now)) (at-start .args .s)) (at-start .pre .0 .laws) (at-start .args .vid) (at-start .args .from)
-    (at-start .args .to) (at-named-tree .named-tree .ensures) (at-if1 .if1 .left)
-    (no-path (at-cost-at .cost-at .ensures) (at-is-no-path .is-no-path .ensures) (c .if2 .taken))
+    let (checked, _) = at-start .pre in
+    no-path-number (planAt (wordsOf (at-start .args .table .now)) (at-start .args .s)) (checked .laws) (at-start .args .vid)
+    (at-start .args .from) (at-start .args .to) (at-named-tree .named-tree .ensures) (at-if1 .if1 .left)
+    (no-path (at-cost-at .cost-at .ensures) (c .before .is-no-path .ensures) (c .if2 .taken))
 
 exported-requires : tie.Need-exported-requires
 exported-requires c κs = search needs
 
 returns-3 : tie.Need-returns-3
 returns-3 c =
-    let at-if2 = c .before in
-    let at-is-no-path = at-if2 .before in
+    let at-is-no-path = c .before .before in
     let at-cost-at = at-is-no-path .before in
     let at-if1 = at-cost-at .before .before in
     let at-named-tree = at-if1 .before .before in
     let at-start = at-named-tree .before .before .before .before in
+    let (checked, _) = at-start .pre in
     c .exported .ensures
     ∙ at-cost-at .cost-at .ensures
-    ∙ path-number (planAt (wordsOf (at-start .args .table .now)) (at-start .args .s)) (at-start .pre .0 .laws) (at-start .args .vid) (at-start .args .from)
-    (at-start .args .to) (at-named-tree .named-tree .ensures) (at-if1 .if1 .left)
-    (a-path (at-cost-at .cost-at .ensures) (at-is-no-path .is-no-path .ensures) (at-if2 .if2 .left))
+    ∙ path-number (planAt (wordsOf (at-start .args .table .now)) (at-start .args .s)) (checked .laws) (at-start .args .vid)
+    (at-start .args .from) (at-start .args .to) (at-named-tree .named-tree .ensures) (at-if1 .if1 .left)
+    (a-path (at-cost-at .cost-at .ensures) (at-is-no-path .is-no-path .ensures) (c .before .if2 .left))
 
 pub path-cost-in-table-spec : {M : Type 1} → statement M
 path-cost-in-table-spec =
     tie.close
-    (tie.spec
-    slice-aggregate-named-tree
-    named-tree-requires
-    add-result
-    returns
-    slice-aggregate-cost-at
-    cost-at-requires
-    is-no-path-requires
-    add-result-2
-    returns-2
-    exported-requires
-    returns-3)
+    (tie.spec slice-aggregate-named-tree named-tree-requires add-result returns slice-aggregate-cost-at cost-at-requires is-no-path-requires
+    add-result-2 returns-2 exported-requires returns-3)

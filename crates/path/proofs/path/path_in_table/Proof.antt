@@ -19,29 +19,45 @@ refused-requires : tie.Need-refused-requires
 refused-requires c κs = search needs
 
 returns : tie.Need-returns
-returns c = nothing-named (planAt (wordsOf (c .before .before .before .before .before .before .before .before .args .table .now)) (c .before .before .before .before .before .before .before .before .args .s)) (c .before .before .before .before .before .before .before .before .pre .0 .laws) (c .before .before .before .before .before .before .before .before .args .vid) (c .before .before .before .before .before .before .before .before .args .from) (c .before .before .before .before .before .before .before .before .args .to) (c .before .before .before .named-tree .ensures) _ (c .refused .ensures) (c .before .before .before .before .before .before .before .before .args .list .now) (c .before .if1 .taken)
+returns c =
+    let at-named-tree = c .before .before .before in
+    let at-start = at-named-tree .before .before .before .before .before in
+    let (checked, _) = at-start .pre in
+    nothing-named (planAt (wordsOf (at-start .args .table .now)) (at-start .args .s)) (checked .laws) (at-start .args .vid)
+    (at-start .args .from) (at-start .args .to) (at-named-tree .named-tree .ensures) _ (c .refused .ensures) (at-start .args .list .now)
+    (c .before .if1 .taken)
 
 slice-aggregate-labelled-path : tie.Need-slice-aggregate-labelled-path
 slice-aggregate-labelled-path c = search needs
 
 labelled-path-requires : tie.Need-labelled-path-requires
-labelled-path-requires c κs = (omega arith, named-followable (planAt (wordsOf (c .before .before .before .before .before .before .before .before .before .args .table .now)) (c .before .before .before .before .before .before .before .before .before .args .s)) (c .before .before .before .before .before .before .before .before .before .pre .0 .laws) (c .before .before .before .before .before .before .before .before .before .args .vid) (c .before .before .before .before .before .before .before .before .before .args .from) (c .before .before .before .before .before .before .before .before .before .args .to) (c .before .before .before .before .named-tree .ensures) (c .before .before .if1 .left))
+labelled-path-requires c κs =
+    let at-if1 = c .before .before in
+    let at-named-tree = at-if1 .before .before in
+    let at-start = at-named-tree .before .before .before .before .before in
+    let (checked, _) = at-start .pre in (
+      omega arith,
+      named-followable (planAt (wordsOf (at-start .args .table .now)) (at-start .args .s)) (checked .laws) (at-start .args .vid)
+          (at-start .args .from) (at-start .args .to) (at-named-tree .named-tree .ensures) (at-if1 .if1 .left),
+    )
 
 same-length : tie.Need-same-length
 same-length c = search needs
 
 returns-2 : tie.Need-returns-2
-returns-2 c = (c .before .before .labelled-path .ensures) ∙ ap (lentTo (c .before .before .before .before .before .before .before .before .before .before .before .before .args .list .now)) (named-path (planAt (wordsOf (c .before .before .before .before .before .before .before .before .before .before .before .before .args .table .now)) (c .before .before .before .before .before .before .before .before .before .before .before .before .args .s)) (c .before .before .before .before .before .before .before .before .before .before .before .before .pre .0 .laws) (c .before .before .before .before .before .before .before .before .before .before .before .before .args .vid) (c .before .before .before .before .before .before .before .before .before .before .before .before .args .from) (c .before .before .before .before .before .before .before .before .before .before .before .before .args .to) (c .before .before .before .before .before .before .before .named-tree .ensures) (c .before .before .before .before .before .if1 .left))
+returns-2 c =
+    let at-labelled-path = c .before .before in
+    let at-if1 = at-labelled-path .before .before .before in
+    let at-named-tree = at-if1 .before .before in
+    let at-start = at-named-tree .before .before .before .before .before in
+    let (checked, _) = at-start .pre in
+    (at-labelled-path .labelled-path .ensures)
+    ∙ ap (lentTo (at-start .args .list .now))
+    (named-path (planAt (wordsOf (at-start .args .table .now)) (at-start .args .s)) (checked .laws) (at-start .args .vid)
+    (at-start .args .from) (at-start .args .to) (at-named-tree .named-tree .ensures) (at-if1 .if1 .left))
 
 pub path-in-table-spec : {M : Type 1} → statement M
 path-in-table-spec =
     tie.close
-    (tie.spec
-    slice-aggregate-named-tree
-    named-tree-requires
-    refused-requires
-    returns
-    slice-aggregate-labelled-path
-    labelled-path-requires
-    same-length
-    returns-2)
+    (tie.spec slice-aggregate-named-tree named-tree-requires refused-requires returns slice-aggregate-labelled-path labelled-path-requires
+    same-length returns-2)

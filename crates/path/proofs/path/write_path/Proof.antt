@@ -19,13 +19,22 @@ mul-list : tie.Need-mul-list Inv-loop μ-loop
 mul-list c = search needs
 
 slice-write-list : tie.Need-slice-write-list Inv-loop μ-loop
-slice-write-list c = omega (arith, c .before .before .before .before .pre .2, c .before .loop .inv .same-length, c .loop-test .taken)
+slice-write-list c =
+    let at-start = c .before .before .before .before in
+    let (_, _, list-room) = at-start .pre in
+    omega (arith, list-room, c .before .loop .inv .same-length, c .loop-test .taken)
 
 cast-next-number : tie.Need-cast-next-number Inv-loop μ-loop
-cast-next-number c = omega (arith, following-inside (c .before .loop .inv) (c .before .before .before .before .pre .1) (c .loop-test .taken))
+cast-next-number c =
+    let at-start = c .before .before .before .before in
+    let (_, inside, _) = at-start .pre in
+    omega (arith, following-inside (c .before .loop .inv) inside (c .loop-test .taken))
 
 next-number-requires : tie.Need-next-number-requires Inv-loop μ-loop
-next-number-requires c κs = omega (arith, c .before .before .before .before .pre .0, following-inside (c .before .loop .inv) (c .before .before .before .before .pre .1) (c .loop-test .taken))
+next-number-requires c κs =
+    let at-start = c .before .before .before .before in
+    let (labels-room, inside, _) = at-start .pre in
+    omega (arith, labels-room, following-inside (c .before .loop .inv) inside (c .loop-test .taken))
 
 add-i : tie.Need-add-i Inv-loop μ-loop
 add-i c = search needs
@@ -34,7 +43,11 @@ loop-less : tie.Need-loop-less Inv-loop μ-loop
 loop-less c = search needs
 
 loop-again : tie.Need-loop-again Inv-loop μ-loop
-loop-again c = following-on (c .before .before .loop .inv) _ (c .before .before .before .before .before .pre .2) (c .before .loop-test .taken) (c .next-number .ensures)
+loop-again c =
+    let at-loop = c .before .before in
+    let at-start = at-loop .before .before .before in
+    let (_, _, list-room) = at-start .pre in
+    following-on (at-loop .loop .inv) _ list-room (c .before .loop-test .taken) (c .next-number .ensures)
 
 same-length : tie.Need-same-length Inv-loop μ-loop
 same-length c = search needs
@@ -45,16 +58,5 @@ returns c = following-ends (c .before .loop .inv) (c .loop-test .left)
 pub write-path-spec : {M : Type 1} → statement M
 write-path-spec =
     tie.close
-    (tie.spec
-    Inv-loop
-    μ-loop
-    loop-holds
-    mul-list
-    slice-write-list
-    cast-next-number
-    next-number-requires
-    add-i
-    loop-less
-    loop-again
-    same-length
-    returns)
+    (tie.spec Inv-loop μ-loop loop-holds mul-list slice-write-list cast-next-number next-number-requires add-i loop-less loop-again
+    same-length returns)

@@ -38,7 +38,8 @@ loop-less : tie.Need-loop-less Inv-loop μ-loop
 loop-less c = search needs
 
 loop-again : tie.Need-loop-again Inv-loop μ-loop
-loop-again c = filling-on ((c .before .loop .inv)) _ (omega arith) (omega (arith, (c .loop-test .taken), (c .before .loop .inv .same-length))) refl
+loop-again c =
+    filling-on ((c .before .loop .inv)) _ (omega arith) (omega (arith, (c .loop-test .taken), (c .before .loop .inv .same-length))) refl
 
 same-length : tie.Need-same-length Inv-loop μ-loop
 same-length c = search needs
@@ -49,16 +50,4 @@ returns c = all-untouched ((c .before .loop .inv)) (omega (arith, (c .loop-test 
 pub set-untouched-spec : {M : Type 1} → statement M
 set-untouched-spec =
     tie.close
-    (tie.spec
-    Inv-loop
-    μ-loop
-    loop-holds
-    cast-list
-    add-list
-    mul-list
-    slice-write-list
-    add-i
-    loop-less
-    loop-again
-    same-length
-    returns)
+    (tie.spec Inv-loop μ-loop loop-holds cast-list add-list mul-list slice-write-list add-i loop-less loop-again same-length returns)

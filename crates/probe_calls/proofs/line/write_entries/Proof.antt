@@ -29,16 +29,24 @@ same-length-2 : tie.Need-same-length-2
 same-length-2 c = search needs
 
 returns : tie.Need-returns
-returns c = (written-as (written-on ((c .before .before .before .before .before .before .before .before .before .before .before .write-entries-answer .ensures .0)) (written-on ((c .before .before .before .before .before .before .write-fields .ensures .0)) ((c .before .before .write-byte .ensures)) (omega (arith, (c .before .before .before .before .before .before .before .before .before .before .before .write-entries-answer .ensures .1), (c .before .before .before .before .before .before .write-fields .ensures .1), (c .before .before .before .before .before .before .before .before .before .before .before .before .before .before .before .before .before .before .before .before .pre)))) (omega (arith, (c .before .before .before .before .before .before .before .before .before .before .before .write-entries-answer .ensures .1), (c .before .before .before .before .before .before .before .before .before .before .before .before .before .before .before .before .before .before .before .before .pre)))) _ (ap (λ (o : Outcome ℕ × List ℕ). entriesText o) ((c .before .before .before .before .before .before .before .before .before .before .before .before .before .before .before .entries .ensures))), omega (arith, (c .before .before .before .before .before .before .before .before .before .before .before .write-entries-answer .ensures .1), (c .before .before .before .before .before .before .write-fields .ensures .1), (c .before .before .write-byte .ensures .end-is), (c .before .before .before .before .before .before .before .before .before .before .before .before .before .before .before .before .before .before .before .before .pre)))
+returns c =
+    let at-write-byte = c .before .before in
+    let at-write-fields = at-write-byte .before .before .before .before in
+    let at-write-entries-answer = at-write-fields .before .before .before .before .before in
+    let at-entries = at-write-entries-answer .before .before .before .before in
+    let at-start = at-entries .before .before .before .before .before in
+    let (written, write-entries-answer-bound) = at-write-entries-answer .write-entries-answer .ensures in
+    let (the-written, write-fields-bound) = at-write-fields .write-fields .ensures in (
+      written-as
+          (written-on written
+          (written-on the-written ((at-write-byte .write-byte .ensures))
+          (omega (arith, write-entries-answer-bound, write-fields-bound, (at-start .pre))))
+          (omega (arith, write-entries-answer-bound, (at-start .pre))))
+          _ (ap (λ (o : Outcome ℕ × List ℕ). entriesText o) ((at-entries .entries .ensures))),
+      omega (arith, write-entries-answer-bound, write-fields-bound, (at-write-byte .write-byte .ensures .end-is), (at-start .pre)),
+    )
 
 pub write-entries-spec : {M : Type 1} → statement M
 write-entries-spec =
     tie.close
-    (tie.spec
-    entries-requires
-    write-entries-answer-requires
-    write-fields-requires
-    write-byte-requires
-    same-length
-    same-length-2
-    returns)
+    (tie.spec entries-requires write-entries-answer-requires write-fields-requires write-byte-requires same-length same-length-2 returns)

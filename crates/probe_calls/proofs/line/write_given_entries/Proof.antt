@@ -18,14 +18,17 @@ same-length : tie.Need-same-length
 same-length c = search needs
 
 returns : tie.Need-returns
-returns c = (written-on ((c .before .before .before .before .before .before .write-word .ensures)) ((c .before .before .write-field .ensures .0)) (omega (arith, (c .before .before .before .before .before .before .write-word .ensures .end-is), (c .before .before .before .before .before .before .before .before .before .before .pre))), omega (arith, (c .before .before .before .before .before .before .write-word .ensures .end-is), (c .before .before .write-field .ensures .1)))
+returns c =
+    let at-write-field = c .before .before in
+    let at-write-word = at-write-field .before .before .before .before in
+    let at-start = at-write-word .before .before .before .before in
+    let (written, write-field-bound) = at-write-field .write-field .ensures in
+    let write-word-ensures = at-write-word .write-word .ensures in (
+      written-on write-word-ensures written (omega (arith, (write-word-ensures .end-is), (at-start .pre))),
+      omega (arith, (write-word-ensures .end-is), write-field-bound),
+    )
 
 pub write-given-entries-spec : {M : Type 1} → statement M
 write-given-entries-spec =
     tie.close
-    (tie.spec
-    slice-aggregate-write-word
-    write-word-requires
-    write-field-requires
-    same-length
-    returns)
+    (tie.spec slice-aggregate-write-word write-word-requires write-field-requires same-length returns)

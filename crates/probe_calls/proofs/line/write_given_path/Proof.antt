@@ -21,15 +21,21 @@ same-length : tie.Need-same-length
 same-length c = search needs
 
 returns : tie.Need-returns
-returns c = (written-on ((c .before .before .before .before .before .before .before .before .before .before .write-word .ensures)) (written-on ((c .before .before .before .before .before .before .write-field .ensures .0)) ((c .before .before .write-field2 .ensures .0)) (omega (arith, (c .before .before .before .before .before .before .before .before .before .before .write-word .ensures .end-is), (c .before .before .before .before .before .before .write-field .ensures .1), (c .before .before .before .before .before .before .before .before .before .before .before .before .before .before .pre)))) (omega (arith, (c .before .before .before .before .before .before .before .before .before .before .write-word .ensures .end-is), (c .before .before .before .before .before .before .before .before .before .before .before .before .before .before .pre))), omega (arith, (c .before .before .before .before .before .before .before .before .before .before .write-word .ensures .end-is), (c .before .before .before .before .before .before .write-field .ensures .1), (c .before .before .write-field2 .ensures .1)))
+returns c =
+    let at-write-field2 = c .before .before in
+    let at-write-field = at-write-field2 .before .before .before .before in
+    let at-write-word = at-write-field .before .before .before .before in
+    let at-start = at-write-word .before .before .before .before in
+    let (written, write-field-bound) = at-write-field .write-field .ensures in
+    let (the-written, write-field2-bound) = at-write-field2 .write-field2 .ensures in
+    let end-is = at-write-word .write-word .ensures .end-is in (
+      written-on ((at-write-word .write-word .ensures))
+          (written-on written the-written (omega (arith, end-is, write-field-bound, (at-start .pre))))
+          (omega (arith, end-is, (at-start .pre))),
+      omega (arith, end-is, write-field-bound, write-field2-bound),
+    )
 
 pub write-given-path-spec : {M : Type 1} → statement M
 write-given-path-spec =
     tie.close
-    (tie.spec
-    slice-aggregate-write-word
-    write-word-requires
-    write-field-requires
-    write-field-requires-2
-    same-length
-    returns)
+    (tie.spec slice-aggregate-write-word write-word-requires write-field-requires write-field-requires-2 same-length returns)

@@ -30,16 +30,24 @@ same-length-2 : tie.Need-same-length-2
 same-length-2 c = search needs
 
 returns : tie.Need-returns
-returns c = (written-as (written-on ((c .before .before .before .before .before .before .before .before .before .before .before .write-path-answer .ensures .0)) (written-on ((c .before .before .before .before .before .before .write-fields .ensures .0)) ((c .before .before .write-byte .ensures)) (omega (arith, (c .before .before .before .before .before .before .before .before .before .before .before .write-path-answer .ensures .1), (c .before .before .before .before .before .before .write-fields .ensures .1), (c .before .before .before .before .before .before .before .before .before .before .before .before .before .before .before .before .before .before .before .before .pre)))) (omega (arith, (c .before .before .before .before .before .before .before .before .before .before .before .write-path-answer .ensures .1), (c .before .before .before .before .before .before .before .before .before .before .before .before .before .before .before .before .before .before .before .before .pre)))) _ (ap (λ (o : Outcome CostAndHops × List ℕ). pathText o) ((c .before .before .before .before .before .before .before .before .before .before .before .before .before .before .before .path .ensures))), omega (arith, (c .before .before .before .before .before .before .before .before .before .before .before .write-path-answer .ensures .1), (c .before .before .before .before .before .before .write-fields .ensures .1), (c .before .before .write-byte .ensures .end-is), (c .before .before .before .before .before .before .before .before .before .before .before .before .before .before .before .before .before .before .before .before .pre)))
+returns c =
+    let at-write-byte = c .before .before in
+    let at-write-fields = at-write-byte .before .before .before .before in
+    let at-write-path-answer = at-write-fields .before .before .before .before .before in
+    let at-path = at-write-path-answer .before .before .before .before in
+    let at-start = at-path .before .before .before .before .before in
+    let (written, write-path-answer-bound) = at-write-path-answer .write-path-answer .ensures in
+    let (the-written, write-fields-bound) = at-write-fields .write-fields .ensures in (
+      written-as
+          (written-on written
+          (written-on the-written ((at-write-byte .write-byte .ensures))
+          (omega (arith, write-path-answer-bound, write-fields-bound, (at-start .pre))))
+          (omega (arith, write-path-answer-bound, (at-start .pre))))
+          _ (ap (λ (o : Outcome CostAndHops × List ℕ). pathText o) ((at-path .path .ensures))),
+      omega (arith, write-path-answer-bound, write-fields-bound, (at-write-byte .write-byte .ensures .end-is), (at-start .pre)),
+    )
 
 pub write-path-spec : {M : Type 1} → statement M
 write-path-spec =
     tie.close
-    (tie.spec
-    path-requires
-    write-path-answer-requires
-    write-fields-requires
-    write-byte-requires
-    same-length
-    same-length-2
-    returns)
+    (tie.spec path-requires write-path-answer-requires write-fields-requires write-byte-requires same-length same-length-2 returns)

@@ -24,23 +24,28 @@ same-length : tie.Need-same-length
 same-length c = search needs
 
 returns : tie.Need-returns
-returns c = (written-as ((c .before .before .write-given-path .ensures .0)) _ (sym (ap (λ (a : PathAnswer). pathAnswerText (pathValues a)) ((c .before .before .before .before .before .answer .given .1)))), (c .before .before .write-given-path .ensures .1))
+returns c =
+    let at-write-given-path = c .before .before in
+    let at-answer = at-write-given-path .before .before .before in
+    let (written, write-given-path-bound) = at-write-given-path .write-given-path .ensures in (
+      written-as written _ (sym (ap (λ (a : PathAnswer). pathAnswerText (pathValues a)) ((at-answer .answer .given .1)))),
+      write-given-path-bound,
+    )
 
 same-length-2 : tie.Need-same-length-2
 same-length-2 c = search needs
 
 returns-2 : tie.Need-returns-2
-returns-2 c = (written-as ((c .before .before .write-refusal .ensures .0)) _ (sym (ap (λ (a : PathAnswer). pathAnswerText (pathValues a)) ((c .before .before .before .before .before .answer2 .given .1)))), (c .before .before .write-refusal .ensures .1))
+returns-2 c =
+    let at-write-refusal = c .before .before in
+    let at-answer2 = at-write-refusal .before .before .before in
+    let (written, write-refusal-bound) = at-write-refusal .write-refusal .ensures in (
+      written-as written _ (sym (ap (λ (a : PathAnswer). pathAnswerText (pathValues a)) ((at-answer2 .answer2 .given .1)))),
+      write-refusal-bound,
+    )
 
 pub write-path-answer-spec : {M : Type 1} → statement M
 write-path-answer-spec =
     tie.close
-    (tie.spec
-    enum-known-answer
-    write-given-path-requires
-    enum-known-answer-2
-    write-refusal-requires
-    same-length
-    returns
-    same-length-2
+    (tie.spec enum-known-answer write-given-path-requires enum-known-answer-2 write-refusal-requires same-length returns same-length-2
     returns-2)

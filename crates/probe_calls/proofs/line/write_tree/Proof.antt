@@ -41,20 +41,41 @@ same-length-4 : tie.Need-same-length-4
 same-length-4 c = search needs
 
 returns : tie.Need-returns
-returns c = (written-as (written-on ((c .before .before .before .before .before .before .before .before .before .before .before .before .before .before .before .before .before .before .before .before .before .write-tree-answer .ensures .0)) (written-on ((c .before .before .before .before .before .before .before .before .before .before .before .before .before .before .before .before .write-fields .ensures .0)) (written-on ((c .before .before .before .before .before .before .before .before .before .before .before .write-fields2 .ensures .0)) (written-on ((c .before .before .before .before .before .before .write-fields3 .ensures .0)) ((c .before .before .write-byte .ensures)) (omega (arith, (c .before .before .before .before .before .before .before .before .before .before .before .before .before .before .before .before .before .before .before .before .before .write-tree-answer .ensures .1), (c .before .before .before .before .before .before .before .before .before .before .before .before .before .before .before .before .write-fields .ensures .1), (c .before .before .before .before .before .before .before .before .before .before .before .write-fields2 .ensures .1), (c .before .before .before .before .before .before .write-fields3 .ensures .1), (c .before .before .before .before .before .before .before .before .before .before .before .before .before .before .before .before .before .before .before .before .before .before .before .before .before .before .before .before .before .before .before .before .before .before .before .before .before .before .pre)))) (omega (arith, (c .before .before .before .before .before .before .before .before .before .before .before .before .before .before .before .before .before .before .before .before .before .write-tree-answer .ensures .1), (c .before .before .before .before .before .before .before .before .before .before .before .before .before .before .before .before .write-fields .ensures .1), (c .before .before .before .before .before .before .before .before .before .before .before .write-fields2 .ensures .1), (c .before .before .before .before .before .before .before .before .before .before .before .before .before .before .before .before .before .before .before .before .before .before .before .before .before .before .before .before .before .before .before .before .before .before .before .before .before .before .pre)))) (omega (arith, (c .before .before .before .before .before .before .before .before .before .before .before .before .before .before .before .before .before .before .before .before .before .write-tree-answer .ensures .1), (c .before .before .before .before .before .before .before .before .before .before .before .before .before .before .before .before .write-fields .ensures .1), (c .before .before .before .before .before .before .before .before .before .before .before .before .before .before .before .before .before .before .before .before .before .before .before .before .before .before .before .before .before .before .before .before .before .before .before .before .before .before .pre)))) (omega (arith, (c .before .before .before .before .before .before .before .before .before .before .before .before .before .before .before .before .before .before .before .before .before .write-tree-answer .ensures .1), (c .before .before .before .before .before .before .before .before .before .before .before .before .before .before .before .before .before .before .before .before .before .before .before .before .before .before .before .before .before .before .before .before .before .before .before .before .before .before .pre)))) _ (ap (λ (o : Outcome ℕ × List ℕ × List ℕ × List ℕ). treeText o) ((c .before .before .before .before .before .before .before .before .before .before .before .before .before .before .before .before .before .before .before .before .before .before .before .before .before .before .before .before .before .tree .ensures))), omega (arith, (c .before .before .before .before .before .before .before .before .before .before .before .before .before .before .before .before .before .before .before .before .before .write-tree-answer .ensures .1), (c .before .before .before .before .before .before .before .before .before .before .before .before .before .before .before .before .write-fields .ensures .1), (c .before .before .before .before .before .before .before .before .before .before .before .write-fields2 .ensures .1), (c .before .before .before .before .before .before .write-fields3 .ensures .1), (c .before .before .write-byte .ensures .end-is), (c .before .before .before .before .before .before .before .before .before .before .before .before .before .before .before .before .before .before .before .before .before .before .before .before .before .before .before .before .before .before .before .before .before .before .before .before .before .before .pre)))
+returns c =
+    let at-write-byte = c .before .before in
+    let at-write-fields3 = at-write-byte .before .before .before .before in
+    let at-write-fields2 = at-write-fields3 .before .before .before .before .before in
+    let at-write-fields = at-write-fields2 .before .before .before .before .before in
+    let at-write-tree-answer = at-write-fields .before .before .before .before .before in
+    let at-tree = at-write-tree-answer .before .before .before .before .before .before .before .before in
+    let at-start = at-tree .before .before .before .before .before .before .before .before .before in
+    let (written, write-tree-answer-bound) = at-write-tree-answer .write-tree-answer .ensures in
+    let (the-written, write-fields-bound) = at-write-fields .write-fields .ensures in
+    let (written-3, write-fields2-bound) = at-write-fields2 .write-fields2 .ensures in
+    let (written-4, write-fields3-bound) = at-write-fields3 .write-fields3 .ensures in (
+      written-as
+          (written-on written
+          (written-on the-written
+          (written-on written-3
+          (written-on written-4 ((at-write-byte .write-byte .ensures))
+          (omega (arith, write-tree-answer-bound, write-fields-bound, write-fields2-bound, write-fields3-bound, (at-start .pre))))
+          (omega (arith, write-tree-answer-bound, write-fields-bound, write-fields2-bound, (at-start .pre))))
+          (omega (arith, write-tree-answer-bound, write-fields-bound, (at-start .pre))))
+          (omega (arith, write-tree-answer-bound, (at-start .pre))))
+          _ (ap (λ (o : Outcome ℕ × List ℕ × List ℕ × List ℕ). treeText o) ((at-tree .tree .ensures))),
+      omega (
+        arith,
+        write-tree-answer-bound,
+        write-fields-bound,
+        write-fields2-bound,
+        write-fields3-bound,
+        (at-write-byte .write-byte .ensures .end-is),
+        (at-start .pre),
+      ),
+    )
 
 pub write-tree-spec : {M : Type 1} → statement M
 write-tree-spec =
     tie.close
-    (tie.spec
-    tree-requires
-    write-tree-answer-requires
-    write-fields-requires
-    write-fields-requires-2
-    write-fields-requires-3
-    write-byte-requires
-    same-length
-    same-length-2
-    same-length-3
-    same-length-4
-    returns)
+    (tie.spec tree-requires write-tree-answer-requires write-fields-requires write-fields-requires-2 write-fields-requires-3
+    write-byte-requires same-length same-length-2 same-length-3 same-length-4 returns)

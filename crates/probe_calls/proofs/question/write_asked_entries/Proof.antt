@@ -22,25 +22,35 @@ array-borrow-prefix-list : tie.Need-array-borrow-prefix-list
 array-borrow-prefix-list c = search needs
 
 slice-aggregate-write-entries : tie.Need-slice-aggregate-write-entries
-slice-aggregate-write-entries c = simp length-take (omega (arith, (c .before .before .before .before .before .before .pre .0)))
+slice-aggregate-write-entries c =
+    let at-start = c .before .before .before .before .before .before in
+    let (places-bound, _) = at-start .pre in
+    simp length-take (omega (arith, places-bound))
 
 write-entries-requires : tie.Need-write-entries-requires
-write-entries-requires c κs = simp length-take (omega (arith, (c .before .before .before .before .before .before .before .pre .0), (c .before .before .before .before .before .before .before .pre .1)))
+write-entries-requires c κs =
+    let at-start = c .before .before .before .before .before .before .before in
+    let (places-bound, out-room) = at-start .pre in
+    simp length-take (omega (arith, places-bound, out-room))
 
 same-length : tie.Need-same-length
 same-length c = search needs
 
 returns : tie.Need-returns
-returns c = (written-as ((c .before .before .before .write-entries .ensures .0)) _ (ap (λ (l : List ℕ). entriesText (entriesOutcome ((c .before .before .before .before .before .before .before .before .before .before .before .args .table .now)) ((c .before .before .before .before .before .before .before .before .before .before .before .args .bridge)) l)) (front-untouched _ ((c .before .before .before .before .before .before .before .before .before .before .before .args .places)) 14932 ((c .before .before .before .before .before .before .before .set-untouched .ensures)) ((c .before .before .before .before .before .before .before .before .before .before .before .pre .0)))), (c .before .before .before .write-entries .ensures .1))
+returns c =
+    let at-write-entries = c .before .before .before in
+    let at-set-untouched = at-write-entries .before .before .before .before in
+    let at-start = at-set-untouched .before .before .before .before in
+    let (written, write-entries-bound) = at-write-entries .write-entries .ensures in
+    let (places-bound, _) = at-start .pre in (
+      written-as written _
+          (ap (λ (l : List ℕ). entriesText (entriesOutcome ((at-start .args .table .now)) ((at-start .args .bridge)) l))
+          (front-untouched _ ((at-start .args .places)) 14932 ((at-set-untouched .set-untouched .ensures)) places-bound)),
+      write-entries-bound,
+    )
 
 pub write-asked-entries-spec : {M : Type 1} → statement M
 write-asked-entries-spec =
     tie.close
-    (tie.spec
-    slice-aggregate-set-untouched
-    set-untouched-requires
-    array-borrow-prefix-list
-    slice-aggregate-write-entries
-    write-entries-requires
-    same-length
-    returns)
+    (tie.spec slice-aggregate-set-untouched set-untouched-requires array-borrow-prefix-list slice-aggregate-write-entries
+    write-entries-requires same-length returns)

@@ -22,25 +22,38 @@ array-borrow-prefix-list : tie.Need-array-borrow-prefix-list
 array-borrow-prefix-list c = search needs
 
 slice-aggregate-write-path : tie.Need-slice-aggregate-write-path
-slice-aggregate-write-path c = simp length-take (omega (arith, (c .before .before .before .before .before .before .pre .0)))
+slice-aggregate-write-path c =
+    let at-start = c .before .before .before .before .before .before in
+    let (places-bound, _) = at-start .pre in
+    simp length-take (omega (arith, places-bound))
 
 write-path-requires : tie.Need-write-path-requires
-write-path-requires c κs = simp length-take (omega (arith, (c .before .before .before .before .before .before .before .pre .0), (c .before .before .before .before .before .before .before .pre .1)))
+write-path-requires c κs =
+    let at-start = c .before .before .before .before .before .before .before in
+    let (places-bound, out-room) = at-start .pre in
+    simp length-take (omega (arith, places-bound, out-room))
 
 same-length : tie.Need-same-length
 same-length c = search needs
 
 returns : tie.Need-returns
-returns c = (written-as ((c .before .before .before .write-path .ensures .0)) _ (ap (λ (l : List ℕ). pathText (pathOutcome ((c .before .before .before .before .before .before .before .before .before .before .before .args .table .now)) ((c .before .before .before .before .before .before .before .before .before .before .before .args .vid)) ((c .before .before .before .before .before .before .before .before .before .before .before .args .from)) ((c .before .before .before .before .before .before .before .before .before .before .before .args .to)) l)) (front-untouched _ ((c .before .before .before .before .before .before .before .before .before .before .before .args .places)) 80 ((c .before .before .before .before .before .before .before .set-untouched .ensures)) ((c .before .before .before .before .before .before .before .before .before .before .before .pre .0)))), (c .before .before .before .write-path .ensures .1))
+returns c =
+    let at-write-path = c .before .before .before in
+    let at-set-untouched = at-write-path .before .before .before .before in
+    let at-start = at-set-untouched .before .before .before .before in
+    let (written, write-path-bound) = at-write-path .write-path .ensures in
+    let (places-bound, _) = at-start .pre in (
+      written-as written _
+          (ap
+          (λ (l : List ℕ).
+          pathText
+          (pathOutcome ((at-start .args .table .now)) ((at-start .args .vid)) ((at-start .args .from)) ((at-start .args .to)) l))
+          (front-untouched _ ((at-start .args .places)) 80 ((at-set-untouched .set-untouched .ensures)) places-bound)),
+      write-path-bound,
+    )
 
 pub write-asked-path-spec : {M : Type 1} → statement M
 write-asked-path-spec =
     tie.close
-    (tie.spec
-    slice-aggregate-set-untouched
-    set-untouched-requires
-    array-borrow-prefix-list
-    slice-aggregate-write-path
-    write-path-requires
-    same-length
-    returns)
+    (tie.spec slice-aggregate-set-untouched set-untouched-requires array-borrow-prefix-list slice-aggregate-write-path write-path-requires
+    same-length returns)

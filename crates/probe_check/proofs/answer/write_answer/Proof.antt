@@ -18,7 +18,11 @@ same-length : tie.Need-same-length
 same-length c = search needs
 
 returns : tie.Need-returns
-returns c = (written-as ((c .before .before .write-check .ensures .0)) _ (ap (λ (o : Outcome Counts). checkText o) ((c .before .before .before .before .check .ensures))), (c .before .before .write-check .ensures .1))
+returns c =
+    let at-write-check = c .before .before in
+    let at-check = at-write-check .before .before in
+    let (written, write-check-bound) = at-write-check .write-check .ensures in
+    (written-as written _ (ap (λ (o : Outcome Counts). checkText o) ((at-check .check .ensures))), write-check-bound)
 
 pub write-answer-spec : {M : Type 1} → statement M
 write-answer-spec = tie.close (tie.spec check-requires write-check-requires same-length returns)

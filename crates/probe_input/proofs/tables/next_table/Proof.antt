@@ -73,25 +73,6 @@ returns-5 c = search needs
 pub next-table-spec : {M : Type 1} → statement M
 next-table-spec =
     tie.close
-    (tie.spec
-    slice-aggregate-read-full
-    read-full-requires
-    returns
-    slice-aggregate-report
-    report-requires
-    returns-2
-    slice-aggregate-word-at
-    word-at-requires
-    cast-length
-    slice-aggregate-report-2
-    report-requires-2
-    returns-3
-    slice-relend-prefix-read-bytes
-    slice-aggregate-read-bytes
-    read-bytes-requires
-    slice-aggregate-report-3
-    report-requires-3
-    same-length
-    returns-4
-    same-length-2
-    returns-5)
+    (tie.spec slice-aggregate-read-full read-full-requires returns slice-aggregate-report report-requires returns-2 slice-aggregate-word-at
+    word-at-requires cast-length slice-aggregate-report-2 report-requires-2 returns-3 slice-relend-prefix-read-bytes
+    slice-aggregate-read-bytes read-bytes-requires slice-aggregate-report-3 report-requires-3 same-length returns-4 same-length-2 returns-5)

@@ -18,26 +18,33 @@ slice-aggregate-counts : tie.Need-slice-aggregate-counts
 slice-aggregate-counts c = search needs
 
 counts-requires : tie.Need-counts-requires
-counts-requires c κs = c .before .before .before .before .before .examine .ensures .1 _ (c .before .before .examined .given .1)
+counts-requires c κs =
+    let at-examined = c .before .before in
+    let at-examine = at-examined .before .before .before in
+    let (_, passed) = at-examine .examine .ensures in
+    passed _ (at-examined .examined .given .1)
 
 enum-known-examined-2 : tie.Need-enum-known-examined-2
 enum-known-examined-2 c = search needs
 
 returns : tie.Need-returns
-returns c = check-accepted (c .before .before .before .before .before .before .before .before .before .args .table .now) (c .before .before .before .before .before .before .examine .result) (c .before .before .before .before .before .before .examine .ensures .0) _ (c .before .before .before .examined .given .1) (c .counts .result) (c .counts .ensures)
+returns c =
+    let at-examined = c .before .before .before in
+    let at-examine = at-examined .before .before .before in
+    let at-start = at-examine .before .before .before in
+    let (examine-is, _) = at-examine .examine .ensures in
+    check-accepted (at-start .args .table .now) (at-examine .examine .result) examine-is _ (at-examined .examined .given .1)
+    (c .counts .result) (c .counts .ensures)
 
 returns-2 : tie.Need-returns-2
-returns-2 c = check-refused (c .before .before .before .before .before .before .before .args .table .now) (c .before .before .before .before .examine .result) (c .before .before .before .before .examine .ensures .0) _ _ _ (c .before .examined2 .given .1)
+returns-2 c =
+    let at-examine = c .before .before .before .before in
+    let at-start = at-examine .before .before .before in
+    let (examine-is, _) = at-examine .examine .ensures in
+    check-refused (at-start .args .table .now) (at-examine .examine .result) examine-is _ _ _ (c .before .examined2 .given .1)
 
 pub check-spec : {M : Type 1} → statement M
 check-spec =
     tie.close
-    (tie.spec
-    slice-aggregate-examine
-    examine-requires
-    enum-known-examined
-    slice-aggregate-counts
-    counts-requires
-    enum-known-examined-2
-    returns
-    returns-2)
+    (tie.spec slice-aggregate-examine examine-requires enum-known-examined slice-aggregate-counts counts-requires enum-known-examined-2
+    returns returns-2)

@@ -18,7 +18,11 @@ slice-aggregate-entries-in-table : tie.Need-slice-aggregate-entries-in-table
 slice-aggregate-entries-in-table c = search needs
 
 entries-in-table-requires : tie.Need-entries-in-table-requires
-entries-in-table-requires c κs = c .before .before .before .before .before .before .examine .ensures .1 _ (c .before .before .before .examined .given .1)
+entries-in-table-requires c κs =
+    let at-examined = c .before .before .before in
+    let at-examine = at-examined .before .before .before in
+    let (_, passed) = at-examine .examine .ensures in
+    passed _ (at-examined .examined .given .1)
 
 enum-known-examined-2 : tie.Need-enum-known-examined-2
 enum-known-examined-2 c = search needs
@@ -27,21 +31,25 @@ same-length : tie.Need-same-length
 same-length c = search needs
 
 returns : tie.Need-returns
-returns c = entries-accepted (c .before .before .before .before .before .before .before .before .before .before .before .before .before .args .table .now) (c .before .before .before .before .before .before .before .before .before .examine .result) (c .before .before .before .before .before .before .before .before .before .examine .ensures .0) _ (c .before .before .before .before .before .before .examined .given .1) (c .before .before .before .before .before .before .before .before .before .before .before .before .before .args .bridge) (c .before .before .before .before .before .before .before .before .before .before .before .before .before .args .list .now) _ (c .before .before .entries-in-table .ensures)
+returns c =
+    let at-entries-in-table = c .before .before in
+    let at-examined = at-entries-in-table .before .before .before .before in
+    let at-examine = at-examined .before .before .before in
+    let at-start = at-examine .before .before .before .before in
+    let (examine-is, _) = at-examine .examine .ensures in
+    entries-accepted (at-start .args .table .now) (at-examine .examine .result) examine-is _ (at-examined .examined .given .1)
+    (at-start .args .bridge) (at-start .args .list .now) _ (at-entries-in-table .entries-in-table .ensures)
 
 returns-2 : tie.Need-returns-2
-returns-2 c = entries-refused (c .before .before .before .before .before .before .before .before .args .table .now) (c .before .before .before .before .examine .result) (c .before .before .before .before .examine .ensures .0) _ _ _ (c .before .examined2 .given .1) (c .before .before .before .before .before .before .before .before .args .bridge) (c .before .before .before .before .before .before .before .before .args .list .now)
+returns-2 c =
+    let at-examine = c .before .before .before .before in
+    let at-start = at-examine .before .before .before .before in
+    let (examine-is, _) = at-examine .examine .ensures in
+    entries-refused (at-start .args .table .now) (at-examine .examine .result) examine-is _ _ _ (c .before .examined2 .given .1)
+    (at-start .args .bridge) (at-start .args .list .now)
 
 pub entries-spec : {M : Type 1} → statement M
 entries-spec =
     tie.close
-    (tie.spec
-    slice-aggregate-examine
-    examine-requires
-    enum-known-examined
-    slice-aggregate-entries-in-table
-    entries-in-table-requires
-    enum-known-examined-2
-    same-length
-    returns
-    returns-2)
+    (tie.spec slice-aggregate-examine examine-requires enum-known-examined slice-aggregate-entries-in-table entries-in-table-requires
+    enum-known-examined-2 same-length returns returns-2)

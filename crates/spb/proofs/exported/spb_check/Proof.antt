@@ -18,18 +18,20 @@ enum-known-examined : tie.Need-enum-known-examined
 enum-known-examined c = search needs
 
 returns : tie.Need-returns
-returns c = accepted-number (c .before .before .before .before .before .before .args .table .now) (c .before .before .before .examine .result) (c .before .before .before .examine .ensures .0) _ (c .enum-told .given .1)
+returns c =
+    let at-examine = c .before .before .before in
+    let at-start = at-examine .before .before .before in
+    let (examine-is, _) = at-examine .examine .ensures in
+    accepted-number (at-start .args .table .now) (at-examine .examine .result) examine-is _ (c .enum-told .given .1)
 
 returns-2 : tie.Need-returns-2
-returns-2 c = refused-number (c .before .before .before .before .before .before .before .args .table .now) (c .before .before .before .before .examine .result) (c .before .before .before .before .examine .ensures .0) _ _ _ (c .before .examined .given .1)
+returns-2 c =
+    let at-examine = c .before .before .before .before in
+    let at-start = at-examine .before .before .before in
+    let (examine-is, _) = at-examine .examine .ensures in
+    refused-number (at-start .args .table .now) (at-examine .examine .result) examine-is _ _ _ (c .before .examined .given .1)
 
 pub spb-check-spec : {M : Type 1} → statement M
 spb-check-spec =
     tie.close
-    (tie.spec
-    slice-aggregate-examine
-    examine-requires
-    enum-told
-    enum-known-examined
-    returns
-    returns-2)
+    (tie.spec slice-aggregate-examine examine-requires enum-told enum-known-examined returns returns-2)

@@ -18,7 +18,11 @@ slice-aggregate-path-cost-in-table : tie.Need-slice-aggregate-path-cost-in-table
 slice-aggregate-path-cost-in-table c = search needs
 
 path-cost-in-table-requires : tie.Need-path-cost-in-table-requires
-path-cost-in-table-requires c κs = c .before .before .before .before .before .examine .ensures .1 _ (c .before .before .examined .given .1)
+path-cost-in-table-requires c κs =
+    let at-examined = c .before .before in
+    let at-examine = at-examined .before .before .before in
+    let (_, passed) = at-examine .examine .ensures in
+    passed _ (at-examined .examined .given .1)
 
 enum-known-examined-2 : tie.Need-enum-known-examined-2
 enum-known-examined-2 c = search needs
@@ -30,22 +34,24 @@ add-result : tie.Need-add-result
 add-result c = search needs
 
 returns : tie.Need-returns
-returns c = cost-accepted (c .before .before .before .before .before .before .before .before .before .args .table .now) (c .before .before .before .before .before .before .examine .result) (c .before .before .before .before .before .before .examine .ensures .0) _ (c .before .before .before .examined .given .1) (c .before .before .before .before .before .before .before .before .before .args .vid) (c .before .before .before .before .before .before .before .before .before .args .from) (c .before .before .before .before .before .before .before .before .before .args .to) _ (c .path-cost-in-table .ensures)
+returns c =
+    let at-examined = c .before .before .before in
+    let at-examine = at-examined .before .before .before in
+    let at-start = at-examine .before .before .before in
+    let (examine-is, _) = at-examine .examine .ensures in
+    cost-accepted (at-start .args .table .now) (at-examine .examine .result) examine-is _ (at-examined .examined .given .1)
+    (at-start .args .vid) (at-start .args .from) (at-start .args .to) _ (c .path-cost-in-table .ensures)
 
 returns-2 : tie.Need-returns-2
-returns-2 c = cost-refused (c .before .before .before .before .before .before .before .args .table .now) (c .before .before .before .before .examine .result) (c .before .before .before .before .examine .ensures .0) _ _ _ (c .before .examined2 .given .1) (c .before .before .before .before .before .before .before .args .vid) (c .before .before .before .before .before .before .before .args .from) (c .before .before .before .before .before .before .before .args .to)
+returns-2 c =
+    let at-examine = c .before .before .before .before in
+    let at-start = at-examine .before .before .before in
+    let (examine-is, _) = at-examine .examine .ensures in
+    cost-refused (at-start .args .table .now) (at-examine .examine .result) examine-is _ _ _ (c .before .examined2 .given .1)
+    (at-start .args .vid) (at-start .args .from) (at-start .args .to)
 
 pub spb-path-cost-spec : {M : Type 1} → statement M
 spb-path-cost-spec =
     tie.close
-    (tie.spec
-    slice-aggregate-examine
-    examine-requires
-    enum-known-examined
-    slice-aggregate-path-cost-in-table
-    path-cost-in-table-requires
-    enum-known-examined-2
-    cast-result
-    add-result
-    returns
-    returns-2)
+    (tie.spec slice-aggregate-examine examine-requires enum-known-examined slice-aggregate-path-cost-in-table path-cost-in-table-requires
+    enum-known-examined-2 cast-result add-result returns returns-2)

@@ -18,7 +18,11 @@ slice-aggregate-path-in-table : tie.Need-slice-aggregate-path-in-table
 slice-aggregate-path-in-table c = search needs
 
 path-in-table-requires : tie.Need-path-in-table-requires
-path-in-table-requires c κs = c .before .before .before .before .before .before .examine .ensures .1 _ (c .before .before .before .examined .given .1)
+path-in-table-requires c κs =
+    let at-examined = c .before .before .before in
+    let at-examine = at-examined .before .before .before in
+    let (_, passed) = at-examine .examine .ensures in
+    passed _ (at-examined .examined .given .1)
 
 enum-known-examined-2 : tie.Need-enum-known-examined-2
 enum-known-examined-2 c = search needs
@@ -27,21 +31,26 @@ same-length : tie.Need-same-length
 same-length c = search needs
 
 returns : tie.Need-returns
-returns c = path-accepted (c .before .before .before .before .before .before .before .before .before .before .before .before .before .args .table .now) (c .before .before .before .before .before .before .before .before .before .examine .result) (c .before .before .before .before .before .before .before .before .before .examine .ensures .0) _ (c .before .before .before .before .before .before .examined .given .1) (c .before .before .before .before .before .before .before .before .before .before .before .before .before .args .vid) (c .before .before .before .before .before .before .before .before .before .before .before .before .before .args .from) (c .before .before .before .before .before .before .before .before .before .before .before .before .before .args .to) (c .before .before .before .before .before .before .before .before .before .before .before .before .before .args .list .now) _ (c .before .before .path-in-table .ensures)
+returns c =
+    let at-path-in-table = c .before .before in
+    let at-examined = at-path-in-table .before .before .before .before in
+    let at-examine = at-examined .before .before .before in
+    let at-start = at-examine .before .before .before .before in
+    let (examine-is, _) = at-examine .examine .ensures in
+    path-accepted (at-start .args .table .now) (at-examine .examine .result) examine-is _ (at-examined .examined .given .1)
+    (at-start .args .vid) (at-start .args .from) (at-start .args .to) (at-start .args .list .now) _
+    (at-path-in-table .path-in-table .ensures)
 
 returns-2 : tie.Need-returns-2
-returns-2 c = path-refused (c .before .before .before .before .before .before .before .before .args .table .now) (c .before .before .before .before .examine .result) (c .before .before .before .before .examine .ensures .0) _ _ _ (c .before .examined2 .given .1) (c .before .before .before .before .before .before .before .before .args .vid) (c .before .before .before .before .before .before .before .before .args .from) (c .before .before .before .before .before .before .before .before .args .to) (c .before .before .before .before .before .before .before .before .args .list .now)
+returns-2 c =
+    let at-examine = c .before .before .before .before in
+    let at-start = at-examine .before .before .before .before in
+    let (examine-is, _) = at-examine .examine .ensures in
+    path-refused (at-start .args .table .now) (at-examine .examine .result) examine-is _ _ _ (c .before .examined2 .given .1)
+    (at-start .args .vid) (at-start .args .from) (at-start .args .to) (at-start .args .list .now)
 
 pub path-spec : {M : Type 1} → statement M
 path-spec =
     tie.close
-    (tie.spec
-    slice-aggregate-examine
-    examine-requires
-    enum-known-examined
-    slice-aggregate-path-in-table
-    path-in-table-requires
-    enum-known-examined-2
-    same-length
-    returns
-    returns-2)
+    (tie.spec slice-aggregate-examine examine-requires enum-known-examined slice-aggregate-path-in-table path-in-table-requires
+    enum-known-examined-2 same-length returns returns-2)

@@ -18,7 +18,11 @@ slice-aggregate-tree-in-table : tie.Need-slice-aggregate-tree-in-table
 slice-aggregate-tree-in-table c = search needs
 
 tree-in-table-requires : tie.Need-tree-in-table-requires
-tree-in-table-requires c κs = c .before .before .before .before .before .before .before .before .examine .ensures .1 _ (c .before .before .before .before .before .examined .given .1)
+tree-in-table-requires c κs =
+    let at-examined = c .before .before .before .before .before in
+    let at-examine = at-examined .before .before .before in
+    let (_, passed) = at-examine .examine .ensures in
+    passed _ (at-examined .examined .given .1)
 
 enum-known-examined-2 : tie.Need-enum-known-examined-2
 enum-known-examined-2 c = search needs
@@ -33,23 +37,26 @@ same-length-3 : tie.Need-same-length-3
 same-length-3 c = search needs
 
 returns : tie.Need-returns
-returns c = tree-accepted (c .before .before .before .before .before .before .before .before .before .before .before .before .before .before .before .before .before .before .before .before .before .args .table .now) (c .before .before .before .before .before .before .before .before .before .before .before .before .before .before .before .examine .result) (c .before .before .before .before .before .before .before .before .before .before .before .before .before .before .before .examine .ensures .0) _ (c .before .before .before .before .before .before .before .before .before .before .before .before .examined .given .1) (c .before .before .before .before .before .before .before .before .before .before .before .before .before .before .before .before .before .before .before .before .before .args .vid) (c .before .before .before .before .before .before .before .before .before .before .before .before .before .before .before .before .before .before .before .before .before .args .from) (c .before .before .before .before .before .before .before .before .before .before .before .before .before .before .before .before .before .before .before .before .before .args .costs .now) (c .before .before .before .before .before .before .before .before .before .before .before .before .before .before .before .before .before .before .before .before .before .args .hops .now) (c .before .before .before .before .before .before .before .before .before .before .before .before .before .before .before .before .before .before .before .before .before .args .lasts .now) _ (c .before .before .before .before .before .before .tree-in-table .ensures)
+returns c =
+    let at-tree-in-table = c .before .before .before .before .before .before in
+    let at-examined = at-tree-in-table .before .before .before .before .before .before in
+    let at-examine = at-examined .before .before .before in
+    let at-start = at-examine .before .before .before .before .before .before in
+    let (examine-is, _) = at-examine .examine .ensures in
+    tree-accepted (at-start .args .table .now) (at-examine .examine .result) examine-is _ (at-examined .examined .given .1)
+    (at-start .args .vid) (at-start .args .from) (at-start .args .costs .now) (at-start .args .hops .now) (at-start .args .lasts .now) _
+    (at-tree-in-table .tree-in-table .ensures)
 
 returns-2 : tie.Need-returns-2
-returns-2 c = tree-refused (c .before .before .before .before .before .before .before .before .before .before .args .table .now) (c .before .before .before .before .examine .result) (c .before .before .before .before .examine .ensures .0) _ _ _ (c .before .examined2 .given .1) (c .before .before .before .before .before .before .before .before .before .before .args .vid) (c .before .before .before .before .before .before .before .before .before .before .args .from) (c .before .before .before .before .before .before .before .before .before .before .args .costs .now) (c .before .before .before .before .before .before .before .before .before .before .args .hops .now) (c .before .before .before .before .before .before .before .before .before .before .args .lasts .now)
+returns-2 c =
+    let at-examine = c .before .before .before .before in
+    let at-start = at-examine .before .before .before .before .before .before in
+    let (examine-is, _) = at-examine .examine .ensures in
+    tree-refused (at-start .args .table .now) (at-examine .examine .result) examine-is _ _ _ (c .before .examined2 .given .1)
+    (at-start .args .vid) (at-start .args .from) (at-start .args .costs .now) (at-start .args .hops .now) (at-start .args .lasts .now)
 
 pub tree-spec : {M : Type 1} → statement M
 tree-spec =
     tie.close
-    (tie.spec
-    slice-aggregate-examine
-    examine-requires
-    enum-known-examined
-    slice-aggregate-tree-in-table
-    tree-in-table-requires
-    enum-known-examined-2
-    same-length
-    same-length-2
-    same-length-3
-    returns
-    returns-2)
+    (tie.spec slice-aggregate-examine examine-requires enum-known-examined slice-aggregate-tree-in-table tree-in-table-requires
+    enum-known-examined-2 same-length same-length-2 same-length-3 returns returns-2)

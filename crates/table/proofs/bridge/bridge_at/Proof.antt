@@ -24,15 +24,11 @@ bridge-of-requires : tie.Need-bridge-of-requires
 bridge-of-requires c κs = search needs
 
 returns : tie.Need-returns
-returns c = c .bridge-of .ensures ∙ ap (λ (r : List ℕ). bridgeOf r) (words-from (c .before .before .before .args .word) (c .before .before .before .args .table .now))
+returns c =
+    let at-start = c .before .before .before in
+    c .bridge-of .ensures ∙ ap (λ (r : List ℕ). bridgeOf r) (words-from (at-start .args .word) (at-start .args .table .now))
 
 pub bridge-at-spec : {M : Type 1} → statement M
 bridge-at-spec =
     tie.close
-    (tie.spec
-    mul-at
-    sub-bridge-of
-    part-bridge-of-start
-    part-bridge-of-end
-    bridge-of-requires
-    returns)
+    (tie.spec mul-at sub-bridge-of part-bridge-of-start part-bridge-of-end bridge-of-requires returns)

@@ -11,15 +11,19 @@ use Rattle.table.proofs.end.read_end.Statement.{statement}
 use Rattle.table.proofs.end.read_end.Tie as tie
 
 returns : tie.Need-returns
-returns c = sym (read-cut endLayout (wordsOf (c .before .before .args .part .now)) (omega (arith, count-of-words (c .before .before .args .part .now))))
+returns c =
+    let at-start = c .before .before in
+    sym (read-cut endLayout (wordsOf (at-start .args .part .now)) (omega (arith, count-of-words (at-start .args .part .now))))
 
 word-at-requires : tie.Need-word-at-requires
 word-at-requires c κs = search needs
 
 returns-2 : tie.Need-returns-2
 returns-2 c =
+    let at-start = c .before .before .before in
+    let part = at-start .args .part .now in
     ap (λ n. whole (end n)) (omega arith)
-    ∙ sym (read-whole endLayout (wordsOf (c .before .before .before .args .part .now)) (omega (arith, count-of-words (c .before .before .before .args .part .now))) refl (inside-all (wordsOf (c .before .before .before .args .part .now))))
+    ∙ sym (read-whole endLayout (wordsOf part) (omega (arith, count-of-words part)) refl (inside-all (wordsOf part)))
 
 pub read-end-spec : {M : Type 1} → statement M
 read-end-spec = tie.close (tie.spec returns word-at-requires returns-2)

@@ -24,15 +24,11 @@ half-link-of-requires : tie.Need-half-link-of-requires
 half-link-of-requires c κs = search needs
 
 returns : tie.Need-returns
-returns c = c .half-link-of .ensures ∙ ap (λ (r : List ℕ). halfLinkOf r) (words-from (c .before .before .before .args .word) (c .before .before .before .args .table .now))
+returns c =
+    let at-start = c .before .before .before in
+    c .half-link-of .ensures ∙ ap (λ (r : List ℕ). halfLinkOf r) (words-from (at-start .args .word) (at-start .args .table .now))
 
 pub half-link-at-spec : {M : Type 1} → statement M
 half-link-at-spec =
     tie.close
-    (tie.spec
-    mul-at
-    sub-half-link-of
-    part-half-link-of-start
-    part-half-link-of-end
-    half-link-of-requires
-    returns)
+    (tie.spec mul-at sub-half-link-of part-half-link-of-start part-half-link-of-end half-link-of-requires returns)

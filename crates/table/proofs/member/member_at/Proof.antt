@@ -24,15 +24,11 @@ member-of-requires : tie.Need-member-of-requires
 member-of-requires c κs = search needs
 
 returns : tie.Need-returns
-returns c = c .member-of .ensures ∙ ap (λ (r : List ℕ). memberOf r) (words-from (c .before .before .before .args .word) (c .before .before .before .args .table .now))
+returns c =
+    let at-start = c .before .before .before in
+    c .member-of .ensures ∙ ap (λ (r : List ℕ). memberOf r) (words-from (at-start .args .word) (at-start .args .table .now))
 
 pub member-at-spec : {M : Type 1} → statement M
 member-at-spec =
     tie.close
-    (tie.spec
-    mul-at
-    sub-member-of
-    part-member-of-start
-    part-member-of-end
-    member-of-requires
-    returns)
+    (tie.spec mul-at sub-member-of part-member-of-start part-member-of-end member-of-requires returns)

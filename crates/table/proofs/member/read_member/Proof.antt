@@ -1,5 +1,5 @@
 -- `table::member::read_member` finds what the row of kind 4 lays down: each test of the code is one of `readOf`, in its order. Assumes nothing.
-use mathlib.Core.Path.{refl, sym, ap, _∙_}
+use mathlib.Core.Path.{sym, ap, _∙_}
 use native.Mathlib.Omega.{arith}
 use borrow.Author.Tests.{not-true, not-false}
 use Rattle.rule.specs.Words.{wordsOf}
@@ -12,13 +12,19 @@ use Rattle.table.proofs.member.read_member.Statement.{statement}
 use Rattle.table.proofs.member.read_member.Tie as tie
 
 returns : tie.Need-returns
-returns c = sym (read-cut memberLayout (wordsOf (c .before .before .args .part .now)) (omega (arith, count-of-words (c .before .before .args .part .now))))
+returns c =
+    let at-start = c .before .before in
+    sym (read-cut memberLayout (wordsOf (at-start .args .part .now)) (omega (arith, count-of-words (at-start .args .part .now))))
 
 word-at-requires : tie.Need-word-at-requires
 word-at-requires c κs = search needs
 
 returns-2 : tie.Need-returns-2
-returns-2 c = sym (read-zero-bit memberLayout (wordsOf (c .before .before .before .before .args .part .now)) (omega (arith, count-of-words (c .before .before .before .before .args .part .now))) (λ e. c .if2 .taken (omega arith)))
+returns-2 c =
+    let at-start = c .before .before .before .before in
+    sym
+    (read-zero-bit memberLayout (wordsOf (at-start .args .part .now)) (omega (arith, count-of-words (at-start .args .part .now)))
+    (λ e. c .if2 .taken (omega arith)))
 
 member-of-requires : tie.Need-member-of-requires
 member-of-requires c κs = search needs
@@ -31,8 +37,13 @@ within-requires c κs = search needs
 
 returns-3 : tie.Need-returns-3
 returns-3 c =
-    sym (read-outside memberLayout (wordsOf (c .before .before .before .before .before .before .before .before .args .part .now)) (omega (arith, count-of-words (c .before .before .before .before .before .before .before .before .args .part .now))) (omega arith)
-    (outside-here _ _ (wordsOf (c .before .before .before .before .before .before .before .before .args .part .now)) (c .before .within .result) _ (c .before .within .ensures) (ap (λ (x : Member). x .isid) (c .before .before .before .member-of .ensures)) (not-true _ (c .if3 .taken))))
+    let at-member-of = c .before .before .before in
+    let at-start = at-member-of .before .before .before .before .before in
+    let part = at-start .args .part .now in
+    sym
+    (read-outside memberLayout (wordsOf part) (omega (arith, count-of-words part)) (omega arith)
+    (outside-here _ _ (wordsOf part) (c .before .within .result) _ (c .before .within .ensures)
+    (ap (λ (x : Member). x .isid) (at-member-of .member-of .ensures)) (not-true _ (c .if3 .taken))))
 
 cast-within-2 : tie.Need-cast-within-2
 cast-within-2 c = search needs
@@ -42,30 +53,39 @@ within-requires-2 c κs = search needs
 
 returns-4 : tie.Need-returns-4
 returns-4 c =
-    sym (read-outside memberLayout (wordsOf (c .before .before .before .before .before .before .before .before .before .before .before .args .part .now)) (omega (arith, count-of-words (c .before .before .before .before .before .before .before .before .before .before .before .args .part .now))) (omega arith)
-    (inside-here _ _ (wordsOf (c .before .before .before .before .before .before .before .before .before .before .before .args .part .now)) (c .before .before .before .before .within .result) _ (c .before .before .before .before .within .ensures) (ap (λ (x : Member). x .isid) (c .before .before .before .before .before .before .member-of .ensures)) (not-false _ (c .before .before .before .if3 .left))
-    ∙ outside-here _ _ (wordsOf (c .before .before .before .before .before .before .before .before .before .before .before .args .part .now)) (c .before .within2 .result) _ (c .before .within2 .ensures) (ap (λ (x : Member). x .vid) (c .before .before .before .before .before .before .member-of .ensures)) (not-true _ (c .if4 .taken))))
+    let at-if3 = c .before .before .before in
+    let at-within = at-if3 .before in
+    let at-member-of = at-within .before .before in
+    let at-start = at-member-of .before .before .before .before .before in
+    let part = at-start .args .part .now in
+    let words = wordsOf part in
+    sym
+    (read-outside memberLayout words (omega (arith, count-of-words part)) (omega arith)
+    (inside-here _ _ words (at-within .within .result) _ (at-within .within .ensures)
+    (ap (λ (x : Member). x .isid) (at-member-of .member-of .ensures)) (not-false _ (at-if3 .if3 .left))
+    ∙ outside-here _ _ words (c .before .within2 .result) _ (c .before .within2 .ensures)
+    (ap (λ (x : Member). x .vid) (at-member-of .member-of .ensures)) (not-true _ (c .if4 .taken))))
 
 returns-5 : tie.Need-returns-5
 returns-5 c =
-    ap (λ (x : Member). whole (member x)) (c .before .before .before .before .before .before .member-of .ensures)
-    ∙ sym (read-whole memberLayout (wordsOf (c .before .before .before .before .before .before .before .before .before .before .before .args .part .now)) (omega (arith, count-of-words (c .before .before .before .before .before .before .before .before .before .before .before .args .part .now))) (omega arith)
-    (inside-here _ _ (wordsOf (c .before .before .before .before .before .before .before .before .before .before .before .args .part .now)) (c .before .before .before .before .within .result) _ (c .before .before .before .before .within .ensures) (ap (λ (x : Member). x .isid) (c .before .before .before .before .before .before .member-of .ensures)) (not-false _ (c .before .before .before .if3 .left))
-    ∙ inside-here _ _ (wordsOf (c .before .before .before .before .before .before .before .before .before .before .before .args .part .now)) (c .before .within2 .result) _ (c .before .within2 .ensures) (ap (λ (x : Member). x .vid) (c .before .before .before .before .before .before .member-of .ensures)) (not-false _ (c .if4 .left))
-    ∙ inside-all (wordsOf (c .before .before .before .before .before .before .before .before .before .before .before .args .part .now))))
+    let at-if3 = c .before .before .before in
+    let at-within = at-if3 .before in
+    let at-member-of = at-within .before .before in
+    let at-start = at-member-of .before .before .before .before .before in
+    let member-of-ensures = at-member-of .member-of .ensures in
+    let part = at-start .args .part .now in
+    let words = wordsOf part in
+    ap (λ (x : Member). whole (member x)) member-of-ensures
+    ∙ sym
+    (read-whole memberLayout words (omega (arith, count-of-words part)) (omega arith)
+    (inside-here _ _ words (at-within .within .result) _ (at-within .within .ensures)
+    (ap (λ (x : Member). x .isid) member-of-ensures) (not-false _ (at-if3 .if3 .left))
+    ∙ inside-here _ _ words (c .before .within2 .result) _ (c .before .within2 .ensures)
+    (ap (λ (x : Member). x .vid) member-of-ensures) (not-false _ (c .if4 .left))
+    ∙ inside-all words))
 
 pub read-member-spec : {M : Type 1} → statement M
 read-member-spec =
     tie.close
-    (tie.spec
-    returns
-    word-at-requires
-    returns-2
-    member-of-requires
-    cast-within
-    within-requires
-    returns-3
-    cast-within-2
-    within-requires-2
-    returns-4
-    returns-5)
+    (tie.spec returns word-at-requires returns-2 member-of-requires cast-within within-requires returns-3 cast-within-2 within-requires-2
+    returns-4 returns-5)

@@ -17,8 +17,9 @@ bridge-at-requires c κs = search needs
 
 returns : tie.Need-returns
 returns c =
-    let e : 3 * (c .before .before .args .d) ≡ 0 + 3 * (c .before .before .args .d) = omega arith
-    in (c .bridge-at .ensures) ∙ ap (λ (w : ℕ). bridgeOf (drop w (wordsOf ((c .before .before .args .table .now))))) e
+    let at-start = c .before .before in
+    let e : 3 * (at-start .args .d) ≡ 0 + 3 * (at-start .args .d) = omega arith in
+    (c .bridge-at .ensures) ∙ ap (λ (w : ℕ). bridgeOf (drop w (wordsOf ((at-start .args .table .now))))) e
 
 pub bridge-spec : {M : Type 1} → statement M
 bridge-spec = tie.close (tie.spec mul-bridge-at bridge-at-requires returns)

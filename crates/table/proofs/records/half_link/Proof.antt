@@ -21,14 +21,13 @@ half-link-at-requires : tie.Need-half-link-at-requires
 half-link-at-requires c κs = search needs
 
 returns : tie.Need-returns
-returns c = c .half-link-at .ensures ∙ ap (λ (w : ℕ). halfLinkOf (drop (w + 3 * c .before .before .before .args .i) (wordsOf (c .before .before .before .args .table .now)))) (c .before .half-links-from .ensures)
+returns c =
+    let at-start = c .before .before .before in
+    c .half-link-at .ensures
+    ∙ ap (λ (w : ℕ). halfLinkOf (drop (w + 3 * at-start .args .i) (wordsOf (at-start .args .table .now))))
+    (c .before .half-links-from .ensures)
 
 pub half-link-spec : {M : Type 1} → statement M
 half-link-spec =
     tie.close
-    (tie.spec
-    half-links-from-requires
-    mul-half-link-at
-    add-half-link-at
-    half-link-at-requires
-    returns)
+    (tie.spec half-links-from-requires mul-half-link-at add-half-link-at half-link-at-requires returns)

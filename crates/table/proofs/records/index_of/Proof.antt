@@ -17,16 +17,31 @@ vids-from-requires : tie.Need-vids-from-requires Inv-loop μ-loop
 vids-from-requires c κs = omega (arith, (c .before .pre))
 
 loop-holds : tie.Need-loop-holds Inv-loop μ-loop
-loop-holds c = vid-starts (wordsOf (c .before .before .args .table .now)) (c .before .before .args .s) (c .before .before .args .vid)
+loop-holds c =
+    let at-start = c .before .before in
+    vid-starts (wordsOf (at-start .args .table .now)) (at-start .args .s) (at-start .args .vid)
 
 add-vid-at : tie.Need-add-vid-at Inv-loop μ-loop
-add-vid-at c = omega (arith, (c .before .before .before .before .before .pre), (c .before .before .before .vids-from .ensures), (c .if1 .taken))
+add-vid-at c =
+    let at-vids-from = c .before .before .before in
+    let at-start = at-vids-from .before .before in
+    omega (arith, (at-start .pre), (at-vids-from .vids-from .ensures), (c .if1 .taken))
 
 vid-at-requires : tie.Need-vid-at-requires Inv-loop μ-loop
-vid-at-requires c κs = omega (arith, (c .before .before .before .before .before .pre), (c .before .before .before .vids-from .ensures), (c .if1 .taken))
+vid-at-requires c κs =
+    let at-vids-from = c .before .before .before in
+    let at-start = at-vids-from .before .before in
+    omega (arith, (at-start .pre), (at-vids-from .vids-from .ensures), (c .if1 .taken))
 
 returns : tie.Need-returns Inv-loop μ-loop
-returns c = vid-found (wordsOf (c .before .before .before .before .before .before .before .before .args .table .now)) (c .before .before .before .before .before .before .before .before .args .s) (c .before .before .before .before .before .before .before .before .args .vid) (c .before .before .before .before .before .loop .k) (c .before .before .before .before .before .loop .inv) _ _ (c .before .before .before .if1 .taken) (c .before .before .before .before .before .before .vids-from .ensures) (c .before .before .vid-at .ensures) (c .if2 .taken)
+returns c =
+    let at-vid-at = c .before .before in
+    let at-if1 = at-vid-at .before in
+    let at-loop = at-if1 .before .before in
+    let at-vids-from = at-loop .before in
+    let at-start = at-vids-from .before .before in
+    vid-found (wordsOf (at-start .args .table .now)) (at-start .args .s) (at-start .args .vid) (at-loop .loop .k) (at-loop .loop .inv) _ _
+    (at-if1 .if1 .taken) (at-vids-from .vids-from .ensures) (at-vid-at .vid-at .ensures) (c .if2 .taken)
 
 add-k : tie.Need-add-k Inv-loop μ-loop
 add-k c = search needs
@@ -35,23 +50,23 @@ loop-less : tie.Need-loop-less Inv-loop μ-loop
 loop-less c = search needs
 
 loop-again : tie.Need-loop-again Inv-loop μ-loop
-loop-again c = vid-on (wordsOf (c .before .before .before .before .before .before .before .before .args .table .now)) (c .before .before .before .before .before .before .before .before .args .s) (c .before .before .before .before .before .before .before .before .args .vid) (c .before .before .before .before .before .loop .k) (c .before .before .before .before .before .loop .inv) _ _ (c .before .before .before .if1 .taken) (c .before .before .before .before .before .before .vids-from .ensures) (c .before .before .vid-at .ensures) (c .if2 .left)
+loop-again c =
+    let at-vid-at = c .before .before in
+    let at-if1 = at-vid-at .before in
+    let at-loop = at-if1 .before .before in
+    let at-vids-from = at-loop .before in
+    let at-start = at-vids-from .before .before in
+    vid-on (wordsOf (at-start .args .table .now)) (at-start .args .s) (at-start .args .vid) (at-loop .loop .k) (at-loop .loop .inv) _ _
+    (at-if1 .if1 .taken) (at-vids-from .vids-from .ensures) (at-vid-at .vid-at .ensures) (c .if2 .left)
 
 returns-2 : tie.Need-returns-2 Inv-loop μ-loop
-returns-2 c = vid-missing (wordsOf (c .before .before .before .before .before .args .table .now)) (c .before .before .before .before .before .args .s) (c .before .before .before .before .before .args .vid) (c .before .before .loop .k) (c .before .before .loop .inv) (c .if1 .left)
+returns-2 c =
+    let at-loop = c .before .before in
+    let at-start = at-loop .before .before .before in
+    vid-missing (wordsOf (at-start .args .table .now)) (at-start .args .s) (at-start .args .vid) (at-loop .loop .k) (at-loop .loop .inv)
+    (c .if1 .left)
 
 pub index-of-spec : {M : Type 1} → statement M
 index-of-spec =
     tie.close
-    (tie.spec
-    Inv-loop
-    μ-loop
-    vids-from-requires
-    loop-holds
-    add-vid-at
-    vid-at-requires
-    returns
-    add-k
-    loop-less
-    loop-again
-    returns-2)
+    (tie.spec Inv-loop μ-loop vids-from-requires loop-holds add-vid-at vid-at-requires returns add-k loop-less loop-again returns-2)

@@ -21,7 +21,11 @@ member-at-requires : tie.Need-member-at-requires
 member-at-requires c κs = search needs
 
 returns : tie.Need-returns
-returns c = (c .member-at .ensures) ∙ ap (λ (w : ℕ). memberOf (drop (w + 2 * (c .before .before .before .args .j)) (wordsOf ((c .before .before .before .args .table .now))))) ((c .before .members-from .ensures))
+returns c =
+    let at-start = c .before .before .before in
+    (c .member-at .ensures)
+    ∙ ap (λ (w : ℕ). memberOf (drop (w + 2 * (at-start .args .j)) (wordsOf ((at-start .args .table .now)))))
+    ((c .before .members-from .ensures))
 
 pub member-spec : {M : Type 1} → statement M
 member-spec =

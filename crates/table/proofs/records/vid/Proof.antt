@@ -21,8 +21,10 @@ vid-at-requires c κs = search needs
 
 returns : tie.Need-returns
 returns c =
-    let e : (c .before .vids-from .result) + (c .before .before .before .args .k) ≡ vidsFrom ((c .before .before .before .args .s)) + 1 * (c .before .before .before .args .k) = omega (arith, (c .before .vids-from .ensures))
-    in (c .vid-at .ensures) ∙ ap (λ (w : ℕ). vidOf (drop w (wordsOf ((c .before .before .before .args .table .now))))) e
+    let at-start = c .before .before .before in
+    let e : (c .before .vids-from .result) + (at-start .args .k) ≡ vidsFrom ((at-start .args .s)) + 1 * (at-start .args .k) =
+    omega (arith, (c .before .vids-from .ensures)) in
+    (c .vid-at .ensures) ∙ ap (λ (w : ℕ). vidOf (drop w (wordsOf ((at-start .args .table .now))))) e
 
 pub vid-spec : {M : Type 1} → statement M
 vid-spec = tie.close (tie.spec vids-from-requires add-vid-at vid-at-requires returns)

@@ -12,7 +12,9 @@ use Rattle.table.proofs.vid.read_vid.Statement.{statement}
 use Rattle.table.proofs.vid.read_vid.Tie as tie
 
 returns : tie.Need-returns
-returns c = sym (read-cut vidLayout (wordsOf (c .before .before .args .part .now)) (omega (arith, count-of-words (c .before .before .args .part .now))))
+returns c =
+    let at-start = c .before .before in
+    sym (read-cut vidLayout (wordsOf (at-start .args .part .now)) (omega (arith, count-of-words (at-start .args .part .now))))
 
 vid-of-requires : tie.Need-vid-of-requires
 vid-of-requires c κs = search needs
@@ -25,8 +27,13 @@ within-requires c κs = search needs
 
 returns-2 : tie.Need-returns-2
 returns-2 c =
-    sym (read-outside vidLayout (wordsOf (c .before .before .before .before .before .before .args .part .now)) (omega (arith, count-of-words (c .before .before .before .before .before .before .args .part .now))) refl
-    (outside-here _ _ (wordsOf (c .before .before .before .before .before .before .args .part .now)) (c .before .within .result) _ (c .before .within .ensures) (ap (λ (x : Vid). x .vid) (c .before .before .before .vid-of .ensures)) (not-true _ (c .if2 .taken))))
+    let at-vid-of = c .before .before .before in
+    let at-start = at-vid-of .before .before .before in
+    let part = at-start .args .part .now in
+    sym
+    (read-outside vidLayout (wordsOf part) (omega (arith, count-of-words part)) refl
+    (outside-here _ _ (wordsOf part) (c .before .within .result) _ (c .before .within .ensures)
+    (ap (λ (x : Vid). x .vid) (at-vid-of .vid-of .ensures)) (not-true _ (c .if2 .taken))))
 
 cast-within-2 : tie.Need-cast-within-2
 cast-within-2 c = search needs
@@ -36,28 +43,38 @@ within-requires-2 c κs = search needs
 
 returns-3 : tie.Need-returns-3
 returns-3 c =
-    sym (read-outside vidLayout (wordsOf (c .before .before .before .before .before .before .before .before .before .args .part .now)) (omega (arith, count-of-words (c .before .before .before .before .before .before .before .before .before .args .part .now))) refl
-    (inside-here _ _ (wordsOf (c .before .before .before .before .before .before .before .before .before .args .part .now)) (c .before .before .before .before .within .result) _ (c .before .before .before .before .within .ensures) (ap (λ (x : Vid). x .vid) (c .before .before .before .before .before .before .vid-of .ensures)) (not-false _ (c .before .before .before .if2 .left))
-    ∙ outside-here _ _ (wordsOf (c .before .before .before .before .before .before .before .before .before .args .part .now)) (c .before .within2 .result) _ (c .before .within2 .ensures) (ap (λ (x : Vid). x .index) (c .before .before .before .before .before .before .vid-of .ensures)) (not-true _ (c .if3 .taken))))
+    let at-if2 = c .before .before .before in
+    let at-within = at-if2 .before in
+    let at-vid-of = at-within .before .before in
+    let at-start = at-vid-of .before .before .before in
+    let part = at-start .args .part .now in
+    let words = wordsOf part in
+    sym
+    (read-outside vidLayout words (omega (arith, count-of-words part)) refl
+    (inside-here _ _ words (at-within .within .result) _ (at-within .within .ensures)
+    (ap (λ (x : Vid). x .vid) (at-vid-of .vid-of .ensures)) (not-false _ (at-if2 .if2 .left))
+    ∙ outside-here _ _ words (c .before .within2 .result) _ (c .before .within2 .ensures)
+    (ap (λ (x : Vid). x .index) (at-vid-of .vid-of .ensures)) (not-true _ (c .if3 .taken))))
 
 returns-4 : tie.Need-returns-4
 returns-4 c =
-    ap (λ (x : Vid). whole (vid x)) (c .before .before .before .before .before .before .vid-of .ensures)
-    ∙ sym (read-whole vidLayout (wordsOf (c .before .before .before .before .before .before .before .before .before .args .part .now)) (omega (arith, count-of-words (c .before .before .before .before .before .before .before .before .before .args .part .now))) refl
-    (inside-here _ _ (wordsOf (c .before .before .before .before .before .before .before .before .before .args .part .now)) (c .before .before .before .before .within .result) _ (c .before .before .before .before .within .ensures) (ap (λ (x : Vid). x .vid) (c .before .before .before .before .before .before .vid-of .ensures)) (not-false _ (c .before .before .before .if2 .left))
-    ∙ inside-here _ _ (wordsOf (c .before .before .before .before .before .before .before .before .before .args .part .now)) (c .before .within2 .result) _ (c .before .within2 .ensures) (ap (λ (x : Vid). x .index) (c .before .before .before .before .before .before .vid-of .ensures)) (not-false _ (c .if3 .left))
-    ∙ inside-all (wordsOf (c .before .before .before .before .before .before .before .before .before .args .part .now))))
+    let at-if2 = c .before .before .before in
+    let at-within = at-if2 .before in
+    let at-vid-of = at-within .before .before in
+    let at-start = at-vid-of .before .before .before in
+    let vid-of-ensures = at-vid-of .vid-of .ensures in
+    let part = at-start .args .part .now in
+    let words = wordsOf part in
+    ap (λ (x : Vid). whole (vid x)) vid-of-ensures
+    ∙ sym
+    (read-whole vidLayout words (omega (arith, count-of-words part)) refl
+    (inside-here _ _ words (at-within .within .result) _ (at-within .within .ensures) (ap (λ (x : Vid). x .vid) vid-of-ensures)
+    (not-false _ (at-if2 .if2 .left))
+    ∙ inside-here _ _ words (c .before .within2 .result) _ (c .before .within2 .ensures) (ap (λ (x : Vid). x .index) vid-of-ensures)
+    (not-false _ (c .if3 .left))
+    ∙ inside-all words))
 
 pub read-vid-spec : {M : Type 1} → statement M
 read-vid-spec =
     tie.close
-    (tie.spec
-    returns
-    vid-of-requires
-    cast-within
-    within-requires
-    returns-2
-    cast-within-2
-    within-requires-2
-    returns-3
-    returns-4)
+    (tie.spec returns vid-of-requires cast-within within-requires returns-2 cast-within-2 within-requires-2 returns-3 returns-4)

@@ -24,7 +24,9 @@ vid-of-requires : tie.Need-vid-of-requires
 vid-of-requires c κs = search needs
 
 returns : tie.Need-returns
-returns c = c .vid-of .ensures ∙ ap (λ (r : List ℕ). vidOf r) (words-from (c .before .before .before .args .word) (c .before .before .before .args .table .now))
+returns c =
+    let at-start = c .before .before .before in
+    c .vid-of .ensures ∙ ap (λ (r : List ℕ). vidOf r) (words-from (at-start .args .word) (at-start .args .table .now))
 
 pub vid-at-spec : {M : Type 1} → statement M
 vid-at-spec =

@@ -48,24 +48,12 @@ add-result-3 : tie.Need-add-result-3
 add-result-3 c = search needs
 
 returns : tie.Need-returns
-returns c = omega (arith, first-word (c .before .before .before .before .before .before .before .before .before .args .part .now) (c .before .before .before .before .before .before .before .before .before .pre))
+returns c =
+    let at-start = c .before .before .before .before .before .before .before .before .before in
+    omega (arith, first-word (at-start .args .part .now) (at-start .pre))
 
 pub first-word-spec : {M : Type 1} → statement M
 first-word-spec =
     tie.close
-    (tie.spec
-    shared-slice-read-wide
-    wide-requires
-    mul-result
-    shared-slice-read-wide-2
-    wide-requires-2
-    mul-result-2
-    add-result
-    shared-slice-read-wide-3
-    wide-requires-3
-    mul-result-3
-    add-result-2
-    shared-slice-read-wide-4
-    wide-requires-4
-    add-result-3
-    returns)
+    (tie.spec shared-slice-read-wide wide-requires mul-result shared-slice-read-wide-2 wide-requires-2 mul-result-2 add-result
+    shared-slice-read-wide-3 wide-requires-3 mul-result-3 add-result-2 shared-slice-read-wide-4 wide-requires-4 add-result-3 returns)

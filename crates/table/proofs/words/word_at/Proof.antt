@@ -22,15 +22,15 @@ first-word-requires : tie.Need-first-word-requires
 first-word-requires c κs = search needs
 
 returns : tie.Need-returns
-returns c = (c .first-word .ensures .0 ∙ rw (part-from (4 * c .before .before .before .args .n) (c .before .before .before .args .part .now)) (word-of-part (c .before .before .before .args .n) (c .before .before .before .args .part .now)), c .first-word .ensures .1)
+returns c =
+    let at-start = c .before .before .before in
+    let (first-word-is, first-word-bound) = c .first-word .ensures in (
+      first-word-is
+          ∙ rw (part-from (4 * at-start .args .n) (at-start .args .part .now)) (word-of-part (at-start .args .n) (at-start .args .part .now)),
+      first-word-bound,
+    )
 
 pub word-at-spec : {M : Type 1} → statement M
 word-at-spec =
     tie.close
-    (tie.spec
-    mul-at
-    sub-first-word
-    part-first-word-start
-    part-first-word-end
-    first-word-requires
-    returns)
+    (tie.spec mul-at sub-first-word part-first-word-start part-first-word-end first-word-requires returns)

@@ -24,23 +24,25 @@ same-length : tie.Need-same-length
 same-length c = search needs
 
 returns : tie.Need-returns
-returns c = (written-as ((c .before .before .write-counts .ensures .0)) _ (sym (ap (λ (a : CheckAnswer). checkText (checkValues a)) ((c .before .before .before .before .before .answer .given .1)))), (c .before .before .write-counts .ensures .1))
+returns c =
+    let at-write-counts = c .before .before in
+    let at-answer = at-write-counts .before .before .before in
+    let (written, write-counts-bound) = at-write-counts .write-counts .ensures in
+    (written-as written _ (sym (ap (λ (a : CheckAnswer). checkText (checkValues a)) ((at-answer .answer .given .1)))), write-counts-bound)
 
 same-length-2 : tie.Need-same-length-2
 same-length-2 c = search needs
 
 returns-2 : tie.Need-returns-2
-returns-2 c = (written-as ((c .before .before .write-refused .ensures .0)) _ (sym (ap (λ (a : CheckAnswer). checkText (checkValues a)) ((c .before .before .before .before .before .answer2 .given .1)))), (c .before .before .write-refused .ensures .1))
+returns-2 c =
+    let at-write-refused = c .before .before in
+    let at-answer2 = at-write-refused .before .before .before in
+    let (written, write-refused-bound) = at-write-refused .write-refused .ensures in (
+      written-as written _ (sym (ap (λ (a : CheckAnswer). checkText (checkValues a)) ((at-answer2 .answer2 .given .1)))),
+      write-refused-bound,
+    )
 
 pub write-check-spec : {M : Type 1} → statement M
 write-check-spec =
     tie.close
-    (tie.spec
-    enum-known-answer
-    write-counts-requires
-    enum-known-answer-2
-    write-refused-requires
-    same-length
-    returns
-    same-length-2
-    returns-2)
+    (tie.spec enum-known-answer write-counts-requires enum-known-answer-2 write-refused-requires same-length returns same-length-2 returns-2)

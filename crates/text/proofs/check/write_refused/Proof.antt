@@ -15,7 +15,14 @@ same-length : tie.Need-same-length
 same-length c = search needs
 
 returns : tie.Need-returns
-returns c = (written-on ((c .before .before .before .before .before .before .write-refusal .ensures .0)) ((c .before .before .write-byte .ensures)) (omega (arith, (c .before .before .before .before .before .before .write-refusal .ensures .1), (c .before .before .before .before .before .before .before .before .before .pre))), omega (arith, (c .before .before .before .before .before .before .write-refusal .ensures .1), (c .before .before .write-byte .ensures .end-is)))
+returns c =
+    let at-write-byte = c .before .before in
+    let at-write-refusal = at-write-byte .before .before .before .before in
+    let at-start = at-write-refusal .before .before .before in
+    let (written, write-refusal-bound) = at-write-refusal .write-refusal .ensures in (
+      written-on written ((at-write-byte .write-byte .ensures)) (omega (arith, write-refusal-bound, (at-start .pre))),
+      omega (arith, write-refusal-bound, (at-write-byte .write-byte .ensures .end-is)),
+    )
 
 pub write-refused-spec : {M : Type 1} → statement M
 write-refused-spec =

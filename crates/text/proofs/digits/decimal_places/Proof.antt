@@ -15,7 +15,9 @@ loop-holds : tie.Need-loop-holds Inv-loop μ-loop
 loop-holds c = counting-starts _
 
 returns : tie.Need-returns Inv-loop μ-loop
-returns c = (counting-finds ((c .before .before .loop .inv)) ((c .if1 .taken)), (c .before .before .loop .inv .most))
+returns c =
+    let at-loop = c .before .before in
+    (counting-finds ((at-loop .loop .inv)) ((c .if1 .taken)), (at-loop .loop .inv .most))
 
 add-count : tie.Need-add-count Inv-loop μ-loop
 add-count c = search needs
@@ -24,7 +26,9 @@ loop-less : tie.Need-loop-less Inv-loop μ-loop
 loop-less c = search needs
 
 loop-again : tie.Need-loop-again Inv-loop μ-loop
-loop-again c = counting-goes-on ((c .before .before .loop .inv)) ((c .before .loop-test .taken)) ((c .if1 .left))
+loop-again c =
+    let at-loop = c .before .before in
+    counting-goes-on ((at-loop .loop .inv)) ((c .before .loop-test .taken)) ((c .if1 .left))
 
 returns-2 : tie.Need-returns-2 Inv-loop μ-loop
 returns-2 c = (counting-ends ((c .before .loop .inv)) ((c .loop-test .left)), (c .before .loop .inv .most))

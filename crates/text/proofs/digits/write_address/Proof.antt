@@ -32,7 +32,10 @@ loop-less : tie.Need-loop-less Inv-loop μ-loop
 loop-less c = search needs
 
 loop-again : tie.Need-loop-again Inv-loop μ-loop
-loop-again c = spelling-goes-on 16 _ _ _ _ ((c .before .before .before .before .pre)) ((c .before .before .loop .inv)) _ _ _ (omega arith) ((c .hexadecimal-digit .ensures)) refl
+loop-again c =
+    let at-loop = c .before .before in
+    let at-start = at-loop .before .before in
+    spelling-goes-on 16 _ _ _ _ ((at-start .pre)) ((at-loop .loop .inv)) _ _ _ (omega arith) ((c .hexadecimal-digit .ensures)) refl
 
 add-result : tie.Need-add-result Inv-loop μ-loop
 add-result c = search needs
@@ -46,16 +49,5 @@ returns c = address-written _ _ (spelling-ends 16 _ _ _ _ ((c .before .loop .inv
 pub write-address-spec : {M : Type 1} → statement M
 write-address-spec =
     tie.close
-    (tie.spec
-    Inv-loop
-    μ-loop
-    loop-holds
-    sub-left
-    hexadecimal-digit-requires
-    add-out
-    slice-write-out
-    loop-less
-    loop-again
-    add-result
-    same-length
-    returns)
+    (tie.spec Inv-loop μ-loop loop-holds sub-left hexadecimal-digit-requires add-out slice-write-out loop-less loop-again add-result
+    same-length returns)

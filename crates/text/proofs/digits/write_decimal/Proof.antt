@@ -2,7 +2,6 @@
 use Rattle.text.specs.laws.DigitLaws.{decimal-written}
 use borrow.Author.Needs.{needs}
 use mathlib.Core.Path.{refl}
-use borrow.Author.Needs.{needs}
 use Rattle.text.proofs.digits.write_decimal.Statement.{statement}
 use Rattle.text.proofs.digits.write_decimal.Tie as tie
 use Rattle.text.proofs.digits.decimal_places.Reads as decimal-places-reads
@@ -21,7 +20,11 @@ same-length : tie.Need-same-length
 same-length c = search needs
 
 returns : tie.Need-returns
-returns c = decimal-written _ _ _ ((c .before .before .before .before .decimal-places .ensures .0)) ((c .before .before .write-last-digits .ensures)) refl
+returns c =
+    let at-write-last-digits = c .before .before in
+    let at-decimal-places = at-write-last-digits .before .before in
+    let (decimal-places-is, _) = at-decimal-places .decimal-places .ensures in
+    decimal-written _ _ _ decimal-places-is ((at-write-last-digits .write-last-digits .ensures)) refl
 
 pub write-decimal-spec : {M : Type 1} → statement M
 write-decimal-spec =

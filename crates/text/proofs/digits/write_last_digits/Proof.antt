@@ -32,7 +32,10 @@ loop-less : tie.Need-loop-less Inv-loop μ-loop
 loop-less c = search needs
 
 loop-again : tie.Need-loop-again Inv-loop μ-loop
-loop-again c = spelling-goes-on 10 _ _ _ _ ((c .before .before .before .before .pre)) ((c .before .before .loop .inv)) _ _ _ (omega arith) ((c .decimal-digit .ensures)) refl
+loop-again c =
+    let at-loop = c .before .before in
+    let at-start = at-loop .before .before in
+    spelling-goes-on 10 _ _ _ _ ((at-start .pre)) ((at-loop .loop .inv)) _ _ _ (omega arith) ((c .decimal-digit .ensures)) refl
 
 same-length : tie.Need-same-length Inv-loop μ-loop
 same-length c = (c .before .loop .inv .same-length)
@@ -43,15 +46,4 @@ returns c = spelling-ends 10 _ _ _ _ ((c .before .loop .inv)) ((c .loop-test .le
 pub write-last-digits-spec : {M : Type 1} → statement M
 write-last-digits-spec =
     tie.close
-    (tie.spec
-    Inv-loop
-    μ-loop
-    loop-holds
-    sub-left
-    decimal-digit-requires
-    add-out
-    slice-write-out
-    loop-less
-    loop-again
-    same-length
-    returns)
+    (tie.spec Inv-loop μ-loop loop-holds sub-left decimal-digit-requires add-out slice-write-out loop-less loop-again same-length returns)

@@ -16,7 +16,15 @@ same-length : tie.Need-same-length
 same-length c = search needs
 
 returns : tie.Need-returns
-returns c = (written-on ((c .before .before .before .before .before .before .write-byte .ensures)) ((c .before .before .write-decimal .ensures)) (omega (arith, (c .before .before .before .before .before .before .write-byte .ensures .end-is), (c .before .before .before .before .before .before .before .before .before .pre))), omega (arith, (c .before .before .before .before .before .before .write-byte .ensures .end-is), (c .before .before .write-decimal .ensures .end-is), length-decimal ((c .before .before .before .before .before .before .before .before .before .args .n))))
+returns c =
+    let at-write-decimal = c .before .before in
+    let at-write-byte = at-write-decimal .before .before .before .before in
+    let at-start = at-write-byte .before .before .before in
+    let write-byte-ensures = at-write-byte .write-byte .ensures in (
+      written-on write-byte-ensures ((at-write-decimal .write-decimal .ensures))
+          (omega (arith, (write-byte-ensures .end-is), (at-start .pre))),
+      omega (arith, (write-byte-ensures .end-is), (at-write-decimal .write-decimal .ensures .end-is), length-decimal ((at-start .args .n))),
+    )
 
 pub write-field-spec : {M : Type 1} → statement M
 write-field-spec =

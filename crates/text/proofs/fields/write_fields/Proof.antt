@@ -23,7 +23,11 @@ shared-slice-read-write-field : tie.Need-shared-slice-read-write-field Inv-loop 
 shared-slice-read-write-field c = search needs
 
 write-field-requires : tie.Need-write-field-requires Inv-loop μ-loop
-write-field-requires c κs = omega (arith, (c .before .before .before .loop .inv .room), (c .before .before .before .loop .inv .same-length), (c .before .before .before .before .before .before .pre), (c .before .before .loop-test .taken))
+write-field-requires c κs =
+    let at-loop-test = c .before .before in
+    let at-loop = at-loop-test .before in
+    let at-start = at-loop .before .before .before in
+    omega (arith, (at-loop .loop .inv .room), (at-loop .loop .inv .same-length), (at-start .pre), (at-loop-test .loop-test .taken))
 
 add-i : tie.Need-add-i Inv-loop μ-loop
 add-i c = search needs
@@ -32,7 +36,13 @@ loop-less : tie.Need-loop-less Inv-loop μ-loop
 loop-less c = search needs
 
 loop-again : tie.Need-loop-again Inv-loop μ-loop
-loop-again c = fielding-goes-on ((c .before .before .before .before .before .before .loop .inv)) ((c .before .before .before .before .before .before .before .before .before .pre)) ((c .before .before .before .before .before .loop-test .taken)) _ _ ((c .before .before .write-field .ensures .0))
+loop-again c =
+    let at-write-field = c .before .before in
+    let at-loop-test = at-write-field .before .before .before in
+    let at-loop = at-loop-test .before in
+    let at-start = at-loop .before .before .before in
+    let (written, _) = at-write-field .write-field .ensures in
+    fielding-goes-on ((at-loop .loop .inv)) ((at-start .pre)) ((at-loop-test .loop-test .taken)) _ _ written
 
 same-length : tie.Need-same-length Inv-loop μ-loop
 same-length c = (c .before .loop .inv .same-length)
@@ -43,15 +53,5 @@ returns c = (fielding-ends ((c .before .loop .inv)) ((c .loop-test .left)), fiel
 pub write-fields-spec : {M : Type 1} → statement M
 write-fields-spec =
     tie.close
-    (tie.spec
-    Inv-loop
-    μ-loop
-    loop-holds
-    mul-write-field
-    shared-slice-read-write-field
-    write-field-requires
-    add-i
-    loop-less
-    loop-again
-    same-length
-    returns)
+    (tie.spec Inv-loop μ-loop loop-holds mul-write-field shared-slice-read-write-field write-field-requires add-i loop-less loop-again
+    same-length returns)

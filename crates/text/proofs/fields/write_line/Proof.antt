@@ -18,7 +18,18 @@ same-length : tie.Need-same-length
 same-length c = search needs
 
 returns : tie.Need-returns
-returns c = (written-on ((c .before .before .before .before .before .before .before .before .before .before .write-word .ensures)) (written-on ((c .before .before .before .before .before .before .write-fields .ensures .0)) ((c .before .before .write-byte .ensures)) (omega (arith, (c .before .before .before .before .before .before .before .before .before .before .write-word .ensures .end-is), (c .before .before .before .before .before .before .write-fields .ensures .1), (c .before .before .before .before .before .before .before .before .before .before .before .before .before .before .before .pre)))) (omega (arith, (c .before .before .before .before .before .before .before .before .before .before .write-word .ensures .end-is), (c .before .before .before .before .before .before .before .before .before .before .before .before .before .before .before .pre))), omega (arith, (c .before .before .before .before .before .before .before .before .before .before .write-word .ensures .end-is), (c .before .before .before .before .before .before .write-fields .ensures .1), (c .before .before .write-byte .ensures .end-is)))
+returns c =
+    let at-write-byte = c .before .before in
+    let at-write-fields = at-write-byte .before .before .before .before in
+    let at-write-word = at-write-fields .before .before .before .before in
+    let at-start = at-write-word .before .before .before .before .before in
+    let (written, write-fields-bound) = at-write-fields .write-fields .ensures in
+    let end-is = at-write-word .write-word .ensures .end-is in (
+      written-on ((at-write-word .write-word .ensures))
+          (written-on written ((at-write-byte .write-byte .ensures)) (omega (arith, end-is, write-fields-bound, (at-start .pre))))
+          (omega (arith, end-is, (at-start .pre))),
+      omega (arith, end-is, write-fields-bound, (at-write-byte .write-byte .ensures .end-is)),
+    )
 
 pub write-line-spec : {M : Type 1} → statement M
 write-line-spec =

@@ -32,7 +32,10 @@ loop-less : tie.Need-loop-less Inv-loop μ-loop
 loop-less c = search needs
 
 loop-again : tie.Need-loop-again Inv-loop μ-loop
-loop-again c = copying-goes-on ((c .before .before .loop .inv)) ((c .before .before .before .pre)) ((c .before .loop-test .taken))
+loop-again c =
+    let at-loop = c .before .before in
+    let at-start = at-loop .before in
+    copying-goes-on ((at-loop .loop .inv)) ((at-start .pre)) ((c .before .loop-test .taken))
 
 add-result : tie.Need-add-result Inv-loop μ-loop
 add-result c = search needs
@@ -46,16 +49,5 @@ returns c = copying-ends ((c .before .loop .inv)) _ ((c .loop-test .left)) refl
 pub write-word-spec : {M : Type 1} → statement M
 write-word-spec =
     tie.close
-    (tie.spec
-    Inv-loop
-    μ-loop
-    loop-holds
-    shared-slice-read-out
-    add-out
-    slice-write-out
-    add-i
-    loop-less
-    loop-again
-    add-result
-    same-length
+    (tie.spec Inv-loop μ-loop loop-holds shared-slice-read-out add-out slice-write-out add-i loop-less loop-again add-result same-length
     returns)

@@ -29,26 +29,17 @@ loop-less c = search needs
 
 loop-again : tie.Need-loop-again Inv-loop μ-loop
 loop-again c =
-    let at-differs = c .before in
-    let at-waits-at = at-differs .before in
-    finding-goes-on (at-waits-at .before .loop .inv) (at-waits-at .waits-at .ensures) (differ (at-differs .differs .ensures) (c .if1 .taken))
+    let at-waits-at = c .before .before in
+    let at-loop = at-waits-at .before in
+    finding-goes-on (at-loop .loop .inv) (at-waits-at .waits-at .ensures) (differ (c .before .differs .ensures) (c .if1 .taken))
 
 returns : tie.Need-returns Inv-loop μ-loop
 returns c =
-    let at-differs = c .before in
-    let at-waits-at = at-differs .before in
-    finding-ends (at-waits-at .before .loop .inv) (at-waits-at .waits-at .ensures) (agree (at-differs .differs .ensures) (c .if1 .left))
+    let at-waits-at = c .before .before in
+    let at-loop = at-waits-at .before in
+    finding-ends (at-loop .loop .inv) (at-waits-at .waits-at .ensures) (agree (c .before .differs .ensures) (c .if1 .left))
 
 pub first-waiting-spec : {M : Type 1} → statement M
 first-waiting-spec =
     tie.close
-    (tie.spec
-    Inv-loop
-    μ-loop
-    loop-holds
-    waits-at-requires
-    differs-requires
-    add-u
-    loop-less
-    loop-again
-    returns)
+    (tie.spec Inv-loop μ-loop loop-holds waits-at-requires differs-requires add-u loop-less loop-again returns)

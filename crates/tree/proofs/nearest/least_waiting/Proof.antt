@@ -28,9 +28,9 @@ loop-less c = search needs
 
 loop-again : tie.Need-loop-again Inv-loop μ-loop
 loop-again c =
-    let at-waits-at = c .before in
-    let at-loop-test = at-waits-at .before in
-    leasting-goes-on (at-loop-test .before .loop .inv) (at-loop-test .loop-test .taken) (at-waits-at .waits-at .ensures) (c .lesser .ensures)
+    let at-loop-test = c .before .before in
+    let at-loop = at-loop-test .before in
+    leasting-goes-on (at-loop .loop .inv) (at-loop-test .loop-test .taken) (c .before .waits-at .ensures) (c .lesser .ensures)
 
 returns : tie.Need-returns Inv-loop μ-loop
 returns c = leasting-ends (c .before .loop .inv) (c .loop-test .left)
@@ -38,13 +38,4 @@ returns c = leasting-ends (c .before .loop .inv) (c .loop-test .left)
 pub least-waiting-spec : {M : Type 1} → statement M
 least-waiting-spec =
     tie.close
-    (tie.spec
-    Inv-loop
-    μ-loop
-    loop-holds
-    waits-at-requires
-    lesser-requires
-    add-u
-    loop-less
-    loop-again
-    returns)
+    (tie.spec Inv-loop μ-loop loop-holds waits-at-requires lesser-requires add-u loop-less loop-again returns)

@@ -19,13 +19,12 @@ is-below-requires c κs = search needs
 
 returns : tie.Need-returns
 returns c =
-    let at-if = c .before in
-    let at-differs = at-if .before in
-    let at-cost = at-differs .before in
-    let at-start = at-cost .before .before .before in
+    let at-differs = c .before .before in
+    let at-cost-at = at-differs .before in
+    let at-start = at-cost-at .before .before .before in
     lower-by-cost (at-start .args .path-ids .now) (at-start .args .via) (at-start .args .cost .0) (at-start .args .hops .0)
-    (labelAt (at-start .args .labels .now) (at-start .args .v)) (at-cost .cost-at .ensures) (c .is-below .ensures)
-    (differ (at-differs .differs .ensures) (at-if .if1 .taken))
+    (labelAt (at-start .args .labels .now) (at-start .args .v)) (at-cost-at .cost-at .ensures) (c .is-below .ensures)
+    (differ (at-differs .differs .ensures) (c .before .if1 .taken))
 
 hops-at-requires : tie.Need-hops-at-requires
 hops-at-requires c κs = search needs
@@ -38,16 +37,16 @@ is-below-requires-2 c κs = search needs
 
 returns-2 : tie.Need-returns-2
 returns-2 c =
-    let at-if = c .before in
-    let at-differs = at-if .before in
-    let at-hops = at-differs .before in
-    let same-cost = at-hops .before in
-    let at-cost = same-cost .before .before in
-    let at-start = at-cost .before .before .before in
+    let at-differs2 = c .before .before in
+    let at-hops-at = at-differs2 .before in
+    let at-if1 = at-hops-at .before in
+    let at-differs = at-if1 .before in
+    let at-cost-at = at-differs .before in
+    let at-start = at-cost-at .before .before .before in
     lower-by-hops (at-start .args .path-ids .now) (at-start .args .via) (at-start .args .cost .0) (at-start .args .hops .0)
-    (labelAt (at-start .args .labels .now) (at-start .args .v)) (at-cost .cost-at .ensures) (at-hops .hops-at .ensures)
-    (agree (same-cost .before .differs .ensures) (same-cost .if1 .left)) (c .is-below2 .ensures)
-    (differ (at-differs .differs2 .ensures) (at-if .if2 .taken))
+    (labelAt (at-start .args .labels .now) (at-start .args .v)) (at-cost-at .cost-at .ensures) (at-hops-at .hops-at .ensures)
+    (agree (at-differs .differs .ensures) (at-if1 .if1 .left)) (c .is-below2 .ensures)
+    (differ (at-differs2 .differs2 .ensures) (c .before .if2 .taken))
 
 next-at-requires : tie.Need-next-at-requires
 next-at-requires c κs = search needs
@@ -57,39 +56,30 @@ count-requires c κs = search needs
 
 is-lower-row-requires : tie.Need-is-lower-row-requires
 is-lower-row-requires c κs =
-    let same-cost = c .before .before .before .before .before in
-    let at-cost = same-cost .before .before in
-    let at-start = at-cost .before .before .before in
-    let next-in = at-start .pre .next-in (agree (same-cost .before .differs .ensures) (same-cost .if1 .left) ∙ at-cost .cost-at .ensures) in
+    let at-if1 = c .before .before .before .before .before in
+    let at-differs = at-if1 .before in
+    let at-cost-at = at-differs .before in
+    let at-start = at-cost-at .before .before .before in
+    let next-in = at-start .pre .next-in (agree (at-differs .differs .ensures) (at-if1 .if1 .left) ∙ at-cost-at .cost-at .ensures) in
     (omega (arith, at-start .pre), omega (arith, at-start .pre), omega (arith, at-start .pre, next-in))
 
 returns-3 : tie.Need-returns-3
 returns-3 c =
-    let at-count = c .before in
-    let at-next = at-count .before in
-    let same-hops = at-next .before in
-    let at-hops = same-hops .before .before in
-    let same-cost = at-hops .before in
-    let at-cost = same-cost .before .before in
-    let at-start = at-cost .before .before .before in
+    let at-next-at = c .before .before in
+    let at-if2 = at-next-at .before in
+    let at-differs2 = at-if2 .before in
+    let at-hops-at = at-differs2 .before in
+    let at-if1 = at-hops-at .before in
+    let at-differs = at-if1 .before in
+    let at-cost-at = at-differs .before in
+    let at-start = at-cost-at .before .before .before in
     lower-by-rows (at-start .args .path-ids .now) (at-start .args .via) (at-start .args .cost .0) (at-start .args .hops .0)
-    (labelAt (at-start .args .labels .now) (at-start .args .v)) (at-cost .cost-at .ensures) (at-hops .hops-at .ensures)
-    (agree (same-cost .before .differs .ensures) (same-cost .if1 .left)) (at-next .next-at .ensures) (at-count .count .ensures)
-    (agree (same-hops .before .differs2 .ensures) (same-hops .if2 .left)) (c .is-lower-row .ensures)
+    (labelAt (at-start .args .labels .now) (at-start .args .v)) (at-cost-at .cost-at .ensures) (at-hops-at .hops-at .ensures)
+    (agree (at-differs .differs .ensures) (at-if1 .if1 .left)) (at-next-at .next-at .ensures) (c .before .count .ensures)
+    (agree (at-differs2 .differs2 .ensures) (at-if2 .if2 .left)) (c .is-lower-row .ensures)
 
 pub is-lower-offer-spec : {M : Type 1} → statement M
 is-lower-offer-spec =
     tie.close
-    (tie.spec
-    cost-at-requires
-    differs-requires
-    is-below-requires
-    returns
-    hops-at-requires
-    differs-requires-2
-    is-below-requires-2
-    returns-2
-    next-at-requires
-    count-requires
-    is-lower-row-requires
-    returns-3)
+    (tie.spec cost-at-requires differs-requires is-below-requires returns hops-at-requires differs-requires-2 is-below-requires-2 returns-2
+    next-at-requires count-requires is-lower-row-requires returns-3)

@@ -14,9 +14,10 @@ same-length c = search needs
 
 returns : tie.Need-returns
 returns c =
-    let at-is-lower-offer = c .before in
-    let at-start = at-is-lower-offer .before .before .before .before in
-    offer-refused (at-start .args .labels .now) (at-start .args .path-ids .now) (at-start .args .via) (at-start .args .v) (at-start .args .cost .0) (at-start .args .hops .0) (at-is-lower-offer .is-lower-offer .result) (at-is-lower-offer .is-lower-offer .ensures) (c .if1 .taken)
+    let at-start = c .before .before .before .before .before in
+    offer-refused (at-start .args .labels .now) (at-start .args .path-ids .now) (at-start .args .via) (at-start .args .v)
+    (at-start .args .cost .0) (at-start .args .hops .0) (c .before .is-lower-offer .result) (c .before .is-lower-offer .ensures)
+    (c .if1 .taken)
 
 mul-labels : tie.Need-mul-labels
 mul-labels c = search needs
@@ -65,28 +66,13 @@ same-length-2 c = search needs
 
 returns-2 : tie.Need-returns-2
 returns-2 c =
-    let at-is-lower-offer = c .before in
-    let at-start = at-is-lower-offer .before .before .before .before in
-    offer-taken (at-start .args .labels .now) (at-start .args .path-ids .now) (at-start .args .via) (at-start .args .v) (at-start .args .cost .0) (at-start .args .hops .0) (at-is-lower-offer .is-lower-offer .result) (at-is-lower-offer .is-lower-offer .ensures) (c .if1 .left)
+    let at-start = c .before .before .before .before .before in
+    offer-taken (at-start .args .labels .now) (at-start .args .path-ids .now) (at-start .args .via) (at-start .args .v)
+    (at-start .args .cost .0) (at-start .args .hops .0) (c .before .is-lower-offer .result) (c .before .is-lower-offer .ensures)
+    (c .if1 .left)
 
 pub relax-spec : {M : Type 1} → statement M
 relax-spec =
     tie.close
-    (tie.spec
-    is-lower-offer-requires
-    same-length
-    returns
-    mul-labels
-    slice-write-labels
-    add-labels
-    mul-labels-2
-    slice-write-labels-2
-    add-labels-2
-    mul-labels-3
-    slice-write-labels-3
-    cast-labels
-    add-labels-3
-    mul-labels-4
-    slice-write-labels-4
-    same-length-2
-    returns-2)
+    (tie.spec is-lower-offer-requires same-length returns mul-labels slice-write-labels add-labels mul-labels-2 slice-write-labels-2
+    add-labels-2 mul-labels-3 slice-write-labels-3 cast-labels add-labels-3 mul-labels-4 slice-write-labels-4 same-length-2 returns-2)

@@ -45,7 +45,9 @@ cast-i : tie.Need-cast-i Inv-loop μ-loop
 cast-i c = search needs
 
 loop-holds : tie.Need-loop-holds Inv-loop μ-loop
-loop-holds c = offering-starts _ _ _ _ _ _ (c .before .before .before .before .before .before .before .before .before .before .before .before .pre)
+loop-holds c =
+    let at-start = c .before .before .before .before .before .before .before .before .before .before .before .before in
+    offering-starts _ _ _ _ _ _ (at-start .pre)
 
 mul-relax : tie.Need-mul-relax Inv-loop μ-loop
 mul-relax c = search needs
@@ -55,12 +57,14 @@ shared-slice-read-relax c = search needs
 
 plus-requires-2 : tie.Need-plus-requires-2 Inv-loop μ-loop
 plus-requires-2 c κs =
-    let at-loop-test = c .before in
-    let at-loop = at-loop-test .before in
-    let at-hops = at-loop .before .before .before .before in
-    let at-cost = at-hops .before .before in
-    let at-start = at-cost .before .before .before .before .before .before .before in
-    omega (arith, at-cost .cost-at .ensures, at-start .pre .cost-in (at-loop .loop .i) (at-loop .loop .inv .after) (at-loop-test .loop-test .taken))
+    let at-loop = c .before .before in
+    let at-cost-at = at-loop .before .before .before .before .before .before in
+    let at-start = at-cost-at .before .before .before .before .before .before .before in
+    omega (
+      arith,
+      at-cost-at .cost-at .ensures,
+      at-start .pre .cost-in (at-loop .loop .i) (at-loop .loop .inv .after) (c .before .loop-test .taken),
+    )
 
 mul-relax-2 : tie.Need-mul-relax-2 Inv-loop μ-loop
 mul-relax-2 c = search needs
@@ -77,15 +81,15 @@ cast-relax c =
 
 relax-requires : tie.Need-relax-requires Inv-loop μ-loop
 relax-requires c κs =
-    let at-cost-plus = c .before .before in
-    let at-loop-test = at-cost-plus .before .before in
+    let at-plus2 = c .before .before in
+    let at-loop-test = at-plus2 .before .before in
     let at-loop = at-loop-test .before in
-    let at-hops-plus = at-loop .before .before .before in
-    let at-hops = at-hops-plus .before in
-    let at-cost = at-hops .before .before in
-    let at-start = at-cost .before .before .before .before .before .before .before in
-    offering-comparable _ _ _ _ _ _ (at-start .pre) (at-loop .loop .inv) (at-loop-test .loop-test .taken)
-    (at-cost .cost-at .ensures) (at-hops .hops-at .ensures) (at-cost-plus .plus2 .ensures) (at-hops-plus .plus .ensures)
+    let at-plus = at-loop .before .before .before in
+    let at-hops-at = at-plus .before in
+    let at-cost-at = at-hops-at .before .before in
+    let at-start = at-cost-at .before .before .before .before .before .before .before in
+    offering-comparable _ _ _ _ _ _ (at-start .pre) (at-loop .loop .inv) (at-loop-test .loop-test .taken) (at-cost-at .cost-at .ensures)
+    (at-hops-at .hops-at .ensures) (at-plus2 .plus2 .ensures) (at-plus .plus .ensures)
 
 add-i : tie.Need-add-i Inv-loop μ-loop
 add-i c = search needs
@@ -96,51 +100,27 @@ loop-less c = search needs
 loop-again : tie.Need-loop-again Inv-loop μ-loop
 loop-again c =
     let at-relax = c .before .before in
-    let at-cost-plus = at-relax .before .before .before in
-    let at-loop-test = at-cost-plus .before .before in
+    let at-plus2 = at-relax .before .before .before in
+    let at-loop-test = at-plus2 .before .before in
     let at-loop = at-loop-test .before in
-    let at-hops-plus = at-loop .before .before .before in
-    let at-hops = at-hops-plus .before in
-    let at-cost = at-hops .before .before in
-    let at-start = at-cost .before .before .before .before .before .before .before in
-    offering-goes-on _ _ _ _ _ _ (at-start .pre) (at-loop .loop .inv) (at-loop-test .loop-test .taken)
-    (at-cost .cost-at .ensures) (at-hops .hops-at .ensures) (at-cost-plus .plus2 .ensures) (at-hops-plus .plus .ensures) (at-relax .relax .ensures)
+    let at-plus = at-loop .before .before .before in
+    let at-hops-at = at-plus .before in
+    let at-cost-at = at-hops-at .before .before in
+    let at-start = at-cost-at .before .before .before .before .before .before .before in
+    offering-goes-on _ _ _ _ _ _ (at-start .pre) (at-loop .loop .inv) (at-loop-test .loop-test .taken) (at-cost-at .cost-at .ensures)
+    (at-hops-at .hops-at .ensures) (at-plus2 .plus2 .ensures) (at-plus .plus .ensures) (at-relax .relax .ensures)
 
 same-length : tie.Need-same-length Inv-loop μ-loop
 same-length c = c .before .loop .inv .same-length
 
 returns : tie.Need-returns Inv-loop μ-loop
 returns c =
-    let at-loop = c .before in
-    let at-start = at-loop .before .before .before .before .before .before .before .before .before .before .before .before .before in
-    offering-ends _ _ _ _ _ _ (at-start .pre) (at-loop .loop .inv) (c .loop-test .left)
+    let at-start = c .before .before .before .before .before .before .before .before .before .before .before .before .before .before in
+    offering-ends _ _ _ _ _ _ (at-start .pre) (c .before .loop .inv) (c .loop-test .left)
 
 pub relax-all-spec : {M : Type 1} → statement M
 relax-all-spec =
     tie.close
-    (tie.spec
-    Inv-loop
-    μ-loop
-    cost-at-requires
-    hops-at-requires
-    plus-requires
-    add-end
-    mul-end
-    shared-slice-read-end
-    cast-end
-    mul-i
-    shared-slice-read-i
-    cast-i
-    loop-holds
-    mul-relax
-    shared-slice-read-relax
-    plus-requires-2
-    mul-relax-2
-    shared-slice-read-relax-2
-    cast-relax
-    relax-requires
-    add-i
-    loop-less
-    loop-again
-    same-length
-    returns)
+    (tie.spec Inv-loop μ-loop cost-at-requires hops-at-requires plus-requires add-end mul-end shared-slice-read-end cast-end mul-i
+    shared-slice-read-i cast-i loop-holds mul-relax shared-slice-read-relax plus-requires-2 mul-relax-2 shared-slice-read-relax-2 cast-relax
+    relax-requires add-i loop-less loop-again same-length returns)

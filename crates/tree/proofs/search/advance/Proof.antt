@@ -39,10 +39,4 @@ returns c =
 pub advance-spec : {M : Type 1} → statement M
 advance-spec =
     tie.close
-    (tie.spec
-    first-waiting-requires
-    settle-requires
-    relax-all-requires
-    same-length
-    same-length-2
-    returns)
+    (tie.spec first-waiting-requires settle-requires relax-all-requires same-length same-length-2 returns)

@@ -25,7 +25,8 @@ relax-all-requires : tie.Need-relax-all-requires Inv-loop μ-loop
 relax-all-requires c κs =
     let at-begin = c .before .before .before .before .before .before in
     let at-start = at-begin .before .before .before .before .before .before .before .before .before in
-    search-relaxable _ _ _ _ _ _ (at-start .pre .0) _ _ _ _ (at-start .pre .1) (at-start .pre .2) (at-start .pre .3) (at-begin .begin .ensures)
+    search-relaxable _ _ _ _ _ _ (at-start .pre .0) _ _ _ _ (at-start .pre .1) (at-start .pre .2) (at-start .pre .3)
+    (at-begin .begin .ensures)
 
 least-waiting-requires : tie.Need-least-waiting-requires Inv-loop μ-loop
 least-waiting-requires c κs = search needs
@@ -35,8 +36,8 @@ loop-holds c =
     let at-relax-all = c .before .before .before .before in
     let at-begin = at-relax-all .before .before .before .before .before .before .before in
     let at-start = at-begin .before .before .before .before .before .before .before .before .before in (
-      search-starts _ _ _ _ _ _ (at-start .pre .0) _ _ _ _ (at-start .pre .1) (at-start .pre .2) (at-start .pre .3) (at-begin .begin .ensures) _
-          (at-relax-all .relax-all .ensures),
+      search-starts _ _ _ _ _ _ (at-start .pre .0) _ _ _ _ (at-start .pre .1) (at-start .pre .2) (at-start .pre .3)
+          (at-begin .begin .ensures) _ (at-relax-all .relax-all .ensures),
       c .least-waiting .ensures,
       refl,
       refl,
@@ -50,7 +51,8 @@ advance-requires c κs =
     let at-if1 = c .before .before in
     let at-is-below = at-if1 .before in
     let at-loop = at-is-below .before in
-    (at-loop .loop .inv .0, at-loop .loop .inv .1, lt-of-lt-of-le (below (at-is-below .is-below .ensures) (at-if1 .if1 .taken)) (omega arith))
+    let (underway, least-of, _, _) = at-loop .loop .inv in
+    (underway, least-of, lt-of-lt-of-le (below (at-is-below .is-below .ensures) (at-if1 .if1 .taken)) (omega arith))
 
 least-waiting-requires-2 : tie.Need-least-waiting-requires-2 Inv-loop μ-loop
 least-waiting-requires-2 c κs = search needs
@@ -70,35 +72,25 @@ same-length c =
     let at-loop = c .before .before in
     let at-relax-all = at-loop .before .before .before .before .before in
     let at-begin = at-relax-all .before .before .before .before .before .before .before in
-    at-loop .loop .inv .2 ∙ at-relax-all .relax-all .ensures .same-length ∙ at-begin .begin .ensures .same-labels
+    let (_, _, labels-length, _) = at-loop .loop .inv in
+    labels-length ∙ at-relax-all .relax-all .ensures .same-length ∙ at-begin .begin .ensures .same-labels
 
 same-length-2 : tie.Need-same-length-2 Inv-loop μ-loop
 same-length-2 c =
     let at-loop = c .before .before in
     let at-begin = at-loop .before .before .before .before .before .before .before .before .before .before .before .before in
-    at-loop .loop .inv .3 ∙ at-begin .begin .ensures .same-path-ids
+    let (_, _, _, path-ids-length) = at-loop .loop .inv in
+    path-ids-length ∙ at-begin .begin .ensures .same-path-ids
 
 returns : tie.Need-returns Inv-loop μ-loop
 returns c =
     let at-is-below = c .before in
     let at-loop = at-is-below .before in
-    search-ends _ _ _ _ _ _ (at-loop .loop .inv .0) (at-loop .loop .inv .1) (le-trans (omega arith) (not-below (at-is-below .is-below .ensures) (c .if1 .left)))
+    search-ends _ _ _ _ _ _ (at-loop .loop .inv .0) (at-loop .loop .inv .1)
+    (le-trans (omega arith) (not-below (at-is-below .is-below .ensures) (c .if1 .left)))
 
 pub tree-spec : {M : Type 1} → statement M
 tree-spec =
     tie.close
-    (tie.spec
-    Inv-loop
-    μ-loop
-    begin-requires
-    relax-all-requires
-    least-waiting-requires
-    loop-holds
-    is-below-requires
-    advance-requires
-    least-waiting-requires-2
-    loop-less
-    loop-again
-    same-length
-    same-length-2
-    returns)
+    (tie.spec Inv-loop μ-loop begin-requires relax-all-requires least-waiting-requires loop-holds is-below-requires advance-requires
+    least-waiting-requires-2 loop-less loop-again same-length same-length-2 returns)

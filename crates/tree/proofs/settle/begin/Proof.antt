@@ -88,32 +88,12 @@ returns : tie.Need-returns
 returns c =
     let at-clear = c .before .before .before in
     let at-start = at-clear .before .before .before .before .before in
-    begun _ _ _ _ _ _ (at-start .pre .0) (at-start .pre .1) (at-start .pre .2) (at-start .pre .3) (at-clear .clear .ensures)
+    let (n-bound, root-bound, labels-room, path-ids-room, _) = at-start .pre in
+    begun _ _ _ _ _ _ n-bound root-bound labels-room path-ids-room (at-clear .clear .ensures)
 
 pub begin-spec : {M : Type 1} → statement M
 begin-spec =
     tie.close
-    (tie.spec
-    clear-requires
-    add-labels
-    mul-labels
-    slice-write-labels
-    add-labels-2
-    mul-labels-2
-    slice-write-labels-2
-    cast-labels
-    add-labels-3
-    mul-labels-3
-    slice-write-labels-3
-    cast-labels-2
-    add-labels-4
-    mul-labels-4
-    slice-write-labels-4
-    mul-path-ids
-    shared-slice-read-path-ids
-    mul-path-ids-2
-    mul-path-ids-3
-    slice-write-path-ids
-    same-length
-    same-length-2
-    returns)
+    (tie.spec clear-requires add-labels mul-labels slice-write-labels add-labels-2 mul-labels-2 slice-write-labels-2 cast-labels
+    add-labels-3 mul-labels-3 slice-write-labels-3 cast-labels-2 add-labels-4 mul-labels-4 slice-write-labels-4 mul-path-ids
+    shared-slice-read-path-ids mul-path-ids-2 mul-path-ids-3 slice-write-path-ids same-length same-length-2 returns)

@@ -39,9 +39,9 @@ loop-less c = search needs
 
 loop-again : tie.Need-loop-again Inv-loop μ-loop
 loop-again c =
-    let at-loop = c .before in
-    let at-start = at-loop .before in
-    clearing-goes-on (at-loop .loop .inv) (at-start .pre .0) (at-start .pre .1) (c .loop-test .taken)
+    let at-start = c .before .before in
+    let (n-bound, labels-room) = at-start .pre in
+    clearing-goes-on (c .before .loop .inv) n-bound labels-room (c .loop-test .taken)
 
 same-length : tie.Need-same-length Inv-loop μ-loop
 same-length c = c .before .loop .inv .so-far .same-length
@@ -52,17 +52,5 @@ returns c = clearing-ends (c .before .loop .inv) (c .loop-test .left)
 pub clear-spec : {M : Type 1} → statement M
 clear-spec =
     tie.close
-    (tie.spec
-    Inv-loop
-    μ-loop
-    loop-holds
-    mul-labels
-    slice-write-labels
-    add-labels
-    mul-labels-2
-    slice-write-labels-2
-    add-u
-    loop-less
-    loop-again
-    same-length
-    returns)
+    (tie.spec Inv-loop μ-loop loop-holds mul-labels slice-write-labels add-labels mul-labels-2 slice-write-labels-2 add-u loop-less
+    loop-again same-length returns)

@@ -23,11 +23,11 @@ shared-slice-read-insert-row c = search needs
 
 insert-row-requires : tie.Need-insert-row-requires
 insert-row-requires c κs =
-    let at-count = c .before in
-    let at-hops = at-count .before in
-    let at-next = at-hops .before .before .before in
-    let at-start = at-next .before .before .before .before .before in
-    read-insertable (at-start .args .labels .now) _ _ (at-next .next-at .ensures) (at-hops .hops-at .ensures) (at-count .count .ensures) (at-start .pre .insertable)
+    let at-hops-at = c .before .before in
+    let at-next-at = at-hops-at .before .before .before in
+    let at-start = at-next-at .before .before .before .before .before in
+    read-insertable (at-start .args .labels .now) _ _ (at-next-at .next-at .ensures) (at-hops-at .hops-at .ensures)
+    (c .before .count .ensures) (at-start .pre .insertable)
 
 cast-first-hop : tie.Need-cast-first-hop
 cast-first-hop c = search needs
@@ -58,7 +58,8 @@ mul-labels-2 c = search needs
 
 slice-write-labels-2 : tie.Need-slice-write-labels-2
 slice-write-labels-2 c =
-    let at-start = c .before .before .before .before .before .before .before .before .before .before .before .before .before .before .before in
+    let at-start =
+    c .before .before .before .before .before .before .before .before .before .before .before .before .before .before .before in
     simp length-set (omega (arith, at-start .pre .has-labels, at-start .pre .u-in))
 
 same-length : tie.Need-same-length
@@ -71,34 +72,18 @@ returns : tie.Need-returns
 returns c =
     let at-insert-row = c .before .before .before .before in
     let at-count = at-insert-row .before .before in
-    let at-hops = at-count .before in
-    let at-next = at-hops .before .before .before in
-    let at-start = at-next .before .before .before .before .before in (
-      first-settled (at-start .args .labels .now) (at-start .args .root) (at-start .args .u) (at-next .next-at .ensures) (c .first-hop .ensures),
-      row-settled (at-start .args .labels .now) _ _ (at-next .next-at .ensures) (at-hops .hops-at .ensures) (at-count .count .ensures) _
-          (at-insert-row .insert-row .ensures),
+    let at-hops-at = at-count .before in
+    let at-next-at = at-hops-at .before .before .before in
+    let at-start = at-next-at .before .before .before .before .before in (
+      first-settled (at-start .args .labels .now) (at-start .args .root) (at-start .args .u) (at-next-at .next-at .ensures)
+          (c .first-hop .ensures),
+      row-settled (at-start .args .labels .now) _ _ (at-next-at .next-at .ensures) (at-hops-at .hops-at .ensures) (at-count .count .ensures)
+          _ (at-insert-row .insert-row .ensures),
     )
 
 pub settle-spec : {M : Type 1} → statement M
 settle-spec =
     tie.close
-    (tie.spec
-    next-at-requires
-    hops-at-requires
-    count-requires
-    mul-insert-row
-    shared-slice-read-insert-row
-    insert-row-requires
-    cast-first-hop
-    add-first-hop
-    mul-first-hop
-    slice-read-first-hop
-    first-hop-requires
-    add-labels
-    mul-labels
-    slice-write-labels
-    mul-labels-2
-    slice-write-labels-2
-    same-length
-    same-length-2
-    returns)
+    (tie.spec next-at-requires hops-at-requires count-requires mul-insert-row shared-slice-read-insert-row insert-row-requires
+    cast-first-hop add-first-hop mul-first-hop slice-read-first-hop first-hop-requires add-labels mul-labels slice-write-labels mul-labels-2
+    slice-write-labels-2 same-length same-length-2 returns)

@@ -1,6 +1,6 @@
 -- `verdict::examine::examine` reads one record after the other, as many as there are words at most. Assumes nothing.
 use native.Mathlib.Omega.{arith}
-use mathlib.Core.Path.{sym, _∙_}
+use mathlib.Core.Path.{sym}
 use lib.ListN.{length}
 use Rattle.rule.specs.Words.{wordsOf}
 use Rattle.key_index.specs.laws.IndexLaws.{no-keys-yet}
@@ -20,16 +20,33 @@ has-bad-length-requires : tie.Need-has-bad-length-requires Inv-loop μ-loop
 has-bad-length-requires c κs = search needs
 
 returns : tie.Need-returns Inv-loop μ-loop
-returns c = (bad-length (c .before .before .before .before .args .table .now) (c .before .has-bad-length .result) (c .before .has-bad-length .ensures) (c .if1 .taken), refused-passes)
+returns c =
+    let at-start = c .before .before .before .before in (
+      bad-length (at-start .args .table .now) (c .before .has-bad-length .result) (c .before .has-bad-length .ensures) (c .if1 .taken),
+      refused-passes,
+    )
 
 loop-holds : tie.Need-loop-holds Inv-loop μ-loop
-loop-holds c = examining-starts (wordsOf (c .before .before .before .before .args .table .now)) _ (c .before .before .before .before .args .link-index .now) _ (sym (count-of-words (c .before .before .before .before .args .table .now))) no-keys-yet (c .before .before .before .before .pre)
+loop-holds c =
+    let at-start = c .before .before .before .before in
+    examining-starts (wordsOf (at-start .args .table .now)) _ (at-start .args .link-index .now) _
+    (sym (count-of-words (at-start .args .table .now))) no-keys-yet (at-start .pre)
 
 slice-aggregate-read-record : tie.Need-slice-aggregate-read-record Inv-loop μ-loop
 slice-aggregate-read-record c = search needs
 
 read-record-requires : tie.Need-read-record-requires Inv-loop μ-loop
-read-record-requires c κs = (record { within = omega (arith, c .before .before .before .loop .inv .within, count-of-words (c .before .before .before .before .before .before .before .before .args .table .now)); bounded = length-fits _ _ (c .before .before .before .before .before .has-bad-length .ensures) (c .before .before .before .before .if1 .left) }, c .before .before .before .loop .inv .indexes)
+read-record-requires c κs =
+    let at-loop = c .before .before .before in
+    let at-if1 = at-loop .before in
+    let at-has-bad-length = at-if1 .before in
+    let at-start = at-has-bad-length .before .before .before in (
+      record {
+        within = omega (arith, at-loop .loop .inv .within, count-of-words (at-start .args .table .now));
+        bounded = length-fits _ _ (at-has-bad-length .has-bad-length .ensures) (at-if1 .if1 .left);
+      },
+      at-loop .loop .inv .indexes,
+    )
 
 enum-known-read : tie.Need-enum-known-read Inv-loop μ-loop
 enum-known-read c = search needs
@@ -42,8 +59,23 @@ same-length c = search needs
 
 returns-2 : tie.Need-returns-2 Inv-loop μ-loop
 returns-2 c =
-    let accepts = good-length (c .before .before .before .before .before .before .before .before .before .before .before .before .before .before .args .table .now) (c .before .before .before .before .before .before .before .before .before .before .before .has-bad-length .result) _ (c .before .before .before .before .before .before .before .before .before .before .before .has-bad-length .ensures) (c .before .before .before .before .before .before .before .before .before .before .if1 .left) (examining-accepts (c .before .before .before .before .before .before .before .before .before .loop .inv) (c .before .before .before .before .before .read-record .result) (c .before .before .before .before .before .read-record .ensures .0) (c .before .before .before .before .before .before .before .before .loop-test .taken) (c .enum-told .given .1))
-    in (accepts, accepted-passes accepts (c .before .before .before .before .before .before .before .before .before .loop .inv .within) (length-fits _ _ (c .before .before .before .before .before .before .before .before .before .before .before .has-bad-length .ensures) (c .before .before .before .before .before .before .before .before .before .before .if1 .left)) (c .before .before .before .before .before .read-record .ensures .1 .at-end (c .enum-told .given .1) .by-number))
+    let at-read-record = c .before .before .before .before .before in
+    let at-loop-test = at-read-record .before .before .before in
+    let at-loop = at-loop-test .before in
+    let at-if1 = at-loop .before in
+    let at-has-bad-length = at-if1 .before in
+    let at-start = at-has-bad-length .before .before .before in
+    let (stepped, kept) = at-read-record .read-record .ensures in
+    let accepts =
+    good-length (at-start .args .table .now) (at-has-bad-length .has-bad-length .result) _ (at-has-bad-length .has-bad-length .ensures)
+    (at-if1 .if1 .left)
+    (examining-accepts (at-loop .loop .inv) (at-read-record .read-record .result) stepped (at-loop-test .loop-test .taken)
+    (c .enum-told .given .1)) in (
+      accepts,
+      accepted-passes accepts (at-loop .loop .inv .within)
+          (length-fits _ _ (at-has-bad-length .has-bad-length .ensures) (at-if1 .if1 .left))
+          (kept .at-end (c .enum-told .given .1) .by-number),
+    )
 
 enum-known-read-2 : tie.Need-enum-known-read-2 Inv-loop μ-loop
 enum-known-read-2 c = search needs
@@ -52,7 +84,20 @@ same-length-2 : tie.Need-same-length-2 Inv-loop μ-loop
 same-length-2 c = search needs
 
 returns-3 : tie.Need-returns-3 Inv-loop μ-loop
-returns-3 c = (good-length (c .before .before .before .before .before .before .before .before .before .before .before .before .before .before .before .args .table .now) (c .before .before .before .before .before .before .before .before .before .before .before .before .has-bad-length .result) _ (c .before .before .before .before .before .before .before .before .before .before .before .before .has-bad-length .ensures) (c .before .before .before .before .before .before .before .before .before .before .before .if1 .left) (examining-refuses (c .before .before .before .before .before .before .before .before .before .before .loop .inv) (c .before .before .before .before .before .before .read-record .result) (c .before .before .before .before .before .before .read-record .ensures .0) (c .before .before .before .before .before .before .before .before .before .loop-test .taken) _ _ _ (c .before .read2 .given .1)), refused-passes)
+returns-3 c =
+    let at-read-record = c .before .before .before .before .before .before in
+    let at-loop-test = at-read-record .before .before .before in
+    let at-loop = at-loop-test .before in
+    let at-if1 = at-loop .before in
+    let at-has-bad-length = at-if1 .before in
+    let at-start = at-has-bad-length .before .before .before in
+    let (stepped, _) = at-read-record .read-record .ensures in (
+      good-length (at-start .args .table .now) (at-has-bad-length .has-bad-length .result) _ (at-has-bad-length .has-bad-length .ensures)
+          (at-if1 .if1 .left)
+          (examining-refuses (at-loop .loop .inv) (at-read-record .read-record .result) stepped (at-loop-test .loop-test .taken) _ _ _
+          (c .before .read2 .given .1)),
+      refused-passes,
+    )
 
 sub-left : tie.Need-sub-left Inv-loop μ-loop
 sub-left c = search needs
@@ -61,38 +106,40 @@ loop-less : tie.Need-loop-less Inv-loop μ-loop
 loop-less c = search needs
 
 loop-again : tie.Need-loop-again Inv-loop μ-loop
-loop-again c = examining-next (c .before .before .before .before .before .before .before .before .before .before .loop .inv) (c .before .before .before .before .before .before .read-record .result) (c .before .before .before .before .before .before .read-record .ensures .0) (c .before .before .before .before .before .before .before .before .before .loop-test .taken) _ _ (c .before .read .given .0 .0) (c .before .read .given .1) (c .before .before .before .before .before .before .read-record .ensures .1)
+loop-again c =
+    let at-read-record = c .before .before .before .before .before .before in
+    let at-loop-test = at-read-record .before .before .before in
+    let at-loop = at-loop-test .before in
+    let (stepped, kept) = at-read-record .read-record .ensures in
+    examining-next (at-loop .loop .inv) (at-read-record .read-record .result) stepped (at-loop-test .loop-test .taken) _ _
+    (c .before .read .given .0 .0) (c .before .read .given .1) kept
 
 cast-t21 : tie.Need-cast-t21 Inv-loop μ-loop
-cast-t21 c = omega (arith, length-fits (length (c .before .before .before .before .before .before .args .table .now)) (c .before .before .before .has-bad-length .result) (c .before .before .before .has-bad-length .ensures) (c .before .before .if1 .left))
+cast-t21 c =
+    let at-if1 = c .before .before in
+    let at-has-bad-length = at-if1 .before in
+    let at-start = at-has-bad-length .before .before .before in
+    omega (
+      arith,
+      length-fits (length (at-start .args .table .now)) (at-has-bad-length .has-bad-length .result)
+          (at-has-bad-length .has-bad-length .ensures) (at-if1 .if1 .left),
+    )
 
 same-length-3 : tie.Need-same-length-3 Inv-loop μ-loop
 same-length-3 c = search needs
 
 returns-4 : tie.Need-returns-4 Inv-loop μ-loop
-returns-4 c = (good-length (c .before .before .before .before .before .before .args .table .now) (c .before .before .before .has-bad-length .result) _ (c .before .before .before .has-bad-length .ensures) (c .before .before .if1 .left) (examining-ends (c .before .loop .inv) (omega arith) _ (sym (count-of-words (c .before .before .before .before .before .before .args .table .now)))), refused-passes)
+returns-4 c =
+    let at-if1 = c .before .before in
+    let at-has-bad-length = at-if1 .before in
+    let at-start = at-has-bad-length .before .before .before in (
+      good-length (at-start .args .table .now) (at-has-bad-length .has-bad-length .result) _ (at-has-bad-length .has-bad-length .ensures)
+          (at-if1 .if1 .left) (examining-ends (c .before .loop .inv) (omega arith) _ (sym (count-of-words (at-start .args .table .now)))),
+      refused-passes,
+    )
 
 pub examine-spec : {M : Type 1} → statement M
 examine-spec =
     tie.close
-    (tie.spec
-    Inv-loop
-    μ-loop
-    has-bad-length-requires
-    returns
-    loop-holds
-    slice-aggregate-read-record
-    read-record-requires
-    enum-known-read
-    enum-told
-    same-length
-    returns-2
-    enum-known-read-2
-    same-length-2
-    returns-3
-    sub-left
-    loop-less
-    loop-again
-    cast-t21
-    same-length-3
-    returns-4)
+    (tie.spec Inv-loop μ-loop has-bad-length-requires returns loop-holds slice-aggregate-read-record read-record-requires enum-known-read
+    enum-told same-length returns-2 enum-known-read-2 same-length-2 returns-3 sub-left loop-less loop-again cast-t21 same-length-3 returns-4)

@@ -19,13 +19,30 @@ refusal-requires : tie.Need-refusal-requires
 refusal-requires c κs = search needs
 
 returns : tie.Need-returns
-returns c = (refused-step (wordsOf (c .before .before .before .before .before .args .table .now)) (c .before .before .before .before .before .args .s) bridgeLayout (c .before .before .before .bridge-fault .result) RecordKind.Bridge _ (c .before .before .before .bridge-fault .ensures) (c .before .before .if1 .taken) refl (c .before .words-read .result) (c .before .words-read .ensures) (c .refusal .ensures), refused-still (c .refusal .ensures))
+returns c =
+    let at-if1 = c .before .before in
+    let at-bridge-fault = at-if1 .before in
+    let at-start = at-bridge-fault .before .before in (
+      refused-step (wordsOf (at-start .args .table .now)) (at-start .args .s) bridgeLayout (at-bridge-fault .bridge-fault .result)
+          RecordKind.Bridge _ (at-bridge-fault .bridge-fault .ensures) (at-if1 .if1 .taken) refl (c .before .words-read .result)
+          (c .before .words-read .ensures) (c .refusal .ensures),
+      refused-still (c .refusal .ensures),
+    )
 
 add-t7 : tie.Need-add-t7
 add-t7 c = search needs
 
 returns-2 : tie.Need-returns-2
-returns-2 c = (bridge-taken (wordsOf (c .before .before .before .before .args .table .now)) (c .before .before .before .before .args .s) _ (ap numbered (sym (c .before .if1 .left)) ∙ c .before .before .bridge-fault .ensures) refl, taken-still (bridge-stands (wordsOf (c .before .before .before .before .args .table .now)) (c .before .before .before .before .args .s) (ap numbered (sym (c .before .if1 .left)) ∙ c .before .before .bridge-fault .ensures)) refl)
+returns-2 c =
+    let at-bridge-fault = c .before .before in
+    let at-start = at-bridge-fault .before .before in (
+      bridge-taken (wordsOf (at-start .args .table .now)) (at-start .args .s) _
+          (ap numbered (sym (c .before .if1 .left)) ∙ at-bridge-fault .bridge-fault .ensures) refl,
+      taken-still
+          (bridge-stands (wordsOf (at-start .args .table .now)) (at-start .args .s)
+          (ap numbered (sym (c .before .if1 .left)) ∙ at-bridge-fault .bridge-fault .ensures))
+          refl,
+    )
 
 pub after-bridge-spec : {M : Type 1} → statement M
 after-bridge-spec =

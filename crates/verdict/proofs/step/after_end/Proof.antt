@@ -19,10 +19,23 @@ refusal-requires : tie.Need-refusal-requires
 refusal-requires c κs = search needs
 
 returns : tie.Need-returns
-returns c = (refused-step (wordsOf (c .before .before .before .before .before .args .table .now)) (c .before .before .before .before .before .args .s) endLayout (c .before .before .before .end-fault .result) RecordKind.End _ (c .before .before .before .end-fault .ensures) (c .before .before .if1 .taken) refl (c .before .words-read .result) (c .before .words-read .ensures) (c .refusal .ensures), refused-still (c .refusal .ensures))
+returns c =
+    let at-if1 = c .before .before in
+    let at-end-fault = at-if1 .before in
+    let at-start = at-end-fault .before .before in (
+      refused-step (wordsOf (at-start .args .table .now)) (at-start .args .s) endLayout (at-end-fault .end-fault .result) RecordKind.End _
+          (at-end-fault .end-fault .ensures) (at-if1 .if1 .taken) refl (c .before .words-read .result) (c .before .words-read .ensures)
+          (c .refusal .ensures),
+      refused-still (c .refusal .ensures),
+    )
 
 returns-2 : tie.Need-returns-2
-returns-2 c = (end-taken (wordsOf (c .before .before .before .args .table .now)) (c .before .before .before .args .s) _ (ap numbered (sym (c .if1 .left)) ∙ c .before .end-fault .ensures) refl, end-still refl)
+returns-2 c =
+    let at-start = c .before .before .before in (
+      end-taken (wordsOf (at-start .args .table .now)) (at-start .args .s) _
+          (ap numbered (sym (c .if1 .left)) ∙ c .before .end-fault .ensures) refl,
+      end-still refl,
+    )
 
 pub after-end-spec : {M : Type 1} → statement M
 after-end-spec =

@@ -29,19 +29,55 @@ same-length-2 : tie.Need-same-length-2
 same-length-2 c = search needs
 
 returns : tie.Need-returns
-returns c = (refused-step (wordsOf (c .before .before .before .before .before .before .before .before .before .args .table .now)) (c .before .before .before .before .before .before .before .before .before .args .s) halfLinkLayout (c .before .before .before .half-link-fault .result) RecordKind.HalfLink _ (c .before .before .before .half-link-fault .ensures) (c .before .if1 .taken) refl (c .before .before .words-read .result) (c .before .before .words-read .ensures) (c .refusal .ensures), refused-keeps (c .refusal .ensures))
+returns c =
+    let at-words-read = c .before .before in
+    let at-half-link-fault = at-words-read .before in
+    let at-start = at-half-link-fault .before .before .before .before .before .before in (
+      refused-step (wordsOf (at-start .args .table .now)) (at-start .args .s) halfLinkLayout (at-half-link-fault .half-link-fault .result)
+          RecordKind.HalfLink _ (at-half-link-fault .half-link-fault .ensures) (c .before .if1 .taken) refl
+          (at-words-read .words-read .result) (at-words-read .words-read .ensures) (c .refusal .ensures),
+      refused-keeps (c .refusal .ensures),
+    )
 
 half-link-at-requires : tie.Need-half-link-at-requires
-half-link-at-requires c κs = omega (arith, c .before .words-read .ensures, half-link-there (c .before .before .before .before .before .before .before .before .args .table .now) (c .before .before .before .before .before .before .before .before .args .s) (ap numbered (sym (c .if1 .left)) ∙ c .before .before .half-link-fault .ensures))
+half-link-at-requires c κs =
+    let at-half-link-fault = c .before .before in
+    let at-start = at-half-link-fault .before .before .before .before .before .before in
+    omega (
+      arith,
+      c .before .words-read .ensures,
+      half-link-there (at-start .args .table .now) (at-start .args .s)
+          (ap numbered (sym (c .if1 .left)) ∙ at-half-link-fault .half-link-fault .ensures),
+    )
 
 port-key-requires : tie.Need-port-key-requires
-port-key-requires c κs = of-16-bits (halfLinkValues (c .before .half-link-at .result)) (drop (c .before .before .before .words-read .result) (wordsOf (c .before .before .before .before .before .before .before .before .before .before .args .table .now))) (c .before .half-link-at .ensures)
+port-key-requires c κs =
+    let at-words-read = c .before .before .before in
+    let at-start = at-words-read .before .before .before .before .before .before .before in
+    of-16-bits (halfLinkValues (c .before .half-link-at .result))
+    (drop (at-words-read .words-read .result) (wordsOf (at-start .args .table .now))) (c .before .half-link-at .ensures)
 
 enter-requires : tie.Need-enter-requires
-enter-requires c κs = (c .before .before .before .before .before .before .before .before .before .before .before .pre .1 .by-port .indexed, half-link-room (wordsOf (c .before .before .before .before .before .before .before .before .before .before .before .args .table .now)) (c .before .before .before .before .before .before .before .before .before .before .before .args .s) (ap numbered (sym (c .before .before .before .if1 .left)) ∙ c .before .before .before .before .before .half-link-fault .ensures))
+enter-requires c κs =
+    let at-if1 = c .before .before .before in
+    let at-half-link-fault = at-if1 .before .before in
+    let at-start = at-half-link-fault .before .before .before .before .before .before in
+    let (_, indexes) = at-start .pre in (
+      indexes .by-port .indexed,
+      half-link-room (wordsOf (at-start .args .table .now)) (at-start .args .s)
+          (ap numbered (sym (at-if1 .if1 .left)) ∙ at-half-link-fault .half-link-fault .ensures),
+    )
 
 enter-requires-2 : tie.Need-enter-requires-2
-enter-requires-2 c κs = (c .before .before .before .before .before .before .before .before .before .before .before .before .before .before .before .pre .1 .by-number .indexed, half-link-room (wordsOf (c .before .before .before .before .before .before .before .before .before .before .before .before .before .before .before .args .table .now)) (c .before .before .before .before .before .before .before .before .before .before .before .before .before .before .before .args .s) (ap numbered (sym (c .before .before .before .before .before .before .before .if1 .left)) ∙ c .before .before .before .before .before .before .before .before .before .half-link-fault .ensures))
+enter-requires-2 c κs =
+    let at-if1 = c .before .before .before .before .before .before .before in
+    let at-half-link-fault = at-if1 .before .before in
+    let at-start = at-half-link-fault .before .before .before .before .before .before in
+    let (_, indexes) = at-start .pre in (
+      indexes .by-number .indexed,
+      half-link-room (wordsOf (at-start .args .table .now)) (at-start .args .s)
+          (ap numbered (sym (at-if1 .if1 .left)) ∙ at-half-link-fault .half-link-fault .ensures),
+    )
 
 add-t20 : tie.Need-add-t20
 add-t20 c = search needs
@@ -53,28 +89,29 @@ same-length-4 : tie.Need-same-length-4
 same-length-4 c = search needs
 
 returns-2 : tie.Need-returns-2
-returns-2 c = (
-  half-link-taken (wordsOf (c .before .before .before .before .before .before .before .before .before .before .before .before .before .before .before .before .before .before .before .args .table .now)) (c .before .before .before .before .before .before .before .before .before .before .before .before .before .before .before .before .before .before .before .args .s) _ (ap numbered (sym (c .before .before .before .before .before .before .before .before .before .before .before .if1 .left)) ∙ c .before .before .before .before .before .before .before .before .before .before .before .before .before .half-link-fault .ensures) refl,
-  taken-keeps
-      (half-link-kept (wordsOf (c .before .before .before .before .before .before .before .before .before .before .before .before .before .before .before .before .before .before .before .args .table .now)) (c .before .before .before .before .before .before .before .before .before .before .before .before .before .before .before .before .before .before .before .args .s) (c .before .before .before .before .before .before .before .before .before .before .before .before .before .before .before .before .before .before .before .pre .1) (halfLinkValues (c .before .before .before .before .before .before .before .before .before .before .half-link-at .result)) (c .before .before .before .before .before .before .before .before .before .before .before .before .words-read .result) (c .before .before .before .before .before .before .before .before .port-key .result) (c .before .before .before .before .before .before .before .before .before .before .before .before .words-read .ensures) (c .before .before .before .before .before .before .before .before .before .before .half-link-at .ensures) (ap numbered (sym (c .before .before .before .before .before .before .before .before .before .before .before .if1 .left)) ∙ c .before .before .before .before .before .before .before .before .before .before .before .before .before .half-link-fault .ensures) (c .before .before .before .before .before .before .before .before .port-key .ensures) (c .before .before .before .before .before .before .before .enter .ensures) (c .before .before .before .enter2 .ensures))
-      refl,
-)
+returns-2 c =
+    let at-enter2 = c .before .before .before in
+    let at-enter = at-enter2 .before .before .before .before in
+    let at-port-key = at-enter .before in
+    let at-half-link-at = at-port-key .before .before in
+    let at-if1 = at-half-link-at .before in
+    let at-words-read = at-if1 .before in
+    let at-half-link-fault = at-words-read .before in
+    let at-start = at-half-link-fault .before .before .before .before .before .before in
+    let (_, indexes) = at-start .pre in (
+      half-link-taken (wordsOf (at-start .args .table .now)) (at-start .args .s) _
+          (ap numbered (sym (at-if1 .if1 .left)) ∙ at-half-link-fault .half-link-fault .ensures) refl,
+      taken-keeps
+          (half-link-kept (wordsOf (at-start .args .table .now)) (at-start .args .s) indexes
+          (halfLinkValues (at-half-link-at .half-link-at .result)) (at-words-read .words-read .result) (at-port-key .port-key .result)
+          (at-words-read .words-read .ensures) (at-half-link-at .half-link-at .ensures)
+          (ap numbered (sym (at-if1 .if1 .left)) ∙ at-half-link-fault .half-link-fault .ensures) (at-port-key .port-key .ensures)
+          (at-enter .enter .ensures) (at-enter2 .enter2 .ensures))
+          refl,
+    )
 
 pub after-half-link-spec : {M : Type 1} → statement M
 after-half-link-spec =
     tie.close
-    (tie.spec
-    half-link-fault-requires
-    words-read-requires
-    refusal-requires
-    same-length
-    same-length-2
-    returns
-    half-link-at-requires
-    port-key-requires
-    enter-requires
-    enter-requires-2
-    add-t20
-    same-length-3
-    same-length-4
-    returns-2)
+    (tie.spec half-link-fault-requires words-read-requires refusal-requires same-length same-length-2 returns half-link-at-requires
+    port-key-requires enter-requires enter-requires-2 add-t20 same-length-3 same-length-4 returns-2)

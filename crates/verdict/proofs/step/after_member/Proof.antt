@@ -19,13 +19,27 @@ refusal-requires : tie.Need-refusal-requires
 refusal-requires c κs = search needs
 
 returns : tie.Need-returns
-returns c = (refused-step (wordsOf (c .before .before .before .before .before .args .table .now)) (c .before .before .before .before .before .args .s) memberLayout (c .before .before .before .member-fault .result) RecordKind.Member _ (c .before .before .before .member-fault .ensures) (c .before .before .if1 .taken) refl (c .before .words-read .result) (c .before .words-read .ensures) (c .refusal .ensures), refused-still (c .refusal .ensures))
+returns c =
+    let at-if1 = c .before .before in
+    let at-member-fault = at-if1 .before in
+    let at-start = at-member-fault .before .before in (
+      refused-step (wordsOf (at-start .args .table .now)) (at-start .args .s) memberLayout (at-member-fault .member-fault .result)
+          RecordKind.Member _ (at-member-fault .member-fault .ensures) (at-if1 .if1 .taken) refl (c .before .words-read .result)
+          (c .before .words-read .ensures) (c .refusal .ensures),
+      refused-still (c .refusal .ensures),
+    )
 
 add-t7 : tie.Need-add-t7
 add-t7 c = search needs
 
 returns-2 : tie.Need-returns-2
-returns-2 c = (member-taken (wordsOf (c .before .before .before .before .args .table .now)) (c .before .before .before .before .args .s) _ (ap numbered (sym (c .before .if1 .left)) ∙ c .before .before .member-fault .ensures) refl, taken-still (member-stands (wordsOf (c .before .before .before .before .args .table .now)) (c .before .before .before .before .args .s)) refl)
+returns-2 c =
+    let at-member-fault = c .before .before in
+    let at-start = at-member-fault .before .before in (
+      member-taken (wordsOf (at-start .args .table .now)) (at-start .args .s) _
+          (ap numbered (sym (c .before .if1 .left)) ∙ at-member-fault .member-fault .ensures) refl,
+      taken-still (member-stands (wordsOf (at-start .args .table .now)) (at-start .args .s)) refl,
+    )
 
 pub after-member-spec : {M : Type 1} → statement M
 after-member-spec =

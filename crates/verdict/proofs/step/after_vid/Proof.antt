@@ -19,13 +19,27 @@ refusal-requires : tie.Need-refusal-requires
 refusal-requires c κs = search needs
 
 returns : tie.Need-returns
-returns c = (refused-step (wordsOf (c .before .before .before .before .before .args .table .now)) (c .before .before .before .before .before .args .s) vidLayout (c .before .before .before .vid-fault .result) RecordKind.Vid _ (c .before .before .before .vid-fault .ensures) (c .before .before .if1 .taken) refl (c .before .words-read .result) (c .before .words-read .ensures) (c .refusal .ensures), refused-still (c .refusal .ensures))
+returns c =
+    let at-if1 = c .before .before in
+    let at-vid-fault = at-if1 .before in
+    let at-start = at-vid-fault .before .before in (
+      refused-step (wordsOf (at-start .args .table .now)) (at-start .args .s) vidLayout (at-vid-fault .vid-fault .result) RecordKind.Vid _
+          (at-vid-fault .vid-fault .ensures) (at-if1 .if1 .taken) refl (c .before .words-read .result) (c .before .words-read .ensures)
+          (c .refusal .ensures),
+      refused-still (c .refusal .ensures),
+    )
 
 add-t7 : tie.Need-add-t7
 add-t7 c = search needs
 
 returns-2 : tie.Need-returns-2
-returns-2 c = (vid-taken (wordsOf (c .before .before .before .before .args .table .now)) (c .before .before .before .before .args .s) _ (ap numbered (sym (c .before .if1 .left)) ∙ c .before .before .vid-fault .ensures) refl, taken-still (vid-stands (wordsOf (c .before .before .before .before .args .table .now)) (c .before .before .before .before .args .s)) refl)
+returns-2 c =
+    let at-vid-fault = c .before .before in
+    let at-start = at-vid-fault .before .before in (
+      vid-taken (wordsOf (at-start .args .table .now)) (at-start .args .s) _
+          (ap numbered (sym (c .before .if1 .left)) ∙ at-vid-fault .vid-fault .ensures) refl,
+      taken-still (vid-stands (wordsOf (at-start .args .table .now)) (at-start .args .s)) refl,
+    )
 
 pub after-vid-spec : {M : Type 1} → statement M
 after-vid-spec =

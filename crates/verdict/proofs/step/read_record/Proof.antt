@@ -15,7 +15,13 @@ cast-t11 : tie.Need-cast-t11
 cast-t11 c = search needs
 
 returns : tie.Need-returns
-returns c = (no-end (c .before .before .before .before .before .args .table .now) (c .before .before .before .before .before .args .s) (c .before .words-read .result) _ (c .before .words-read .ensures) refl (c .if1 .taken) (c .before .before .before .before .before .pre .0 .within), refused-keeps refl)
+returns c =
+    let at-start = c .before .before .before .before .before in
+    let (whole, _) = at-start .pre in (
+      no-end (at-start .args .table .now) (at-start .args .s) (c .before .words-read .result) _ (c .before .words-read .ensures) refl
+          (c .if1 .taken) (whole .within),
+      refused-keeps refl,
+    )
 
 word-at-requires : tie.Need-word-at-requires
 word-at-requires c κs = search needs
@@ -24,7 +30,18 @@ after-bridge-requires : tie.Need-after-bridge-requires
 after-bridge-requires c κs = search needs
 
 returns-2 : tie.Need-returns-2
-returns-2 c = (of-kind (c .before .before .before .before .before .before .before .before .args .table .now) (c .before .before .before .before .before .before .before .before .args .s) (c .before .before .before .before .words-read .result) (c .before .before .word-at .result) (c .before .before .before .before .words-read .ensures) (omega arith) (c .before .before .word-at .ensures .0) (c .before .before .word-at .ensures .1) 1 _ bridgeLayout (c .before .if2 .taken) bridge-kind (c .after-bridge .ensures .0), still-keeps (c .before .before .before .before .before .before .before .before .pre .1) (c .after-bridge .ensures .1))
+returns-2 c =
+    let at-word-at = c .before .before in
+    let at-words-read = at-word-at .before .before in
+    let at-start = at-words-read .before .before .before .before in
+    let (word-at-is, word-at-bound) = at-word-at .word-at .ensures in
+    let (stepped, still) = c .after-bridge .ensures in
+    let (_, indexes) = at-start .pre in (
+      of-kind (at-start .args .table .now) (at-start .args .s) (at-words-read .words-read .result) (at-word-at .word-at .result)
+          (at-words-read .words-read .ensures) (omega arith) word-at-is word-at-bound 1 _ bridgeLayout (c .before .if2 .taken) bridge-kind
+          stepped,
+      still-keeps indexes still,
+    )
 
 after-half-link-requires : tie.Need-after-half-link-requires
 after-half-link-requires c κs = search needs
@@ -36,51 +53,89 @@ same-length-2 : tie.Need-same-length-2
 same-length-2 c = search needs
 
 returns-3 : tie.Need-returns-3
-returns-3 c = (of-kind (c .before .before .before .before .before .before .before .before .before .before .before .before .before .before .before .args .table .now) (c .before .before .before .before .before .before .before .before .before .before .before .before .before .before .before .args .s) (c .before .before .before .before .before .before .before .before .before .before .before .words-read .result) (c .before .before .before .before .before .before .before .before .before .word-at .result) (c .before .before .before .before .before .before .before .before .before .before .before .words-read .ensures) (omega arith) (c .before .before .before .before .before .before .before .before .before .word-at .ensures .0) (c .before .before .before .before .before .before .before .before .before .word-at .ensures .1) 2 _ halfLinkLayout (c .before .before .before .before .before .before .before .if3 .taken) half-link-kind (c .before .before .before .before .after-half-link .ensures .0), c .before .before .before .before .after-half-link .ensures .1)
+returns-3 c =
+    let at-after-half-link = c .before .before .before .before in
+    let at-if3 = at-after-half-link .before .before .before in
+    let at-word-at = at-if3 .before .before in
+    let at-words-read = at-word-at .before .before in
+    let at-start = at-words-read .before .before .before .before in
+    let (word-at-is, word-at-bound) = at-word-at .word-at .ensures in
+    let (stepped, kept) = at-after-half-link .after-half-link .ensures in (
+      of-kind (at-start .args .table .now) (at-start .args .s) (at-words-read .words-read .result) (at-word-at .word-at .result)
+          (at-words-read .words-read .ensures) (omega arith) word-at-is word-at-bound 2 _ halfLinkLayout (at-if3 .if3 .taken) half-link-kind
+          stepped,
+      kept,
+    )
 
 after-vid-requires : tie.Need-after-vid-requires
 after-vid-requires c κs = search needs
 
 returns-4 : tie.Need-returns-4
-returns-4 c = (of-kind (c .before .before .before .before .before .before .before .before .before .before .args .table .now) (c .before .before .before .before .before .before .before .before .before .before .args .s) (c .before .before .before .before .before .before .words-read .result) (c .before .before .before .before .word-at .result) (c .before .before .before .before .before .before .words-read .ensures) (omega arith) (c .before .before .before .before .word-at .ensures .0) (c .before .before .before .before .word-at .ensures .1) 3 _ vidLayout (c .before .if4 .taken) vid-kind (c .after-vid .ensures .0), still-keeps (c .before .before .before .before .before .before .before .before .before .before .pre .1) (c .after-vid .ensures .1))
+returns-4 c =
+    let at-word-at = c .before .before .before .before in
+    let at-words-read = at-word-at .before .before in
+    let at-start = at-words-read .before .before .before .before in
+    let (word-at-is, word-at-bound) = at-word-at .word-at .ensures in
+    let (stepped, still) = c .after-vid .ensures in
+    let (_, indexes) = at-start .pre in (
+      of-kind (at-start .args .table .now) (at-start .args .s) (at-words-read .words-read .result) (at-word-at .word-at .result)
+          (at-words-read .words-read .ensures) (omega arith) word-at-is word-at-bound 3 _ vidLayout (c .before .if4 .taken) vid-kind stepped,
+      still-keeps indexes still,
+    )
 
 after-member-requires : tie.Need-after-member-requires
 after-member-requires c κs = search needs
 
 returns-5 : tie.Need-returns-5
-returns-5 c = (of-kind (c .before .before .before .before .before .before .before .before .before .before .before .args .table .now) (c .before .before .before .before .before .before .before .before .before .before .before .args .s) (c .before .before .before .before .before .before .before .words-read .result) (c .before .before .before .before .before .word-at .result) (c .before .before .before .before .before .before .before .words-read .ensures) (omega arith) (c .before .before .before .before .before .word-at .ensures .0) (c .before .before .before .before .before .word-at .ensures .1) 4 _ memberLayout (c .before .if5 .taken) member-kind (c .after-member .ensures .0), still-keeps (c .before .before .before .before .before .before .before .before .before .before .before .pre .1) (c .after-member .ensures .1))
+returns-5 c =
+    let at-word-at = c .before .before .before .before .before in
+    let at-words-read = at-word-at .before .before in
+    let at-start = at-words-read .before .before .before .before in
+    let (word-at-is, word-at-bound) = at-word-at .word-at .ensures in
+    let (stepped, still) = c .after-member .ensures in
+    let (_, indexes) = at-start .pre in (
+      of-kind (at-start .args .table .now) (at-start .args .s) (at-words-read .words-read .result) (at-word-at .word-at .result)
+          (at-words-read .words-read .ensures) (omega arith) word-at-is word-at-bound 4 _ memberLayout (c .before .if5 .taken) member-kind
+          stepped,
+      still-keeps indexes still,
+    )
 
 after-end-requires : tie.Need-after-end-requires
 after-end-requires c κs = search needs
 
 returns-6 : tie.Need-returns-6
-returns-6 c = (of-kind (c .before .before .before .before .before .before .before .before .before .before .before .before .args .table .now) (c .before .before .before .before .before .before .before .before .before .before .before .before .args .s) (c .before .before .before .before .before .before .before .before .words-read .result) (c .before .before .before .before .before .before .word-at .result) (c .before .before .before .before .before .before .before .before .words-read .ensures) (omega arith) (c .before .before .before .before .before .before .word-at .ensures .0) (c .before .before .before .before .before .before .word-at .ensures .1) 15 _ endLayout (c .before .if6 .taken) end-kind (c .after-end .ensures .0), still-keeps (c .before .before .before .before .before .before .before .before .before .before .before .before .pre .1) (c .after-end .ensures .1))
+returns-6 c =
+    let at-word-at = c .before .before .before .before .before .before in
+    let at-words-read = at-word-at .before .before in
+    let at-start = at-words-read .before .before .before .before in
+    let (word-at-is, word-at-bound) = at-word-at .word-at .ensures in
+    let (stepped, still) = c .after-end .ensures in
+    let (_, indexes) = at-start .pre in (
+      of-kind (at-start .args .table .now) (at-start .args .s) (at-words-read .words-read .result) (at-word-at .word-at .result)
+          (at-words-read .words-read .ensures) (omega arith) word-at-is word-at-bound 15 _ endLayout (c .before .if6 .taken) end-kind stepped,
+      still-keeps indexes still,
+    )
 
 cast-t12 : tie.Need-cast-t12
 cast-t12 c = search needs
 
 returns-7 : tie.Need-returns-7
-returns-7 c = (of-unknown-kind (c .before .before .before .before .before .before .before .before .before .before .before .args .table .now) (c .before .before .before .before .before .before .before .before .before .before .before .args .s) (c .before .before .before .before .before .before .before .words-read .result) (c .before .before .before .before .before .word-at .result) (c .before .before .before .before .before .before .before .words-read .ensures) (omega arith) (c .before .before .before .before .before .word-at .ensures .0) (c .before .before .before .before .before .word-at .ensures .1) (unknown-kind _ (c .before .before .before .before .if2 .left) (c .before .before .before .if3 .left) (c .before .before .if4 .left) (c .before .if5 .left) (c .if6 .left)), refused-keeps refl)
+returns-7 c =
+    let at-if4 = c .before .before in
+    let at-if3 = at-if4 .before in
+    let at-if2 = at-if3 .before in
+    let at-word-at = at-if2 .before in
+    let at-words-read = at-word-at .before .before in
+    let at-start = at-words-read .before .before .before .before in
+    let (word-at-is, word-at-bound) = at-word-at .word-at .ensures in (
+      of-unknown-kind (at-start .args .table .now) (at-start .args .s) (at-words-read .words-read .result) (at-word-at .word-at .result)
+          (at-words-read .words-read .ensures) (omega arith) word-at-is word-at-bound
+          (unknown-kind _ (at-if2 .if2 .left) (at-if3 .if3 .left) (at-if4 .if4 .left) (c .before .if5 .left) (c .if6 .left)),
+      refused-keeps refl,
+    )
 
 pub read-record-spec : {M : Type 1} → statement M
 read-record-spec =
     tie.close
-    (tie.spec
-    words-read-requires
-    cast-t11
-    returns
-    word-at-requires
-    after-bridge-requires
-    returns-2
-    after-half-link-requires
-    same-length
-    same-length-2
-    returns-3
-    after-vid-requires
-    returns-4
-    after-member-requires
-    returns-5
-    after-end-requires
-    returns-6
-    cast-t12
-    returns-7)
+    (tie.spec words-read-requires cast-t11 returns word-at-requires after-bridge-requires returns-2 after-half-link-requires same-length
+    same-length-2 returns-3 after-vid-requires returns-4 after-member-requires returns-5 after-end-requires returns-6 cast-t12 returns-7)

@@ -7,7 +7,9 @@ returns : tie.Need-returns
 returns c = simp (lt-leb _ _ (c .if1 .taken))
 
 returns-2 : tie.Need-returns-2
-returns-2 c = simp (le-leb _ _ (c .before .before .if1 .left))
+returns-2 c =
+    let at-if1 = c .before .before in
+    simp (le-leb _ _ (at-if1 .if1 .left))
 
 pub is-in-range-spec : {M : Type 1} → statement M
 is-in-range-spec = tie.close (tie.spec returns returns-2)

@@ -5,7 +5,9 @@ use Rattle.rule.proofs.metric.Metric.is_usable.Statement.{statement}
 use Rattle.rule.proofs.metric.Metric.is_usable.Tie as tie
 
 returns : tie.Need-returns
-returns c = sym (leb·suc-suc (c .before .before .args .self .0) 16777214)
+returns c =
+    let at-start = c .before .before in
+    sym (leb·suc-suc (at-start .args .self .0) 16777214)
 
 pub is-usable-spec : {M : Type 1} → statement M
 is-usable-spec = tie.close (tie.spec returns)
