@@ -7,7 +7,7 @@ use mathlib.Core.Bool.{cond}
 use lib.Dec.{ltb}
 use lib.ListN.{length, replicate}
 use Rattle.graph.specs.Graph.{cost}
-use Rattle.rule.specs.Measures.{noPathCost}
+use Rattle.measures.specs.Measures.{noPathCost}
 use Rattle.rule.specs.Outcome.{Outcome, answered, refused}
 use Rattle.rule.specs.Plan.{Plan}
 use Rattle.rule.specs.Check.{verdict}

@@ -1,6 +1,9 @@
 // The path call, the tree call, the entries call and the search for trees alone, as functions for the benchmark.
 use entries::list::LONGEST_LIST;
 use key_index::chain::INDEX;
+use labels::label::LABELS;
+use labels::label::cost_at;
+use measures::measure::Cost;
 use network::make::make_network;
 use network::parts::NETWORK;
 use network::plan_tree::tree_in_network;
@@ -8,13 +11,10 @@ use rule::answer::EntriesAnswer;
 use rule::answer::PathAnswer;
 use rule::answer::TreeAnswer;
 use rule::kinds::MOST_BRIDGES;
-use rule::measure::Cost;
 use spb::entry_lists::entries;
 use spb::paths::path;
 use spb::trees::tree;
 use table::shape::Shape;
-use tree::label::LABELS;
-use tree::label::cost_at;
 use tree::search::PATH_IDS;
 use verdict::examine::Examined;
 use verdict::examine::examine;

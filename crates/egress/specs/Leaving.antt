@@ -14,7 +14,7 @@ use Rattle.rule.specs.Plan.{Plan}
 use Rattle.rule.specs.Links.{hopLink}
 use Rattle.rule.specs.Paths.{chosenPath}
 use Rattle.rule.specs.Entries.{leavingPort}
-use Rattle.tree.specs.Labels.{noCost, labelAt}
+use Rattle.labels.specs.Labels.{noCost, labelAt}
 
 -- A port as a number, 0 where there is none.
 abbrev pub numberOf : Option ℕ → ℕ

@@ -1,8 +1,8 @@
 // Rows of ports by which the chosen paths from a root leave a bridge, from the labels of the root's tree.
-use rule::measure::Hops;
-use tree::label::cost_at;
-use tree::label::hops_at;
-use tree::label::next_number;
+use labels::label::cost_at;
+use labels::label::hops_at;
+use labels::label::next_number;
+use measures::measure::Hops;
 ghost use mathlib.Core.Path.{_≡_};
 ghost use Prim.Native.Nat.{_+_, _≤_};
 ghost use lib.ListN.{length};

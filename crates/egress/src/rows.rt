@@ -1,11 +1,11 @@
 // Rows kept by ECT index and start of the paths, each made of the kept tree.
 use crate::leaving::write_egress_row;
+use labels::label::LABELS;
 use network::parts::bridges;
 use network::store::kept_tree;
 use rule::kinds::MOST_BRIDGES;
 use rule::kinds::MOST_MEMBERS;
 use rule::kinds::MOST_VIDS;
-use tree::label::LABELS;
 ghost use mathlib.Core.Path.{_≡_};
 ghost use Prim.Native.Nat.{_+_, _≤_, _<_};
 ghost use lib.ListN.{length};

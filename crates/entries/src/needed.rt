@@ -1,7 +1,7 @@
 // The rows that the entries of a bridge need: one for each different ECT index and bridge among the bridge itself and the
 // transmitting members, of the trees kept in the lent store.
 use egress::rows::keep_egress_row;
-use table::member::Member;
+use readers::member::Member;
 use table::records::index_of;
 use table::records::member;
 use table::records::vid;
@@ -12,7 +12,7 @@ ghost use lib.ListN.{length};
 ghost use Rattle.rule.specs.Words.{wordsOf};
 ghost use Rattle.table.specs.Positions.{planAt};
 ghost use Rattle.table.specs.Whole.{Whole};
-ghost use Rattle.table.specs.Readers.{memberValues};
+ghost use Rattle.readers.specs.Readers.{memberValues};
 ghost use Rattle.network.specs.Store.{TreesKept};
 ghost use Rattle.egress.specs.Rows.{EgressRowsKept, Kept};
 ghost use Rattle.entries.specs.Needed.{HopsReady, OwnEgressRows, EgressRowsReady, transmitterIndex};

@@ -5,7 +5,7 @@ use crate::layout::PORTS;
 use crate::layout::UPPER_VALUES;
 use crate::layout::VID_UNIT;
 use crate::layout::VIDS;
-use rule::number::two_words;
+use numbers::number::two_words;
 ghost use mathlib.Core.Path.{_≡_};
 ghost use Prim.Native.Nat.{_<_};
 ghost use Rattle.rule.specs.Words.{bits};

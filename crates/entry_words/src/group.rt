@@ -2,7 +2,7 @@
 use entry_codec::layout::GROUP;
 use entry_codec::writer::wide;
 use entry_codec::writer::write_entry;
-use table::member::Member;
+use readers::member::Member;
 use table::records::member;
 use table::shape::Shape;
 ghost use mathlib.Core.Path.{_≡_};
@@ -10,7 +10,7 @@ ghost use Prim.Native.Nat.{_<_, _≤_};
 ghost use lib.ListN.{length};
 ghost use Rattle.rule.specs.Words.{wordsOf};
 ghost use Rattle.rule.specs.Entries.{receives};
-ghost use Rattle.table.specs.Readers.{memberValues};
+ghost use Rattle.readers.specs.Readers.{memberValues};
 ghost use Rattle.lists.specs.Appending.{Appended, Room};
 ghost use Rattle.verdict.specs.Examination.{Checked};
 ghost use Rattle.entry_words.specs.Words.{behindAt, portsBehind, groupWords};

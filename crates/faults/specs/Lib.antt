@@ -1,4 +1,3 @@
 -- The faults of a record as numbers, and the laws that link the code's tests to them.
-pub mod HalfLinks
 pub mod Faults
 pub mod laws

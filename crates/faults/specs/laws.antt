@@ -1,4 +1,3 @@
 -- Theorems: nothing here is cited by a contract.
-pub mod HalfLinkLaws
 pub mod FaultNotions
 pub mod FaultLaws

@@ -1,4 +1,2 @@
 // The lowest fault of each record of a table (01, "Refusals in checking order", 2 to 10).
-pub mod half_link;
 pub mod lowest;
-pub mod repeats;

@@ -1,9 +1,9 @@
 // Paths through the real call, on two tables given word by word: the standard's two comparisons of PATHIDs (28.5), and "path of 2 hops
 // into 3 places fits, into 2 gives 13".
 use crate::plan::put_word;
+use measures::measure::Cost;
+use measures::measure::Hops;
 use rule::answer::PathAnswer;
-use rule::measure::Cost;
-use rule::measure::Hops;
 use spb::paths::path;
 use text::fields::write_byte;
 use text::fields::write_field;

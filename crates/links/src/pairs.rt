@@ -1,7 +1,7 @@
 // The lowest hop between each two bridges (01, "Links"), from one pass over the half-links.
 use crate::usable::link_metric;
+use numbers::metric::Metric;
 use rule::kinds::MOST_BRIDGES;
-use rule::metric::Metric;
 use table::records::half_link;
 use table::shape::Shape;
 ghost use mathlib.Core.Path.{_≡_};

@@ -1,14 +1,14 @@
 // What the link of a half-link costs, and how many links are usable (01, "Links").
 use key_index::chain::other_place;
-use rule::metric::Metric;
-use table::half_link::HalfLink;
+use numbers::metric::Metric;
+use readers::half_link::HalfLink;
 use table::records::half_link;
 use table::shape::Shape;
 ghost use mathlib.Core.Path.{_≡_};
 ghost use Prim.Native.Nat.{_<_};
 ghost use Rattle.rule.specs.Words.{wordsOf};
 ghost use Rattle.rule.specs.Links.{countUsable};
-ghost use Rattle.table.specs.Readers.{halfLinkValues};
+ghost use Rattle.readers.specs.Readers.{halfLinkValues};
 ghost use Rattle.table.specs.Positions.{planAt};
 ghost use Rattle.table.specs.Numbered.{halfLinkNumber};
 ghost use Rattle.verdict.specs.Examination.{Checked, LinkIndex};

@@ -1,7 +1,7 @@
 // Path lines (01, "Listing program"), by what the path call answers.
+use measures::measure::Cost;
+use measures::measure::Hops;
 use rule::answer::PathAnswer;
-use rule::measure::Cost;
-use rule::measure::Hops;
 use text::fields::write_byte;
 use text::fields::write_fields;
 use text::fields::write_line;

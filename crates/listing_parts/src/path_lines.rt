@@ -1,9 +1,9 @@
 // The path lines of one VID and from (01, "Listing program").
 use crate::labelled_line::write_path_line;
+use labels::label::LABELS;
 use network::store::kept_tree;
 use table::records::vid;
 use table::shape::Shape;
-use tree::label::LABELS;
 ghost use Prim.Native.Nat.{_*_, _≤_, _<_};
 ghost use lib.ListN.{length};
 ghost use Rattle.rule.specs.Words.{wordsOf};

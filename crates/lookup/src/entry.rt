@@ -6,7 +6,7 @@ use entry_codec::reader::kind_of;
 use entry_codec::reader::port_of;
 use entry_codec::reader::vid_of;
 use entry_codec::reader::zero_bits_of;
-use rule::number::within;
+use numbers::number::within;
 ghost use mathlib.Core.Path.{_≡_};
 ghost use mathlib.Core.Bool.{_&&_};
 ghost use lib.Dec.{eqb};

@@ -1,7 +1,7 @@
 // The parts of a network, and what is read of them. No other crate knows where a part begins.
+use numbers::number::two_words;
 use rule::kinds::MOST_BRIDGES;
 use rule::kinds::MOST_HALF_LINKS;
-use rule::number::two_words;
 ghost use mathlib.Core.Path.{_≡_};
 ghost use Prim.Native.Nat.{_≤_, _<_};
 ghost use lib.ListN.{length, getD};

@@ -1,8 +1,8 @@
 // Trees kept from one call to the next in one lent list, a store of any number of lines: a line has a mark, which says the tree that it
 // holds, and the tree's labels.
 use crate::plan_tree::tree_in_network;
+use labels::label::LABELS;
 use rule::kinds::MOST_BRIDGES;
-use tree::label::LABELS;
 ghost use mathlib.Core.Path.{_≡_};
 ghost use Prim.Native.Nat.{_+_, _%_, _≤_, _<_};
 ghost use lib.ListN.{length, take, drop};

@@ -2,7 +2,7 @@
 use Prim.Native.Nat.{ℕ, zero, suc, _<_}
 use mathlib.Core.List.{List, [], _∷_}
 use Rattle.lists.specs.Members.{In}
-use Rattle.tree.specs.Labels.{labelAt}
+use Rattle.labels.specs.Labels.{labelAt}
 
 -- The bridge `u` and those that next hops lead to from it, `count` in all.
 unfoldable pub followed : List ℕ → ℕ → ℕ → List ℕ

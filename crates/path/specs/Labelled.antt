@@ -7,7 +7,7 @@ use lib.Dec.{eqb}
 use Rattle.graph.specs.Graph.{cost, hops}
 use Rattle.rule.specs.Outcome.{Outcome, answered, refusedAs, Written}
 use Rattle.rule.specs.Answers.{CostAndHops}
-use Rattle.tree.specs.Labels.{noCost, labelAt}
+use Rattle.labels.specs.Labels.{noCost, labelAt}
 use Rattle.path.specs.Followed.{followed, Inside}
 
 -- The path from the bridge `u` to the root: its label's cost and hops, and the bridges that next hops lead to. "12. No path exists."

@@ -2,5 +2,4 @@
 pub mod Followed
 pub mod Labelled
 pub mod Named
-pub mod Branches
 pub mod laws

@@ -2,5 +2,4 @@
 pub mod FollowedLaws
 pub mod LabelledLaws
 pub mod NamedLaws
-pub mod BranchLaws
 pub mod PlanCalls

@@ -1,4 +1,3 @@
 // Paths and trees of a table that passed the check (01, "Calls").
-pub mod branches;
 pub mod named;
 pub mod path;

@@ -1,13 +1,13 @@
 // The path from a bridge to the root of a tree, by the tree's labels (01, "Calls": path).
 use crate::named::named_tree;
+use labels::label::LABELS;
+use labels::label::cost_at;
+use labels::label::hops_at;
+use labels::label::next_number;
+use measures::measure::Cost;
 use rule::answer::PathAnswer;
 use rule::answer::RecordKind;
-use rule::measure::Cost;
 use table::shape::Shape;
-use tree::label::LABELS;
-use tree::label::cost_at;
-use tree::label::hops_at;
-use tree::label::next_number;
 ghost use mathlib.Core.Path.{_≡_};
 ghost use mathlib.Core.List.{List};
 ghost use Prim.Native.Nat.{ℕ, _≤_};

@@ -1,9 +1,9 @@
 // The outcomes of path, tree and entries as lines: the answer, and every place of the lent lists after the call.
+use measures::measure::Cost;
+use measures::measure::Hops;
 use rule::answer::EntriesAnswer;
 use rule::answer::PathAnswer;
 use rule::answer::TreeAnswer;
-use rule::measure::Cost;
-use rule::measure::Hops;
 use spb::entry_lists::entries;
 use spb::paths::path;
 use spb::trees::tree;

@@ -26,7 +26,7 @@ use probe_input::tables::NextTable;
 use probe_input::tables::TURNS;
 use probe_input::tables::next_table;
 use probe_input::tables::read_bytes;
-use table::words::word_at;
+use readers::words::word_at;
 ghost use Prim.Native.Nat.{_≤_};
 ghost use lib.ListN.{length as List·length};
 

@@ -1,6 +1,6 @@
 // Tables read from standard input, each after its length in bytes as a word of 32 bits, high byte first.
 use crate::report::report;
-use table::words::word_at;
+use readers::words::word_at;
 ghost use Prim.Native.Nat.{_≤_};
 ghost use lib.ListN.{length as List·length};
 ghost use Rattle.probe_input.specs.Lengths.{lengthOf};

@@ -8,7 +8,6 @@ pub mod Check
 pub mod Links
 pub mod Identifiers
 pub mod Paths
-pub mod Measures
 pub mod Entries
 pub mod Answers
 pub mod Calls

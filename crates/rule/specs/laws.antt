@@ -3,7 +3,6 @@ pub mod Accepted
 pub mod OneRecord
 pub mod VidPlan
 pub mod LinkLaws
-pub mod MeasureLaws
 pub mod IdentifierLaws
 pub mod EntryLaws
 pub mod WrittenLists

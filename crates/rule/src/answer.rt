@@ -1,8 +1,8 @@
 // What the calls answer (01, "Calls" and "Refusals in checking order"). The refusal case of each answer holds the refusal's
 // number, the kind of the record concerned and the number of that record's first word. The values that a case stands for on
 // paper are given in specs/Answers.
-use crate::measure::Cost;
-use crate::measure::Hops;
+use measures::measure::Cost;
+use measures::measure::Hops;
 
 // The kind of the record that a refusal concerns, or none.
 pub enum RecordKind {

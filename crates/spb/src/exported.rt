@@ -1,7 +1,7 @@
 // The functions for the C screens, over numbers and byte slices (01, "Calls"). include/spb.h declares them.
 use key_index::chain::INDEX;
+use measures::measure::Cost;
 use path::path::path_cost_in_table;
-use rule::measure::Cost;
 use verdict::examine::Examined;
 use verdict::examine::examine;
 ghost use mathlib.Core.Path.{_≡_};

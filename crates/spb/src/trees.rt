@@ -1,6 +1,6 @@
 // Tree (the fifth call: docs/DECISIONS.md).
+use branches::branches::tree_in_table;
 use key_index::chain::INDEX;
-use path::branches::tree_in_table;
 use rule::answer::TreeAnswer;
 use verdict::examine::Examined;
 use verdict::examine::examine;

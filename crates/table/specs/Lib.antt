@@ -1,5 +1,4 @@
 -- What the check's functions compute, and the laws that link their positions in the table to the plan.
-pub mod Readers
 pub mod Positions
 pub mod Whole
 pub mod Numbered

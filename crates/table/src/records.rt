@@ -1,20 +1,20 @@
 // Records of a table by their numbers within their kind, and the ECT index of a VID (01, "The table").
-use crate::bridge::Bridge;
-use crate::bridge::bridge_at;
-use crate::half_link::HalfLink;
-use crate::half_link::half_link_at;
-use crate::member::Member;
-use crate::member::member_at;
 use crate::shape::Shape;
-use crate::vid::Vid;
-use crate::vid::vid_at;
+use readers::bridge::Bridge;
+use readers::bridge::bridge_at;
+use readers::half_link::HalfLink;
+use readers::half_link::half_link_at;
+use readers::member::Member;
+use readers::member::member_at;
+use readers::vid::Vid;
+use readers::vid::vid_at;
 ghost use mathlib.Core.Path.{_≡_};
 ghost use Prim.Native.Nat.{_<_};
 ghost use Rattle.rule.specs.Words.{wordsOf};
 ghost use Rattle.rule.specs.Plan.{vidRecord};
 ghost use Rattle.table.specs.Positions.{planAt};
 ghost use Rattle.table.specs.Whole.{Whole};
-ghost use Rattle.table.specs.Readers.{bridgeValues, halfLinkValues, vidValues, memberValues};
+ghost use Rattle.readers.specs.Readers.{bridgeValues, halfLinkValues, vidValues, memberValues};
 ghost use Rattle.table.specs.Numbered.{bridgeNumber, halfLinkNumber, vidNumber, memberNumber, indexOf};
 
 pub fn bridge(table: &[u8], s: Shape, d: usize) -> Bridge

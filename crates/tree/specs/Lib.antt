@@ -1,6 +1,4 @@
 -- Labels and masked PATHIDs of a search in lent lists, and what a search keeps true of them.
-pub mod Labels
-pub mod Relaxing
 pub mod Settling
 pub mod Trees
 pub mod Tracked

@@ -5,7 +5,7 @@ use mathlib.Core.Path.{_≡_}
 use mathlib.Core.List.{List, [], _∷_}
 use lib.ListN.{length}
 use Rattle.ect.specs.Rows.{rowOf, Insertable}
-use Rattle.tree.specs.Labels.{noCost, labelAt}
+use Rattle.labels.specs.Labels.{noCost, labelAt}
 
 -- The bridge `u` can be settled with its label.
 pub record Settleable (labels path-ids keys : List ℕ) (u : ℕ) : Type 0 where

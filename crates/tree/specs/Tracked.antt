@@ -12,7 +12,7 @@ use Rattle.lists.specs.Members.{sumOver}
 use Rattle.graph.specs.Graph.{Graph}
 use Rattle.graph.specs.Chosen.{Chosen}
 use Rattle.graph.specs.Lookups.{Kept}
-use Rattle.tree.specs.Labels.{noCost, labelAt, stateOf}
+use Rattle.labels.specs.Labels.{noCost, labelAt, stateOf}
 use Rattle.tree.specs.Trees.{Represents, Keyed, Represented, firstBack}
 
 -- For one graph and key that the lists stand for.

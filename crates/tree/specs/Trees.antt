@@ -9,7 +9,7 @@ use lib.Dec.{T}
 use lib.ListN.{length, getD}
 use Rattle.graph.specs.Graph.{Graph, GraphLaws, KeyLaws, Joined, cost, hops}
 use Rattle.graph.specs.Chosen.{chosen}
-use Rattle.tree.specs.Labels.{noCost, Label, labelAt}
+use Rattle.labels.specs.Labels.{noCost, Label, labelAt}
 
 -- The lists stand for the graph: the places from `starts` of a bridge to `starts` of the next hold exactly the bridges joined to it,
 -- with the cost of the hop. All bridges may lie between, and no hop costs more than 16,777,214, the greatest usable metric.

@@ -1,7 +1,4 @@
 -- Theorems: nothing here is cited by a contract.
-pub mod LabelLaws
-pub mod NearestLaws
-pub mod RelaxingLaws
 pub mod SettlingLaws
 pub mod TreeLaws
 pub mod StepLaws

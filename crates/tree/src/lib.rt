@@ -1,6 +1,3 @@
 // Shortest path trees (01, "The chosen path") over neighbour lists and keys, in lent lists.
-pub mod label;
-pub mod nearest;
-pub mod relax;
 pub mod search;
 pub mod settle;

@@ -1,15 +1,15 @@
 // The search for the tree of chosen paths to a root (01, "The chosen path"): again and again the nearest bridge that waits is settled
 // and its neighbours are relaxed, until none waits.
-use crate::nearest::first_waiting;
-use crate::nearest::least_waiting;
-use crate::relax::relax_all;
 use crate::settle::begin;
 use crate::settle::settle;
+use labels::nearest::first_waiting;
+use labels::nearest::least_waiting;
+use labels::relax::relax_all;
+use measures::measure::Cost;
 use rule::kinds::MOST_BRIDGES;
-use rule::measure::Cost;
 ghost use Prim.Native.Nat.{_≤_, _<_};
 ghost use lib.ListN.{length};
-ghost use Rattle.tree.specs.Labels.{noCost, LeastOf};
+ghost use Rattle.labels.specs.Labels.{noCost, LeastOf};
 ghost use Rattle.tree.specs.Trees.{Represented, IsTree};
 ghost use Rattle.tree.specs.Tracked.{Underway, openBridges};
 

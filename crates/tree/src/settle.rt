@@ -1,18 +1,18 @@
 // Settling: a bridge gets its row and its first hop from the root, and waits no more.
-use crate::label::COSTS;
-use crate::label::FIRST_HOPS;
-use crate::label::HOPS;
-use crate::label::NEXT_HOPS;
-use crate::label::hops_at;
-use crate::label::next_at;
 use ect::row::insert_row;
-use rule::measure::Cost;
+use labels::label::COSTS;
+use labels::label::FIRST_HOPS;
+use labels::label::HOPS;
+use labels::label::NEXT_HOPS;
+use labels::label::hops_at;
+use labels::label::next_at;
+use measures::measure::Cost;
 ghost use mathlib.Core.Path.{_≡_};
 ghost use mathlib.Core.Bool.{cond};
 ghost use lib.Dec.{eqb};
 ghost use Prim.Native.Nat.{_≤_, _<_};
 ghost use lib.ListN.{length, getD};
-ghost use Rattle.tree.specs.Labels.{settledLabels, settledPathIds};
+ghost use Rattle.labels.specs.Labels.{settledLabels, settledPathIds};
 ghost use Rattle.tree.specs.Settling.{Settleable, Cleared, Begun};
 
 // The first hop from the root on the way to the bridge `u`: `u` itself, or that on the way to its next hop.

@@ -10,7 +10,7 @@ use Rattle.rule.specs.PlanLaws.{PlanLaws}
 use Rattle.table.specs.declared.shape.Shape.{Shape}
 use Rattle.table.specs.Positions.{halfLinksFrom, planAt}
 use Rattle.table.specs.Whole.{Whole}
-use Rattle.faults.specs.HalfLinks.{numberKey, Keyed}
+use Rattle.earlier.specs.HalfLinks.{numberKey, Keyed}
 use Rattle.verdict.specs.declared.examine.Examined.{Examined}
 
 -- What the answer stands for.

@@ -14,7 +14,7 @@ use Rattle.rule.specs.Answers.{kindNumber}
 use Rattle.rule.specs.Check.{goesOn, stops, readAs, ReadingStep}
 use Rattle.table.specs.declared.shape.Shape.{Shape}
 use Rattle.table.specs.Positions.{halfLinksFrom, wordsRead, planAt, readingAt}
-use Rattle.faults.specs.HalfLinks.{portKey, numberKey, Keyed}
+use Rattle.earlier.specs.HalfLinks.{portKey, numberKey, Keyed}
 use Rattle.verdict.specs.declared.step.Step.{Step}
 
 -- "for 2 kind is none".

@@ -1,20 +1,20 @@
 // One record read: it is taken, or it ends the table, or it is refused with its lowest fault (01, "Refusals in checking order").
-use faults::half_link::port_key;
+use earlier::half_link::port_key;
 use faults::lowest::bridge_fault;
 use faults::lowest::end_fault;
 use faults::lowest::half_link_fault;
 use faults::lowest::member_fault;
 use faults::lowest::vid_fault;
 use key_index::entry::enter;
+use readers::half_link::half_link_at;
+use readers::words::word_at;
 use rule::answer::RecordKind;
 use rule::kinds::BRIDGE;
 use rule::kinds::END;
 use rule::kinds::HALF_LINK;
 use rule::kinds::MEMBER;
 use rule::kinds::VID;
-use table::half_link::half_link_at;
 use table::shape::Shape;
-use table::words::word_at;
 ghost use mathlib.Core.Path.{_≡_};
 ghost use Prim.Native.Nat.{_<_};
 ghost use Rattle.rule.specs.Words.{wordsOf};

@@ -24,7 +24,7 @@ use Rattle.table.specs.declared.shape.Shape.{Shape}
 use Rattle.table.specs.Positions.{planAt}
 use Rattle.verdict.specs.declared.examine.Examined.{Examined}
 use Rattle.verdict.specs.Examination.{examinedValues}
-use Rattle.tree.specs.Labels.{labelAt}
+use Rattle.labels.specs.Labels.{labelAt}
 use Rattle.tree.specs.Trees.{SaysPath}
 use Rattle.network.specs.Layout.{bridgesIn}
 use Rattle.network.specs.Networks.{NetworkOf, TreeIn}

@@ -29,7 +29,7 @@ use Rattle.rule.specs.laws.IdentifierLaws.{key-laws}
 use Rattle.rule.specs.Paths.{chosenPath}
 use Rattle.rule.specs.Entries.{firstPort, leavingPort}
 use Rattle.rule.specs.laws.Network.{chosen-is-path, path-is-chosen}
-use Rattle.tree.specs.Labels.{noCost, labelAt}
+use Rattle.labels.specs.Labels.{noCost, labelAt}
 use Rattle.tree.specs.Trees.{SaysPath}
 use Rattle.network.specs.Layout.{bridgesIn}
 use Rattle.network.specs.Networks.{NetworkOf, PlanTree}

@@ -12,7 +12,7 @@ use Rattle.lists.specs.laws.SelectedLaws.{length-rising}
 use Rattle.lists.specs.laws.GivenLaws.{length-flatMap-each}
 use Rattle.lists.specs.Appending.{Appended}
 use Rattle.lists.specs.laws.AppendingLaws.{Appending, one-word, appending-starts, appending-length, appending-room, appending-goes-on, appending-ends}
-use Rattle.tree.specs.Labels.{noCost, labelAt}
+use Rattle.labels.specs.Labels.{noCost, labelAt}
 use Rattle.egress.specs.Leaving.{walked, leavingBy, egressRowBy, WalkableFrom}
 
 -- The walk from `d` has come to `c`.

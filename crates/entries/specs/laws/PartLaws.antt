@@ -22,7 +22,7 @@ use Rattle.rule.specs.Entries.{entryWords, individualEntries, groupAddress, rec
 use Rattle.rule.specs.laws.OneRecord.{listed-bridge}
 use Rattle.table.specs.declared.shape.Shape.{Shape}
 use Rattle.table.specs.Positions.{recordsAt, planAt}
-use Rattle.table.specs.laws.WordLaws.{part-from}
+use Rattle.readers.specs.laws.WordLaws.{part-from}
 use Rattle.egress.specs.laws.PlanPortLaws.{PlanPorts}
 use Rattle.egress.specs.Rows.{egressRowAt}
 use Rattle.table.specs.Numbered.{bridgeNumber, vidNumber, memberNumber}

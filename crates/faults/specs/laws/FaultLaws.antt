@@ -15,10 +15,10 @@ use Rattle.rule.specs.Plan.{alike, knownVid}
 use Rattle.rule.specs.Check.{Reading, Fault, fault, faults, lowestFault, outsideRange, wrongEndCount, unknownName, repeated, wrongLink, wordsFollow}
 use Rattle.rule.specs.Words.{wordsOf}
 use Rattle.table.specs.declared.shape.Shape.{Shape}
-use Rattle.table.specs.laws.WordLaws.{count-of-words, words-from}
+use Rattle.readers.specs.laws.WordLaws.{count-of-words, words-from}
 use Rattle.table.specs.Positions.{wordsRead, lastKind, planAt, readingAt}
 use Rattle.table.specs.laws.PositionLaws.{how-many}
-use Rattle.table.specs.Readers.{Read, cut, zeroBit, outOfRange, whole, readOf}
+use Rattle.readers.specs.Readers.{Read, cut, zeroBit, outOfRange, whole, readOf}
 use Rattle.faults.specs.Faults.{numbered, ownFault}
 use Rattle.faults.specs.laws.FaultNotions.{foundFault, faultsLeft}
 

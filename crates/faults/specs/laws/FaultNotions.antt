@@ -4,7 +4,7 @@ use mathlib.Core.List.{List, [], _∷_}
 use mathlib.Core.Option.{none}
 use Rattle.rule.specs.Records.{Record, endCount}
 use Rattle.rule.specs.Check.{Reading, Fault, fault, faults, wrongEndCount, unknownName, repeated, wrongLink, wordsFollow}
-use Rattle.table.specs.Readers.{Read, cut, zeroBit, outOfRange, whole}
+use Rattle.readers.specs.Readers.{Read, cut, zeroBit, outOfRange, whole}
 
 -- What a reader finds, as the fault's number.
 abbrev pub foundFault : Read → ℕ

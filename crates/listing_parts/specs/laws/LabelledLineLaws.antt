@@ -11,7 +11,7 @@ use borrow.Author.Tests.{eq-eqb, ne-eqb, le-leb}
 use Rattle.lists.specs.laws.NumberLaws.{same-or-not}
 use Rattle.rule.specs.Outcome.{Outcome, Written, lentTo}
 use Rattle.rule.specs.Answers.{CostAndHops}
-use Rattle.tree.specs.Labels.{noCost, labelAt}
+use Rattle.labels.specs.Labels.{noCost, labelAt}
 use Rattle.path.specs.Followed.{followed}
 use Rattle.path.specs.laws.FollowedLaws.{followed-length}
 use Rattle.path.specs.Labelled.{labelledPath, Followable}

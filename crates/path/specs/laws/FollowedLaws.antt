@@ -9,7 +9,7 @@ use lib.ListN.{length, getD, set, length-set}
 use Rattle.lists.specs.Lists.{spliced}
 use Rattle.lists.specs.Members.{In}
 use Rattle.lists.specs.laws.Splices.{spliced-nothing, spliced-next}
-use Rattle.tree.specs.Labels.{labelAt}
+use Rattle.labels.specs.Labels.{labelAt}
 use Rattle.path.specs.Followed.{followed, Inside}
 
 -- The bridge that stands after `count` of them.

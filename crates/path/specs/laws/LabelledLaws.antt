@@ -26,7 +26,7 @@ use Rattle.rule.specs.Identifiers.{keyOf}
 use Rattle.rule.specs.laws.IdentifierLaws.{key-laws}
 use Rattle.rule.specs.Paths.{chosenPath}
 use Rattle.rule.specs.Calls.{pathFound}
-use Rattle.tree.specs.Labels.{noCost, labelAt}
+use Rattle.labels.specs.Labels.{noCost, labelAt}
 use Rattle.tree.specs.Trees.{SaysPath, TreeOf}
 use Rattle.network.specs.Networks.{PlanTree}
 use Rattle.network.specs.laws.NetworkLaws.{hop-usable}

@@ -8,7 +8,7 @@ use Rattle.lists.specs.Lists.{rising}
 use Rattle.lists.specs.laws.SelectedLaws.{length-rising}
 use Rattle.lists.specs.laws.GivenLaws.{front-of-rising}
 use Rattle.rule.specs.Calls.{treeOutcome}
-use Rattle.path.specs.laws.BranchLaws.{Filling, filling-ends}
+use Rattle.branches.specs.laws.BranchLaws.{Filling, filling-ends}
 use Rattle.probe_calls.specs.AnswerText.{untouchedPlace, untouched, treeText}
 
 pub all-untouched : {before now : List ℕ} {i : ℕ} → Filling untouchedPlace before now (length before) i → length before ≤ i

@@ -11,9 +11,9 @@ use Rattle.lists.specs.Lists.{rising}
 use Rattle.lists.specs.laws.SelectedLaws.{in-rising}
 use Rattle.lists.specs.laws.SumLaws.{sum-falls}
 use Rattle.graph.specs.Graph.{Graph}
-use Rattle.tree.specs.Labels.{noCost, stateOf, LeastOf, WaitsAt, settledLabels, settledPathIds}
-use Rattle.tree.specs.laws.LabelLaws.{length-settled}
-use Rattle.tree.specs.Relaxing.{Relaxable, Relaxed}
+use Rattle.labels.specs.Labels.{noCost, stateOf, LeastOf, WaitsAt, settledLabels, settledPathIds}
+use Rattle.labels.specs.laws.LabelLaws.{length-settled}
+use Rattle.labels.specs.Relaxing.{Relaxable, Relaxed}
 use Rattle.tree.specs.Settling.{Settleable, Begun}
 use Rattle.tree.specs.Trees.{Represents, Keyed, Represented, IsTree}
 use Rattle.tree.specs.Tracked.{Underway, openBridges}

@@ -15,8 +15,8 @@ use Rattle.lists.specs.Lists.{spliced}
 use Rattle.graph.specs.Order.{insertUpward}
 use Rattle.ect.specs.Rows.{rowPlace, rowOf, Insertable}
 use Rattle.ect.specs.laws.RowLaws.{row-written}
-use Rattle.tree.specs.Labels.{noCost, labelAt, settledLabels, settledPathIds}
-use Rattle.tree.specs.laws.LabelLaws.{same-label}
+use Rattle.labels.specs.Labels.{noCost, labelAt, settledLabels, settledPathIds}
+use Rattle.labels.specs.laws.LabelLaws.{same-label}
 use Rattle.tree.specs.Settling.{Cleared, Begun}
 
 -- The labels of the first `u` bridges are cleared.

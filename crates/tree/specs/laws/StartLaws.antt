@@ -15,9 +15,9 @@ use Rattle.graph.specs.Lookups.{State}
 use Rattle.graph.specs.laws.LookupNotions.{Starts}
 use Rattle.graph.specs.laws.LookupLaws.{kept-starts}
 use Rattle.ect.specs.Rows.{rowOf}
-use Rattle.tree.specs.Labels.{noCost, Label, labelAt, stateOf}
-use Rattle.tree.specs.laws.LabelLaws.{settled-says, says-settled}
-use Rattle.tree.specs.Relaxing.{Relaxable, Unchanged, Changed, Relaxed}
+use Rattle.labels.specs.Labels.{noCost, Label, labelAt, stateOf}
+use Rattle.labels.specs.laws.LabelLaws.{settled-says, says-settled}
+use Rattle.labels.specs.Relaxing.{Relaxable, Unchanged, Changed, Relaxed}
 use Rattle.tree.specs.Settling.{Begun}
 use Rattle.tree.specs.Trees.{Represents, firstBack}
 use Rattle.tree.specs.laws.TreeLaws.{neighbour-in, offered-cost, offered-joined, joined-listed, one-cost}

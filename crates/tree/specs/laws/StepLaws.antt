@@ -22,9 +22,9 @@ use Rattle.graph.specs.laws.LookupNotions.{Stays, Takes, Advances}
 use Rattle.graph.specs.laws.LookupLaws.{Settled, kept-settles, settled-nearer, kept-advances}
 use Rattle.ect.specs.Rows.{rowOf, Insertable}
 use Rattle.ect.specs.laws.RowLaws.{insertion-read-back, insertion-keeps, length-after}
-use Rattle.tree.specs.Labels.{noCost, Label, labelAt, labelRank, settledLabels, settledPathIds, stateOf}
-use Rattle.tree.specs.laws.LabelLaws.{length-settled, label-settled, label-unsettled, settling-keeps, settled-says, says-settled}
-use Rattle.tree.specs.Relaxing.{Relaxable, offerAt, Unchanged, Changed, Relaxed}
+use Rattle.labels.specs.Labels.{noCost, Label, labelAt, labelRank, settledLabels, settledPathIds, stateOf}
+use Rattle.labels.specs.laws.LabelLaws.{length-settled, label-settled, label-unsettled, settling-keeps, settled-says, says-settled}
+use Rattle.labels.specs.Relaxing.{Relaxable, offerAt, Unchanged, Changed, Relaxed}
 use Rattle.tree.specs.Settling.{Settleable}
 use Rattle.tree.specs.Trees.{Represents, Keyed, firstBack}
 use Rattle.tree.specs.laws.TreeLaws.{neighbour-in, offered-cost, offered-joined, joined-listed, one-cost}

@@ -17,8 +17,8 @@ use Rattle.graph.specs.laws.Enumeration.{chosen-is}
 use Rattle.graph.specs.laws.ChosenPaths.{chosen-first}
 use Rattle.graph.specs.Lookups.{Says}
 use Rattle.graph.specs.laws.LookupLaws.{kept-ends}
-use Rattle.tree.specs.Labels.{noCost, labelAt, stateOf, LeastOf}
-use Rattle.tree.specs.laws.LabelLaws.{says-settled}
+use Rattle.labels.specs.Labels.{noCost, labelAt, stateOf, LeastOf}
+use Rattle.labels.specs.laws.LabelLaws.{says-settled}
 use Rattle.tree.specs.Trees.{Represents, Keyed, nextOf, SaysPath, TreeOf}
 use Rattle.tree.specs.Tracked.{Tracked}
 

@@ -20,9 +20,9 @@ use Rattle.key_index.specs.Index.{Indexed}
 use Rattle.table.specs.declared.shape.Shape.{Shape}
 use Rattle.table.specs.Positions.{halfLinksFrom, vidsFrom, membersFrom, wordsRead, planAt, readingAt}
 use Rattle.table.specs.laws.PositionLaws.{no-records}
-use Rattle.table.specs.laws.WordLaws.{count-of-words}
-use Rattle.faults.specs.HalfLinks.{portKey, numberKey}
-use Rattle.faults.specs.laws.HalfLinkLaws.{keyed-none}
+use Rattle.readers.specs.laws.WordLaws.{count-of-words}
+use Rattle.earlier.specs.HalfLinks.{portKey, numberKey}
+use Rattle.earlier.specs.laws.HalfLinkLaws.{keyed-none}
 use Rattle.verdict.specs.Steps.{stepValues, Indexes, Stepped, Kept}
 use Rattle.verdict.specs.declared.step.Step.{Step}
 use Rattle.verdict.specs.declared.examine.Examined.{Examined}

@@ -14,7 +14,7 @@ use Rattle.rule.specs.Records.{Layout, layoutOf, bridgeLayout, halfLinkLayout, 
 use Rattle.rule.specs.Outcome.{refused}
 use Rattle.rule.specs.Check.{stops, readAs, readFrom, stepOf}
 use Rattle.table.specs.declared.shape.Shape.{Shape}
-use Rattle.table.specs.laws.WordLaws.{count-of-words}
+use Rattle.readers.specs.laws.WordLaws.{count-of-words}
 use Rattle.table.specs.Positions.{wordsRead, readingAt}
 use Rattle.verdict.specs.Steps.{Stepped, stepAs}
 use Rattle.verdict.specs.declared.step.Step.{Step}

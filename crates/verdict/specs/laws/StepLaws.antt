@@ -22,11 +22,11 @@ use Rattle.rule.specs.Check.{faults, kindConcerned, goesOn, stops, judged}
 use Rattle.key_index.specs.Index.{Entered}
 use Rattle.table.specs.declared.shape.Shape.{Shape}
 use Rattle.table.specs.Positions.{recordAt, recordsAt, halfLinksFrom, vidsFrom, membersFrom, wordsRead, lastKind, planAt, readingAt}
-use Rattle.table.specs.laws.WordLaws.{count-of-words}
+use Rattle.readers.specs.laws.WordLaws.{count-of-words}
 use Rattle.table.specs.laws.PositionLaws.{how-many, one-more, none-anywhere}
 use Rattle.faults.specs.Faults.{numbered, faultAt}
-use Rattle.faults.specs.HalfLinks.{portKey, numberKey}
-use Rattle.faults.specs.laws.HalfLinkLaws.{keyed-more, keyed-none}
+use Rattle.earlier.specs.HalfLinks.{portKey, numberKey}
+use Rattle.earlier.specs.laws.HalfLinkLaws.{keyed-more, keyed-none}
 use Rattle.verdict.specs.Steps.{concerned, stepValues, Indexes, Stepped, stepAs, Stands, Still, Kept}
 use Rattle.verdict.specs.declared.step.Step.{Step}
 

@@ -1,7 +1,7 @@
 -- `egress::leaving::egress_port` goes from the bridge towards the root until a hop comes to `b`. Assumes nothing.
 use native.Mathlib.Omega.{arith}
-use Rattle.rule.specs.laws.MeasureLaws.{no-path, a-path, differ, agree}
-use Rattle.tree.specs.Labels.{labelAt}
+use Rattle.measures.specs.laws.MeasureLaws.{no-path, a-path, differ, agree}
+use Rattle.labels.specs.Labels.{labelAt}
 use Rattle.egress.specs.laws.WalkingLaws.{Walking, no-way, walking-starts, walking-inside, fewer-hops, walking-goes-on, walking-finds, walking-ends}
 use borrow.Author.Needs.{needs}
 use Rattle.egress.proofs.leaving.egress_port.Statement.{statement}

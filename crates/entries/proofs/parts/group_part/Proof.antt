@@ -1,7 +1,7 @@
 -- `entries::parts::group_part` writes the entries member after member. Assumes nothing.
 use Prim.Native.Nat.{_-_}
 use Rattle.rule.specs.Words.{wordsOf}
-use Rattle.table.specs.Readers.{vidValues}
+use Rattle.readers.specs.Readers.{vidValues}
 use Rattle.lists.specs.laws.AppendingLaws.{Appending, appending-starts, appending-room, appending-goes-on, appending-length, appending-ends}
 use Rattle.entries.specs.Parts.{memberPart, groupPart}
 use borrow.Author.Needs.{needs}

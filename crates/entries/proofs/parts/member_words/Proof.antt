@@ -4,7 +4,7 @@ use mathlib.Core.Path.{ap}
 use borrow.Author.Tests.{not-true, not-false}
 use Rattle.rule.specs.Words.{wordsOf}
 use Rattle.rule.specs.Records.{Member}
-use Rattle.table.specs.Readers.{vidValues, memberValues}
+use Rattle.readers.specs.Readers.{vidValues, memberValues}
 use Rattle.verdict.specs.laws.CheckedLaws.{bridges-counted}
 use Rattle.entries.specs.laws.NeededLaws.{member-fits}
 use Rattle.entries.specs.laws.PartLaws.{silent-part, other-part, member-room, member-written}

@@ -4,7 +4,7 @@ use mathlib.Core.Path.{ap}
 use lib.ListN.{length-take}
 use Rattle.rule.specs.Words.{wordsOf}
 use Rattle.rule.specs.Records.{Bridge}
-use Rattle.table.specs.Readers.{vidValues, memberValues}
+use Rattle.readers.specs.Readers.{vidValues, memberValues}
 use Rattle.verdict.specs.laws.CheckedLaws.{few-bridges}
 use Rattle.entry_words.specs.laws.Receivers.{behind-few}
 use Rattle.entries.specs.laws.PartLaws.{source-fits, row-lent, transmitter-room, transmitter-written}

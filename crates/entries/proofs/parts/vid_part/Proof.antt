@@ -3,7 +3,7 @@ use native.Mathlib.Omega.{arith}
 use mathlib.Core.Path.{ap}
 use Rattle.rule.specs.Words.{wordsOf}
 use Rattle.rule.specs.Records.{Vid}
-use Rattle.table.specs.Readers.{vidValues}
+use Rattle.readers.specs.Readers.{vidValues}
 use Rattle.verdict.specs.laws.CheckedLaws.{few-bridges}
 use Rattle.entries.specs.laws.NeededLaws.{vid-fits}
 use Rattle.entries.specs.laws.PartLaws.{row-lent, row-place-inside, first-room, second-room, vid-written}

@@ -1,7 +1,7 @@
 -- `entry_words::group::is_receiver` tests one field after the other. Assumes nothing.
 use mathlib.Core.Path.{sym}
 use borrow.Author.Tests.{not-true, not-false}
-use Rattle.table.specs.Readers.{memberValues}
+use Rattle.readers.specs.Readers.{memberValues}
 use Rattle.entry_words.specs.laws.Receivers.{not-receiving, other-isid, other-vid, same-service}
 use Rattle.entry_words.proofs.group.is_receiver.Statement.{statement}
 use Rattle.entry_words.proofs.group.is_receiver.Tie as tie

@@ -4,7 +4,7 @@ use mathlib.Core.Path.{sym, ap, _∙_}
 use borrow.Author.Tests.{not-true, not-false}
 use Rattle.rule.specs.Words.{wordsOf}
 use Rattle.rule.specs.Records.{Member}
-use Rattle.table.specs.Readers.{memberValues}
+use Rattle.readers.specs.Readers.{memberValues}
 use Rattle.entry_words.specs.laws.Receivers.{member-bridge, not-noted, noted-room, noted}
 use borrow.Author.Needs.{needs}
 use Rattle.entry_words.proofs.group.note_receiver.Statement.{statement}

@@ -1,7 +1,7 @@
 -- `entry_words::group::ports_behind` notes the receivers member after member. Assumes nothing.
 use Prim.Native.Nat.{_-_}
 use Rattle.rule.specs.Words.{wordsOf}
-use Rattle.table.specs.Readers.{memberValues}
+use Rattle.readers.specs.Readers.{memberValues}
 use Rattle.entry_words.specs.Words.{behindAt, portsBehind}
 use Rattle.lists.specs.laws.AppendingLaws.{Appending, appending-starts, appending-room, appending-goes-on, appending-length, appending-ends}
 use Rattle.entry_words.specs.laws.Receivers.{behind-room}

@@ -1,7 +1,7 @@
 -- `entry_words::individual::write_individual` writes the entry for a bridge where the row has a port. Assumes nothing.
 use native.Mathlib.Omega.{arith}
 use Rattle.rule.specs.Words.{wordsOf}
-use Rattle.table.specs.Readers.{bridgeValues}
+use Rattle.readers.specs.Readers.{bridgeValues}
 use Rattle.entry_words.specs.laws.EntryWordLaws.{no-individual, individual-room, individual-written}
 use borrow.Author.Needs.{needs}
 use Rattle.entry_words.proofs.individual.write_individual.Statement.{statement}

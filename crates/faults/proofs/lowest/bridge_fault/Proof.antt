@@ -6,10 +6,10 @@ use lib.ListN.{length, drop}
 use Rattle.rule.specs.Words.{wordsOf}
 use Rattle.table.specs.Positions.{wordsRead, readingAt}
 use Rattle.table.specs.laws.PositionLaws.{how-many}
-use Rattle.table.specs.Readers.{cut, zeroBit, outOfRange, whole, bridgeRead, bridgeValues}
+use Rattle.readers.specs.Readers.{cut, zeroBit, outOfRange, whole, bridgeRead, bridgeValues}
 use Rattle.faults.specs.laws.FaultLaws.{judged-at, own-fault, found-fault, fault-left, left-over}
 use Rattle.rule.specs.Records.{bridge, bridgeOf, bridgeLayout}
-use Rattle.table.specs.declared.bridge.BridgeRead.{BridgeRead}
+use Rattle.readers.specs.declared.bridge.BridgeRead.{BridgeRead}
 use borrow.Author.Needs.{needs}
 use Rattle.faults.proofs.lowest.bridge_fault.Statement.{statement}
 use Rattle.faults.proofs.lowest.bridge_fault.Tie as tie

@@ -5,12 +5,12 @@ use mathlib.Core.Bool.{true, false}
 use lib.ListN.{length, drop}
 use Rattle.rule.specs.Words.{wordsOf}
 use Rattle.table.specs.Positions.{wordsRead, readingAt}
-use Rattle.table.specs.Readers.{cut, whole, endRead}
+use Rattle.readers.specs.Readers.{cut, whole, endRead}
 use Rattle.faults.specs.laws.FaultLaws.{judged-at, own-fault, found-fault, fault-left, left-over, words-follow}
 use Prim.Native.Nat.{_+_, _/_}
 use borrow.Author.Tests.{lt-ltb, le-ltb, eq-eqb, ne-eqb}
 use Rattle.rule.specs.Records.{end, endLayout}
-use Rattle.table.specs.declared.end.EndRead.{EndRead}
+use Rattle.readers.specs.declared.end.EndRead.{EndRead}
 use borrow.Author.Needs.{needs}
 use Rattle.faults.proofs.lowest.end_fault.Statement.{statement}
 use Rattle.faults.proofs.lowest.end_fault.Tie as tie

@@ -6,14 +6,14 @@ use lib.ListN.{length, drop}
 use Rattle.rule.specs.Words.{wordsOf}
 use Rattle.table.specs.Positions.{halfLinksFrom, wordsRead, readingAt, recordsAt}
 use Rattle.table.specs.laws.PositionLaws.{how-many}
-use Rattle.table.specs.Readers.{cut, zeroBit, outOfRange, whole, halfLinkRead, halfLinkValues}
+use Rattle.readers.specs.Readers.{cut, zeroBit, outOfRange, whole, halfLinkRead, halfLinkValues}
 use Rattle.faults.specs.laws.FaultLaws.{judged-at, own-fault, found-fault, fault-left, left-over, unknown-ends, read-of-16-bits}
 use Rattle.rule.specs.Records.{halfLink, halfLinkOf, halfLinkLayout}
-use Rattle.table.specs.declared.half_link.HalfLinkRead.{HalfLinkRead}
+use Rattle.readers.specs.declared.half_link.HalfLinkRead.{HalfLinkRead}
 use Prim.Native.Nat.{ℕ}
 use Rattle.lists.specs.Lists.{selected}
 use Rattle.rule.specs.Check.{hasLink, wrongHalf}
-use Rattle.faults.specs.laws.HalfLinkLaws.{port-repeated}
+use Rattle.earlier.specs.laws.HalfLinkLaws.{port-repeated}
 use borrow.Author.Needs.{needs}
 use Rattle.faults.proofs.lowest.half_link_fault.Statement.{statement}
 use Rattle.faults.proofs.lowest.half_link_fault.Tie as tie

@@ -6,7 +6,7 @@ use lib.ListN.{length, drop}
 use Rattle.rule.specs.Words.{wordsOf}
 use Rattle.table.specs.Positions.{recordsAt, membersFrom, wordsRead, readingAt}
 use Rattle.table.specs.laws.PositionLaws.{how-many}
-use Rattle.table.specs.Readers.{cut, zeroBit, outOfRange, whole, memberRead, memberValues}
+use Rattle.readers.specs.Readers.{cut, zeroBit, outOfRange, whole, memberRead, memberValues}
 use Rattle.faults.specs.laws.FaultLaws.{judged-at, own-fault, found-fault, fault-left, left-over, unknown-member}
 use Prim.Native.Nat.{ℕ}
 use borrow.Author.Tests.{lt-ltb, le-ltb, not-true, not-false}
@@ -14,7 +14,7 @@ use Rattle.lists.specs.Lists.{anyPasses}
 use Rattle.rule.specs.Records.{member, vidOf, memberOf, memberLayout}
 use Rattle.rule.specs.Plan.{hasVid}
 use Rattle.rule.specs.Check.{repeatsMember}
-use Rattle.table.specs.declared.member.MemberRead.{MemberRead}
+use Rattle.readers.specs.declared.member.MemberRead.{MemberRead}
 use borrow.Author.Needs.{needs}
 use Rattle.faults.proofs.lowest.member_fault.Statement.{statement}
 use Rattle.faults.proofs.lowest.member_fault.Tie as tie

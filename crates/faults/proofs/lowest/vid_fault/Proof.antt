@@ -6,13 +6,13 @@ use lib.ListN.{length, drop}
 use Rattle.rule.specs.Words.{wordsOf}
 use Rattle.table.specs.Positions.{recordsAt, vidsFrom, wordsRead, readingAt}
 use Rattle.table.specs.laws.PositionLaws.{how-many}
-use Rattle.table.specs.Readers.{cut, outOfRange, whole, vidRead, vidValues}
+use Rattle.readers.specs.Readers.{cut, outOfRange, whole, vidRead, vidValues}
 use Rattle.faults.specs.laws.FaultLaws.{judged-at, own-fault, found-fault, fault-left, left-over}
 use Prim.Native.Nat.{ℕ}
 use Rattle.lists.specs.Lists.{anyPasses}
 use Rattle.rule.specs.Records.{vid, vidOf, vidLayout}
 use Rattle.rule.specs.Plan.{hasVid}
-use Rattle.table.specs.declared.vid.VidRead.{VidRead}
+use Rattle.readers.specs.declared.vid.VidRead.{VidRead}
 use borrow.Author.Needs.{needs}
 use Rattle.faults.proofs.lowest.vid_fault.Statement.{statement}
 use Rattle.faults.proofs.lowest.vid_fault.Tie as tie

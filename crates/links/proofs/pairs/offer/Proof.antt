@@ -3,7 +3,7 @@ use native.Mathlib.Omega.{arith}
 use mathlib.Core.Path.{sym, _∙_}
 use borrow.Author.Tests.{not-true, not-false}
 use Rattle.rule.specs.Words.{wordsOf}
-use Rattle.table.specs.Readers.{halfLinkValues}
+use Rattle.readers.specs.Readers.{halfLinkValues}
 use Rattle.table.specs.Positions.{planAt}
 use Rattle.table.specs.Numbered.{halfLinkNumber}
 use Rattle.links.specs.laws.PairLaws.{offered-unusable, offered-usable, place-there, hop-fits}

@@ -1,7 +1,7 @@
 -- `links::usable::count_one` compares the two bridges, then asks what the link costs. Assumes nothing.
 use mathlib.Core.Path.{sym, _∙_}
 use Rattle.rule.specs.Words.{wordsOf}
-use Rattle.table.specs.Readers.{halfLinkValues}
+use Rattle.readers.specs.Readers.{halfLinkValues}
 use Rattle.table.specs.Positions.{planAt}
 use Rattle.table.specs.Numbered.{halfLinkNumber}
 use Rattle.links.specs.laws.CountLaws.{counted-higher, counted-usable, counted-unusable}

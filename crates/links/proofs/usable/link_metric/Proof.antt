@@ -1,7 +1,7 @@
 -- `links::usable::link_metric` combines the metrics of the half-link and of its mate, which the index has. Assumes nothing.
 use native.Mathlib.Omega.{arith}
 use mathlib.Core.Path.{_∙_}
-use Rattle.table.specs.Readers.{halfLinkValues}
+use Rattle.readers.specs.Readers.{halfLinkValues}
 use Rattle.links.specs.laws.MateLaws.{mate-within, metric-alone, metric-linked}
 use borrow.Author.Needs.{needs}
 use Rattle.links.proofs.usable.link_metric.Statement.{statement}

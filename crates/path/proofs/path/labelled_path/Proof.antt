@@ -1,6 +1,6 @@
 -- `path::path::labelled_path` answers by a label. Assumes nothing.
 use native.Mathlib.Omega.{arith}
-use Rattle.rule.specs.laws.MeasureLaws.{no-path, a-path}
+use Rattle.measures.specs.laws.MeasureLaws.{no-path, a-path}
 use Rattle.path.specs.laws.LabelledLaws.{no-path-labelled, bridges-inside, list-too-short, path-written}
 use borrow.Author.Needs.{needs}
 use Rattle.path.proofs.path.labelled_path.Statement.{statement}

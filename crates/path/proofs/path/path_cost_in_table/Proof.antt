@@ -3,7 +3,7 @@ use native.Mathlib.Omega.{arith}
 use mathlib.Core.Path.{_∙_}
 use Rattle.rule.specs.Words.{wordsOf}
 use Rattle.table.specs.Positions.{planAt}
-use Rattle.rule.specs.laws.MeasureLaws.{no-path, a-path}
+use Rattle.measures.specs.laws.MeasureLaws.{no-path, a-path}
 use Rattle.path.specs.laws.PlanCalls.{nothing-named-number, no-path-number, path-number, named-followable}
 use borrow.Author.Needs.{needs}
 use Rattle.path.proofs.path.path_cost_in_table.Statement.{statement}

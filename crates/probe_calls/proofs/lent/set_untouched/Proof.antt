@@ -4,7 +4,7 @@ use Prim.Native.Nat.{_-_}
 use mathlib.Core.Path.{refl}
 use lib.ListN.{length}
 use native.Mathlib.Omega.{arith}
-use Rattle.path.specs.laws.BranchLaws.{Filling, filling-starts, filling-on}
+use Rattle.branches.specs.laws.BranchLaws.{Filling, filling-starts, filling-on}
 use Rattle.probe_calls.specs.AnswerText.{untouchedPlace}
 use Rattle.probe_calls.specs.laws.UntouchedLaws.{all-untouched}
 use Rattle.probe_calls.proofs.lent.set_untouched.Statement.{statement}

@@ -3,8 +3,8 @@ use native.Mathlib.Omega.{arith}
 use native.Mathlib.Nat.{le-trans, lt-of-lt-of-le}
 use mathlib.Core.Path.{_≡_, refl, _∙_}
 use lib.ListN.{length}
-use Rattle.rule.specs.laws.MeasureLaws.{below, not-below}
-use Rattle.tree.specs.Labels.{LeastOf}
+use Rattle.measures.specs.laws.MeasureLaws.{below, not-below}
+use Rattle.labels.specs.Labels.{LeastOf}
 use Rattle.tree.specs.Tracked.{Underway, openBridges}
 use Rattle.tree.specs.laws.SearchLaws.{search-relaxable, search-starts, search-ends}
 use borrow.Author.Needs.{needs}

@@ -4,7 +4,7 @@ use mathlib.Core.Path.{sym}
 use lib.ListN.{length}
 use Rattle.rule.specs.Words.{wordsOf}
 use Rattle.key_index.specs.laws.IndexLaws.{no-keys-yet}
-use Rattle.table.specs.laws.WordLaws.{count-of-words}
+use Rattle.readers.specs.laws.WordLaws.{count-of-words}
 use Rattle.verdict.specs.laws.ExaminationLaws.{Examining, examining-starts, examining-next, examining-accepts, examining-refuses, examining-ends, refused-passes, accepted-passes, bad-length, good-length, length-fits}
 use borrow.Author.Needs.{needs}
 use Rattle.verdict.proofs.examine.examine.Statement.{statement}

@@ -5,7 +5,7 @@ use lib.ListN.{drop}
 use Rattle.rule.specs.declared.answer.RecordKind.{RecordKind}
 use Rattle.rule.specs.Words.{wordsOf}
 use Rattle.rule.specs.Records.{halfLinkLayout}
-use Rattle.table.specs.Readers.{halfLinkValues}
+use Rattle.readers.specs.Readers.{halfLinkValues}
 use Rattle.faults.specs.Faults.{numbered}
 use Rattle.faults.specs.laws.FaultLaws.{of-16-bits}
 use Rattle.verdict.specs.laws.StepLaws.{refused-step, half-link-taken, half-link-kept, half-link-room, half-link-there, refused-keeps, taken-keeps}

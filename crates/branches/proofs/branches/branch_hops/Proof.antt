@@ -1,0 +1,33 @@
+-- `branches::branches::branch_hops` gives the hops of a label, or 0. Assumes nothing.
+use mathlib.Core.Path.{refl}
+use borrow.Author.Tests.{eq-eqb, ne-eqb}
+use Rattle.measures.specs.Measures.{noPathCost}
+use Rattle.measures.specs.laws.MeasureLaws.{no-path, a-path}
+use borrow.Author.Needs.{needs}
+use Rattle.branches.proofs.branches.branch_hops.Statement.{statement}
+use Rattle.branches.proofs.branches.branch_hops.Tie as tie
+
+cost-at-requires : tie.Need-cost-at-requires
+cost-at-requires c κs = search needs
+
+is-no-path-requires : tie.Need-is-no-path-requires
+is-no-path-requires c κs = search needs
+
+returns : tie.Need-returns
+returns c =
+    let at-cost-at = c .before .before in
+    rw (eq-eqb _ noPathCost (no-path (at-cost-at .cost-at .ensures) (c .before .is-no-path .ensures) (c .if1 .taken))) refl
+
+hops-at-requires : tie.Need-hops-at-requires
+hops-at-requires c κs = search needs
+
+returns-2 : tie.Need-returns-2
+returns-2 c =
+    let at-is-no-path = c .before .before in
+    let at-cost-at = at-is-no-path .before in
+    rw (ne-eqb _ noPathCost (a-path (at-cost-at .cost-at .ensures) (at-is-no-path .is-no-path .ensures) (c .before .if1 .left)))
+    (c .hops-at .ensures)
+
+pub branch-hops-spec : {M : Type 1} → statement M
+branch-hops-spec =
+    tie.close (tie.spec cost-at-requires is-no-path-requires returns hops-at-requires returns-2)

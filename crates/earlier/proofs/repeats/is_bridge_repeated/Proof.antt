@@ -1,0 +1,68 @@
+-- `earlier::repeats::is_bridge_repeated` searches the bridges one after the other. Assumes nothing.
+use Prim.Native.Nat.{_-_, _*_}
+use native.Mathlib.Omega.{arith}
+use Rattle.lists.specs.laws.Searching.{search-starts}
+use Rattle.rule.specs.Words.{wordsOf}
+use Rattle.rule.specs.Records.{bridgeOf}
+use Rattle.rule.specs.Check.{repeatsBridge}
+use Rattle.readers.specs.Readers.{bridgeValues}
+use Rattle.table.specs.laws.PositionLaws.{SearchingRecords, record-passed, record-found, no-record-found}
+use borrow.Author.Needs.{needs}
+use Rattle.earlier.proofs.repeats.is_bridge_repeated.Statement.{statement}
+use Rattle.earlier.proofs.repeats.is_bridge_repeated.Tie as tie
+
+abbrev Inv-loop : tie.InvT-loop
+Inv-loop table bridges b i₀ i = SearchingRecords bridgeOf 3 0 (wordsOf table) (repeatsBridge (bridgeValues b)) bridges i
+
+abbrev μ-loop : tie.MeasureT-loop
+μ-loop table bridges b i₀ i = bridges - i
+
+loop-holds : tie.Need-loop-holds Inv-loop μ-loop
+loop-holds c = search-starts _ _
+
+mul-bridge-at : tie.Need-mul-bridge-at Inv-loop μ-loop
+mul-bridge-at c = search needs
+
+bridge-at-requires : tie.Need-bridge-at-requires Inv-loop μ-loop
+bridge-at-requires c κs = search needs
+
+repeats-bridge-requires : tie.Need-repeats-bridge-requires Inv-loop μ-loop
+repeats-bridge-requires c κs = search needs
+
+returns : tie.Need-returns Inv-loop μ-loop
+returns c =
+    let at-bridge-at = c .before .before in
+    let at-loop-test = at-bridge-at .before in
+    let at-loop = at-loop-test .before in
+    let at-start = at-loop .before .before in
+    record-found bridgeOf 3 0 (wordsOf (at-start .args .table .now)) (repeatsBridge (bridgeValues (at-start .args .b))) (at-loop .loop .inv)
+    (3 * at-loop .loop .i) (bridgeValues (at-bridge-at .bridge-at .result)) (c .before .repeats-bridge .result)
+    (at-loop-test .loop-test .taken) (omega arith) (at-bridge-at .bridge-at .ensures) (c .before .repeats-bridge .ensures) (c .if1 .taken)
+
+add-i : tie.Need-add-i Inv-loop μ-loop
+add-i c = search needs
+
+loop-less : tie.Need-loop-less Inv-loop μ-loop
+loop-less c = search needs
+
+loop-again : tie.Need-loop-again Inv-loop μ-loop
+loop-again c =
+    let at-bridge-at = c .before .before in
+    let at-loop-test = at-bridge-at .before in
+    let at-loop = at-loop-test .before in
+    let at-start = at-loop .before .before in
+    record-passed bridgeOf 3 0 (wordsOf (at-start .args .table .now)) (repeatsBridge (bridgeValues (at-start .args .b)))
+    (at-loop .loop .inv) (3 * at-loop .loop .i) (bridgeValues (at-bridge-at .bridge-at .result)) (c .before .repeats-bridge .result)
+    (at-loop-test .loop-test .taken) (omega arith) (at-bridge-at .bridge-at .ensures) (c .before .repeats-bridge .ensures) (c .if1 .left)
+
+returns-2 : tie.Need-returns-2 Inv-loop μ-loop
+returns-2 c =
+    let at-start = c .before .before .before in
+    no-record-found bridgeOf 3 0 (wordsOf (at-start .args .table .now)) (repeatsBridge (bridgeValues (at-start .args .b)))
+    (c .before .loop .inv) (c .loop-test .left)
+
+pub is-bridge-repeated-spec : {M : Type 1} → statement M
+is-bridge-repeated-spec =
+    tie.close
+    (tie.spec Inv-loop μ-loop loop-holds mul-bridge-at bridge-at-requires repeats-bridge-requires returns add-i loop-less loop-again
+    returns-2)

@@ -1,0 +1,4 @@
+-- The labels of a tree in the making, and what an offer does to them.
+pub mod Labels
+pub mod Relaxing
+pub mod laws

@@ -1,0 +1,3 @@
+-- What costs and hop counts are as numbers.
+pub mod Measures
+pub mod laws

@@ -1,0 +1,2 @@
+// A path's cost and its hop count, which the answers name.
+pub mod measure;

@@ -1,0 +1,34 @@
+-- `readers::half_link::half_link_at` gives the record at a word: the first of the part that begins there. Assumes nothing.
+use Prim.Native.Nat.{ℕ}
+use mathlib.Core.Path.{ap, _∙_}
+use mathlib.Core.List.{List}
+use Rattle.rule.specs.Records.{halfLinkOf}
+use Rattle.readers.specs.laws.WordLaws.{words-from}
+use borrow.Author.Needs.{needs}
+use Rattle.readers.proofs.half_link.half_link_at.Statement.{statement}
+use Rattle.readers.proofs.half_link.half_link_at.Tie as tie
+
+mul-at : tie.Need-mul-at
+mul-at c = search needs
+
+sub-half-link-of : tie.Need-sub-half-link-of
+sub-half-link-of c = search needs
+
+part-half-link-of-start : tie.Need-part-half-link-of-start
+part-half-link-of-start c = search needs
+
+part-half-link-of-end : tie.Need-part-half-link-of-end
+part-half-link-of-end c = search needs
+
+half-link-of-requires : tie.Need-half-link-of-requires
+half-link-of-requires c κs = search needs
+
+returns : tie.Need-returns
+returns c =
+    let at-start = c .before .before .before in
+    c .half-link-of .ensures ∙ ap (λ (r : List ℕ). halfLinkOf r) (words-from (at-start .args .word) (at-start .args .table .now))
+
+pub half-link-at-spec : {M : Type 1} → statement M
+half-link-at-spec =
+    tie.close
+    (tie.spec mul-at sub-half-link-of part-half-link-of-start part-half-link-of-end half-link-of-requires returns)

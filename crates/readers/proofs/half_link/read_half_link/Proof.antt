@@ -1,0 +1,118 @@
+-- `readers::half_link::read_half_link` finds what the row of kind 2 lays down: each test of the code is one of `readOf`, in its order. Assumes nothing.
+use mathlib.Core.Path.{sym, ap, _∙_}
+use native.Mathlib.Omega.{arith}
+use borrow.Author.Tests.{not-true, not-false}
+use Rattle.rule.specs.Words.{wordsOf}
+use Rattle.rule.specs.Records.{HalfLink, halfLink, halfLinkLayout}
+use Rattle.readers.specs.laws.WordLaws.{count-of-words}
+use Rattle.readers.specs.laws.ReaderLaws.{read-cut, read-zero-bit, read-outside, read-whole, outside-here, inside-here, inside-all}
+use Rattle.readers.specs.Readers.{whole}
+use borrow.Author.Needs.{needs}
+use Rattle.readers.proofs.half_link.read_half_link.Statement.{statement}
+use Rattle.readers.proofs.half_link.read_half_link.Tie as tie
+
+returns : tie.Need-returns
+returns c =
+    let at-start = c .before .before in
+    sym (read-cut halfLinkLayout (wordsOf (at-start .args .part .now)) (omega (arith, count-of-words (at-start .args .part .now))))
+
+word-at-requires : tie.Need-word-at-requires
+word-at-requires c κs = search needs
+
+returns-2 : tie.Need-returns-2
+returns-2 c =
+    let at-start = c .before .before .before .before in
+    sym
+    (read-zero-bit halfLinkLayout (wordsOf (at-start .args .part .now)) (omega (arith, count-of-words (at-start .args .part .now)))
+    (λ e. c .if2 .taken (omega arith)))
+
+half-link-of-requires : tie.Need-half-link-of-requires
+half-link-of-requires c κs = search needs
+
+is-in-range-requires : tie.Need-is-in-range-requires
+is-in-range-requires c κs = search needs
+
+returns-3 : tie.Need-returns-3
+returns-3 c =
+    let at-half-link-of = c .before .before in
+    let at-start = at-half-link-of .before .before .before .before .before in
+    let part = at-start .args .part .now in
+    sym
+    (read-outside halfLinkLayout (wordsOf part) (omega (arith, count-of-words part)) (omega arith)
+    (outside-here _ _ (wordsOf part) (c .before .is-in-range .result) _ (c .before .is-in-range .ensures)
+    (ap (λ (x : HalfLink). x .metric) (at-half-link-of .half-link-of .ensures)) (not-true _ (c .if3 .taken))))
+
+cast-within : tie.Need-cast-within
+cast-within c = search needs
+
+within-requires : tie.Need-within-requires
+within-requires c κs = search needs
+
+returns-4 : tie.Need-returns-4
+returns-4 c =
+    let at-if3 = c .before .before .before in
+    let at-is-in-range = at-if3 .before in
+    let at-half-link-of = at-is-in-range .before in
+    let at-start = at-half-link-of .before .before .before .before .before in
+    let part = at-start .args .part .now in
+    let words = wordsOf part in
+    sym
+    (read-outside halfLinkLayout words (omega (arith, count-of-words part)) (omega arith)
+    (inside-here _ _ words (at-is-in-range .is-in-range .result) _ (at-is-in-range .is-in-range .ensures)
+    (ap (λ (x : HalfLink). x .metric) (at-half-link-of .half-link-of .ensures)) (not-false _ (at-if3 .if3 .left))
+    ∙ outside-here _ _ words (c .before .within .result) _ (c .before .within .ensures)
+    (ap (λ (x : HalfLink). x .port) (at-half-link-of .half-link-of .ensures)) (not-true _ (c .if4 .taken))))
+
+cast-within-2 : tie.Need-cast-within-2
+cast-within-2 c = search needs
+
+within-requires-2 : tie.Need-within-requires-2
+within-requires-2 c κs = search needs
+
+returns-5 : tie.Need-returns-5
+returns-5 c =
+    let at-if4 = c .before .before .before in
+    let at-within = at-if4 .before in
+    let at-if3 = at-within .before .before in
+    let at-is-in-range = at-if3 .before in
+    let at-half-link-of = at-is-in-range .before in
+    let at-start = at-half-link-of .before .before .before .before .before in
+    let half-link-of-ensures = at-half-link-of .half-link-of .ensures in
+    let part = at-start .args .part .now in
+    let words = wordsOf part in
+    sym
+    (read-outside halfLinkLayout words (omega (arith, count-of-words part)) (omega arith)
+    (inside-here _ _ words (at-is-in-range .is-in-range .result) _ (at-is-in-range .is-in-range .ensures)
+    (ap (λ (x : HalfLink). x .metric) half-link-of-ensures) (not-false _ (at-if3 .if3 .left))
+    ∙ inside-here _ _ words (at-within .within .result) _ (at-within .within .ensures)
+    (ap (λ (x : HalfLink). x .port) half-link-of-ensures) (not-false _ (at-if4 .if4 .left))
+    ∙ outside-here _ _ words (c .before .within2 .result) _ (c .before .within2 .ensures)
+    (ap (λ (x : HalfLink). x .link) half-link-of-ensures) (not-true _ (c .if5 .taken))))
+
+returns-6 : tie.Need-returns-6
+returns-6 c =
+    let at-if4 = c .before .before .before in
+    let at-within = at-if4 .before in
+    let at-if3 = at-within .before .before in
+    let at-is-in-range = at-if3 .before in
+    let at-half-link-of = at-is-in-range .before in
+    let at-start = at-half-link-of .before .before .before .before .before in
+    let half-link-of-ensures = at-half-link-of .half-link-of .ensures in
+    let part = at-start .args .part .now in
+    let words = wordsOf part in
+    ap (λ (x : HalfLink). whole (halfLink x)) half-link-of-ensures
+    ∙ sym
+    (read-whole halfLinkLayout words (omega (arith, count-of-words part)) (omega arith)
+    (inside-here _ _ words (at-is-in-range .is-in-range .result) _ (at-is-in-range .is-in-range .ensures)
+    (ap (λ (x : HalfLink). x .metric) half-link-of-ensures) (not-false _ (at-if3 .if3 .left))
+    ∙ inside-here _ _ words (at-within .within .result) _ (at-within .within .ensures)
+    (ap (λ (x : HalfLink). x .port) half-link-of-ensures) (not-false _ (at-if4 .if4 .left))
+    ∙ inside-here _ _ words (c .before .within2 .result) _ (c .before .within2 .ensures)
+    (ap (λ (x : HalfLink). x .link) half-link-of-ensures) (not-false _ (c .if5 .left))
+    ∙ inside-all words))
+
+pub read-half-link-spec : {M : Type 1} → statement M
+read-half-link-spec =
+    tie.close
+    (tie.spec returns word-at-requires returns-2 half-link-of-requires is-in-range-requires returns-3 cast-within within-requires returns-4
+    cast-within-2 within-requires-2 returns-5 returns-6)

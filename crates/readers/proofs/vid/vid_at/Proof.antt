@@ -1,0 +1,34 @@
+-- `readers::vid::vid_at` gives the record at a word: the first of the part that begins there. Assumes nothing.
+use Prim.Native.Nat.{ℕ}
+use mathlib.Core.Path.{ap, _∙_}
+use mathlib.Core.List.{List}
+use Rattle.rule.specs.Records.{vidOf}
+use Rattle.readers.specs.laws.WordLaws.{words-from}
+use borrow.Author.Needs.{needs}
+use Rattle.readers.proofs.vid.vid_at.Statement.{statement}
+use Rattle.readers.proofs.vid.vid_at.Tie as tie
+
+mul-at : tie.Need-mul-at
+mul-at c = search needs
+
+sub-vid-of : tie.Need-sub-vid-of
+sub-vid-of c = search needs
+
+part-vid-of-start : tie.Need-part-vid-of-start
+part-vid-of-start c = search needs
+
+part-vid-of-end : tie.Need-part-vid-of-end
+part-vid-of-end c = search needs
+
+vid-of-requires : tie.Need-vid-of-requires
+vid-of-requires c κs = search needs
+
+returns : tie.Need-returns
+returns c =
+    let at-start = c .before .before .before in
+    c .vid-of .ensures ∙ ap (λ (r : List ℕ). vidOf r) (words-from (at-start .args .word) (at-start .args .table .now))
+
+pub vid-at-spec : {M : Type 1} → statement M
+vid-at-spec =
+    tie.close
+    (tie.spec mul-at sub-vid-of part-vid-of-start part-vid-of-end vid-of-requires returns)
