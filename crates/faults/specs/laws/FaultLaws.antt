@@ -90,7 +90,7 @@ own-or-found last kind found count limit h = go (ltb kind last) (eqb found 3) (e
     go false false false false e = h e
 
 -- A record whose reader found `read`, and whose own faults come to the number `own`.
-pub record Judged (s : Reading) (l : Layout) (r : List ℕ) (read : Read) (own : ℕ) : Type 0 where
+record Judged (s : Reading) (l : Layout) (r : List ℕ) (read : Read) (own : ℕ) : Type 0 where
   pub found : readOf l r ≡ read
   pub number : own ≡ ownFault (s .last) (l .kind) (foundFault read) (alike (s .plan) (l .decoded r)) (l .limit)
 
@@ -99,21 +99,21 @@ module _ {s : Reading} {l : Layout} {r : List ℕ} {read : Read} {own : ℕ} (j 
   shows = rw (j .number, ← j .found) (shows-by-itself s l r)
 
   -- Its lowest fault is one that it shows by itself.
-  pub own-fault : (own ≡ 0 → ⊥) → numbered own ≡ lowestFault (faults s l r)
-  own-fault h = shows .shown h
+  own-shown : (own ≡ 0 → ⊥) → numbered own ≡ lowestFault (faults s l r)
+  own-shown h = shows .shown h
 
-  pub found-fault : (foundFault read ≡ 0 → ⊥) → numbered own ≡ lowestFault (faults s l r)
-  found-fault h =
-      own-fault λ z.
+  found-shown : (foundFault read ≡ 0 → ⊥) → numbered own ≡ lowestFault (faults s l r)
+  found-shown h =
+      own-shown λ z.
       own-or-found (s .last) (l .kind) (foundFault read) (alike (s .plan) (l .decoded r)) (l .limit) h (sym (j .number) ∙ z)
 
   -- Its lowest fault is among those left.
-  pub fault-left : (e : Record) → read ≡ whole e → own ≡ 0 → lowestFault (faultsLeft s e (length r)) ≡ lowestFault (faults s l r)
+  fault-left : (e : Record) → read ≡ whole e → own ≡ 0 → lowestFault (faultsLeft s e (length r)) ≡ lowestFault (faults s l r)
   fault-left e h z =
       ap (λ (x : Record). lowestFault (faultsLeft s x (length r))) (sym (whole-decoded l r e (j .found ∙ h))) ∙ shows .passed z
 
 -- Of the faults left, by their tests.
-pub left-over :
+left-over :
     (s : Reading) (e : Record) (n : ℕ) (b6 b7 b8 b9 b10 : Bool) →
     wrongEndCount (s .at) (endCount e) ≡ b6 →
     unknownName (s .plan) e ≡ b7 →
@@ -135,26 +135,64 @@ left-over s e n b6 b7 b8 b9 b10 e6 e7 e8 e9 e10 = rw (e6, e7, e8, e9, e10) (by-c
     by-cases false false false false true = refl
     by-cases false false false false false = refl
 
--- The record after those of the shape `s`, as the code judges it: `got` is what the reader of the part from the byte `at` on gave.
-pub judged-at :
-    (l : Layout) (t : List ℕ) (s : Shape) (at : ℕ) (got read : Read) (last count own : ℕ) →
+-- The record after those of the shape `s`, once it is read: `got` is what its reader gave, `last` the kind of the record before it, and
+-- `count` the number of earlier records of its kind.
+pub record ReadAt (l : Layout) (t : List ℕ) (s : Shape) (got : Read) (last count : ℕ) : Type 0 where
+  pub got-is : got ≡ readOf l (drop (wordsRead s) (wordsOf t))
+  pub last-is : last ≡ lastKind s
+  pub count-is : count ≡ alike (planAt (wordsOf t) s) (l .decoded (drop (wordsRead s) (wordsOf t)))
+
+-- As the code reads it, in the part from the byte `at` on.
+pub read-at :
+    (l : Layout) (t : List ℕ) (s : Shape) (at : ℕ) {got : Read} {last count : ℕ} →
     at ≡ 4 * wordsRead s →
     got ≡ readOf l (wordsOf (take (length t - at) (drop at t))) →
-    got ≡ read →
     last ≡ lastKind s →
     count ≡ alike (planAt (wordsOf t) s) (l .decoded (drop (wordsRead s) (wordsOf t))) →
-    own ≡ ownFault last (l .kind) (foundFault read) count (l .limit) →
-    Judged (readingAt (wordsOf t) s) l (drop (wordsRead s) (wordsOf t)) read own
-judged-at l t s at got read last count own a g e f c o =
+    ReadAt l t s got last count
+read-at l t s at a g f c =
     record {
-      found =
-          ap (readOf l)
-          (sym (words-from (wordsRead s) t) ∙ ap (λ (k : ℕ). wordsOf (take (length t - k) (drop k t))) (sym a))
-          ∙ sym g ∙ e;
-      number =
-          o ∙ ap (λ (k : ℕ). ownFault k (l .kind) (foundFault read) count (l .limit)) f
-          ∙ ap (λ (k : ℕ). ownFault (lastKind s) (l .kind) (foundFault read) k (l .limit)) c;
+      got-is =
+          g
+          ∙ ap (readOf l)
+          (ap (λ (k : ℕ). wordsOf (take (length t - k) (drop k t))) a ∙ words-from (wordsRead s) t);
+      last-is = f;
+      count-is = c;
     }
+
+module _ {l : Layout} {t : List ℕ} {s : Shape} {got read : Read} {last count own : ℕ} (R : ReadAt l t s got last count) (e : got ≡ read)
+    (o : own ≡ ownFault last (l .kind) (foundFault read) count (l .limit)) where
+  judged : Judged (readingAt (wordsOf t) s) l (drop (wordsRead s) (wordsOf t)) read own
+  judged =
+      record {
+        found = sym (R .got-is) ∙ e;
+        number =
+            o ∙ ap (λ (k : ℕ). ownFault k (l .kind) (foundFault read) count (l .limit)) (R .last-is)
+            ∙ ap (λ (k : ℕ). ownFault (lastKind s) (l .kind) (foundFault read) k (l .limit)) (R .count-is);
+      }
+
+  -- Its lowest fault is one that it shows by itself: by their number, or by what its reader found.
+  pub own-fault : (own ≡ 0 → ⊥) → numbered own ≡ lowestFault (faults (readingAt (wordsOf t) s) l (drop (wordsRead s) (wordsOf t)))
+  own-fault = own-shown judged
+
+  pub found-fault : (foundFault read ≡ 0 → ⊥) → numbered own ≡ lowestFault (faults (readingAt (wordsOf t) s) l (drop (wordsRead s) (wordsOf t)))
+  found-fault = found-shown judged
+
+-- A record that is whole and shows no fault by itself has the lowest of those left, by their tests.
+module _ {l : Layout} {t : List ℕ} {s : Shape} {got : Read} {e : Record} {last count own : ℕ} (R : ReadAt l t s got last count)
+    (g : got ≡ whole e) (o : own ≡ ownFault last (l .kind) 0 count (l .limit)) (z : own ≡ 0) where
+  pub left-fault :
+      (b6 b7 b8 b9 b10 : Bool) →
+      wrongEndCount (wordsRead s) (endCount e) ≡ b6 →
+      unknownName (planAt (wordsOf t) s) e ≡ b7 →
+      repeated (planAt (wordsOf t) s) e ≡ b8 →
+      wrongLink (planAt (wordsOf t) s) e ≡ b9 →
+      wordsFollow (length (drop (wordsRead s) (wordsOf t))) (endCount e) ≡ b10 →
+      numbered (cond b6 6 (cond b7 7 (cond b8 8 (cond b9 9 (cond b10 10 0)))))
+      ≡ lowestFault (faults (readingAt (wordsOf t) s) l (drop (wordsRead s) (wordsOf t)))
+  left-fault b6 b7 b8 b9 b10 e6 e7 e8 e9 e10 =
+      left-over (readingAt (wordsOf t) s) e (length (drop (wordsRead s) (wordsOf t))) b6 b7 b8 b9 b10 e6 e7 e8 e9 e10
+      ∙ fault-left (judged R g o) e refl z
 
 -- 7, by the number of bridges.
 pub unknown-ends :
@@ -189,5 +227,9 @@ words-follow t s b e = go (le-or-gt (length t / 4) (wordsRead s + 1))
 pub of-16-bits : (h : HalfLink) (r : List ℕ) → h ≡ halfLinkOf r → (h .near < 65536) × (h .port < 65536)
 of-16-bits h r e = rw e (omega arith, omega arith)
 
-pub read-of-16-bits : (r : List ℕ) (h : HalfLink) → readOf halfLinkLayout r ≡ whole (halfLink h) → (h .near < 65536) × (h .port < 65536)
-read-of-16-bits r h e = of-16-bits h r (cc (whole-decoded halfLinkLayout r (halfLink h) e))
+pub read-of-16-bits :
+    {t : List ℕ} {s : Shape} {got : Read} {last count : ℕ} {h : HalfLink} → ReadAt halfLinkLayout t s got last count
+    → got ≡ whole (halfLink h) → (h .near < 65536) × (h .port < 65536)
+read-of-16-bits {t} {s} {h = h} R e =
+    of-16-bits h (drop (wordsRead s) (wordsOf t))
+    (cc (whole-decoded halfLinkLayout (drop (wordsRead s) (wordsOf t)) (halfLink h) (sym (R .got-is) ∙ e)))

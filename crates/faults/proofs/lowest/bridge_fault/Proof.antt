@@ -2,17 +2,31 @@
 use native.Mathlib.Omega.{arith}
 use mathlib.Core.Path.{refl, sym, ap, _∙_}
 use mathlib.Core.Bool.{true, false}
-use lib.ListN.{length, drop}
 use Rattle.rule.specs.Words.{wordsOf}
-use Rattle.table.specs.Positions.{wordsRead, readingAt}
 use Rattle.table.specs.laws.PositionLaws.{how-many}
-use Rattle.readers.specs.Readers.{cut, zeroBit, outOfRange, whole, bridgeRead, bridgeValues}
-use Rattle.faults.specs.laws.FaultLaws.{judged-at, own-fault, found-fault, fault-left, left-over}
-use Rattle.rule.specs.Records.{bridge, bridgeOf, bridgeLayout}
+use Rattle.readers.specs.Readers.{bridgeRead}
+use Rattle.faults.specs.laws.FaultLaws.{ReadAt, read-at, own-fault, found-fault, left-fault}
+use Rattle.rule.specs.Records.{bridgeOf, bridgeLayout}
 use Rattle.readers.specs.declared.bridge.BridgeRead.{BridgeRead}
 use borrow.Author.Needs.{needs}
 use Rattle.faults.proofs.lowest.bridge_fault.Statement.{statement}
 use Rattle.faults.proofs.lowest.bridge_fault.Tie as tie
+
+-- The start of the function, seen from where the record is read.
+abbrev start : tie.After-read-bridge → tie.Start
+start c = c .before .before .before .before .before
+
+-- The record as it is read.
+as-read :
+    (c : tie.After-read-bridge) →
+    ReadAt bridgeLayout (start c .args .table .now) (start c .args .s) (bridgeRead (c .read-bridge .result))
+    (c .before .before .last-kind .result) (start c .args .s .bridges)
+as-read c =
+    let at-last-kind = c .before .before in
+    let at-words-read = at-last-kind .before in
+    read-at bridgeLayout (start c .args .table .now) (start c .args .s) _ (omega (arith, at-words-read .words-read .ensures))
+    (c .read-bridge .ensures) (at-last-kind .last-kind .ensures)
+    (sym (how-many bridgeOf 3 0 (wordsOf (start c .args .table .now)) (start c .args .s .bridges)))
 
 words-read-requires : tie.Need-words-read-requires
 words-read-requires c κs = search needs
@@ -62,17 +76,8 @@ own-fault-requires-4 c κs = search needs
 returns : tie.Need-returns
 returns c =
     let at-read = c .before .before .before in
-    let at-read-bridge = at-read .before .before in
-    let at-last-kind = at-read-bridge .before .before in
-    let at-words-read = at-last-kind .before in
-    let at-start = at-words-read .before .before in
-    own-fault
-    (judged-at bridgeLayout (at-start .args .table .now) (at-start .args .s) _ _
-    (whole (bridge (bridgeValues (at-read .read .given .0 .0)))) _ _ _ (omega (arith, at-words-read .words-read .ensures))
-    (at-read-bridge .read-bridge .ensures) (ap (λ (x : BridgeRead). bridgeRead x) (at-read .read .given .1))
-    (at-last-kind .last-kind .ensures)
-    (sym (how-many bridgeOf 3 0 (wordsOf (at-start .args .table .now)) (at-start .args .s .bridges))) (c .before .own-fault4 .ensures))
-    (c .if1 .taken)
+    own-fault (as-read (at-read .before .before)) (ap (λ (x : BridgeRead). bridgeRead x) (at-read .read .given .1))
+    (c .before .own-fault4 .ensures) (c .if1 .taken)
 
 is-bridge-repeated-requires : tie.Need-is-bridge-repeated-requires
 is-bridge-repeated-requires c κs = search needs
@@ -82,83 +87,33 @@ returns-2 c =
     let at-if1 = c .before .before in
     let at-own-fault4 = at-if1 .before in
     let at-read = at-own-fault4 .before .before in
-    let at-read-bridge = at-read .before .before in
-    let at-last-kind = at-read-bridge .before .before in
-    let at-words-read = at-last-kind .before in
-    let at-start = at-words-read .before .before in
-    let table = at-start .args .table .now in
-    let read-given = at-read .read .given .0 .0 in
-    let s = at-start .args .s in
-    let words = wordsOf table in
-    left-over (readingAt words s) (bridge (bridgeValues read-given)) (length (drop (wordsRead s) words)) false false true false false refl
-    refl (sym (c .before .is-bridge-repeated .ensures) ∙ c .if2 .taken) refl refl
-    ∙ fault-left
-    (judged-at bridgeLayout table s _ _ (whole (bridge (bridgeValues read-given))) _ _ _
-    (omega (arith, at-words-read .words-read .ensures)) (at-read-bridge .read-bridge .ensures)
-    (ap (λ (x : BridgeRead). bridgeRead x) (at-read .read .given .1)) (at-last-kind .last-kind .ensures)
-    (sym (how-many bridgeOf 3 0 words (s .bridges))) (at-own-fault4 .own-fault4 .ensures))
-    (bridge (bridgeValues read-given)) refl (at-if1 .if1 .left)
+    left-fault (as-read (at-read .before .before)) (ap (λ (x : BridgeRead). bridgeRead x) (at-read .read .given .1))
+    (at-own-fault4 .own-fault4 .ensures) (at-if1 .if1 .left) false false true false false refl refl
+    (sym (c .before .is-bridge-repeated .ensures) ∙ c .if2 .taken) refl refl
 
 returns-3 : tie.Need-returns-3
 returns-3 c =
-    let at-read-bridge = c .before .before .before in
-    let at-last-kind = at-read-bridge .before .before in
-    let at-words-read = at-last-kind .before in
-    let at-start = at-words-read .before .before in
-    found-fault
-    (judged-at bridgeLayout (at-start .args .table .now) (at-start .args .s) _ _ cut _ _ _
-    (omega (arith, at-words-read .words-read .ensures)) (at-read-bridge .read-bridge .ensures)
-    (ap (λ (x : BridgeRead). bridgeRead x) (c .before .enum-told .given .1)) (at-last-kind .last-kind .ensures)
-    (sym (how-many bridgeOf 3 0 (wordsOf (at-start .args .table .now)) (at-start .args .s .bridges))) (c .own-fault .ensures))
-    (λ z. absurd (omega arith))
+    found-fault (as-read (c .before .before .before)) (ap (λ (x : BridgeRead). bridgeRead x) (c .before .enum-told .given .1))
+    (c .own-fault .ensures) (λ z. absurd (omega arith))
 
 returns-4 : tie.Need-returns-4
 returns-4 c =
-    let at-read-bridge = c .before .before .before in
-    let at-last-kind = at-read-bridge .before .before in
-    let at-words-read = at-last-kind .before in
-    let at-start = at-words-read .before .before in
-    found-fault
-    (judged-at bridgeLayout (at-start .args .table .now) (at-start .args .s) _ _ zeroBit _ _ _
-    (omega (arith, at-words-read .words-read .ensures)) (at-read-bridge .read-bridge .ensures)
-    (ap (λ (x : BridgeRead). bridgeRead x) (c .before .enum-told2 .given .1)) (at-last-kind .last-kind .ensures)
-    (sym (how-many bridgeOf 3 0 (wordsOf (at-start .args .table .now)) (at-start .args .s .bridges))) (c .own-fault2 .ensures))
-    (λ z. absurd (omega arith))
+    found-fault (as-read (c .before .before .before)) (ap (λ (x : BridgeRead). bridgeRead x) (c .before .enum-told2 .given .1))
+    (c .own-fault2 .ensures) (λ z. absurd (omega arith))
 
 returns-5 : tie.Need-returns-5
 returns-5 c =
-    let at-read-bridge = c .before .before .before in
-    let at-last-kind = at-read-bridge .before .before in
-    let at-words-read = at-last-kind .before in
-    let at-start = at-words-read .before .before in
-    found-fault
-    (judged-at bridgeLayout (at-start .args .table .now) (at-start .args .s) _ _ outOfRange _ _ _
-    (omega (arith, at-words-read .words-read .ensures)) (at-read-bridge .read-bridge .ensures)
-    (ap (λ (x : BridgeRead). bridgeRead x) (c .before .enum-told3 .given .1)) (at-last-kind .last-kind .ensures)
-    (sym (how-many bridgeOf 3 0 (wordsOf (at-start .args .table .now)) (at-start .args .s .bridges))) (c .own-fault3 .ensures))
-    (λ z. absurd (omega arith))
+    found-fault (as-read (c .before .before .before)) (ap (λ (x : BridgeRead). bridgeRead x) (c .before .enum-told3 .given .1))
+    (c .own-fault3 .ensures) (λ z. absurd (omega arith))
 
 returns-6 : tie.Need-returns-6
 returns-6 c =
     let at-if1 = c .before .before in
     let at-own-fault4 = at-if1 .before in
     let at-read = at-own-fault4 .before .before in
-    let at-read-bridge = at-read .before .before in
-    let at-last-kind = at-read-bridge .before .before in
-    let at-words-read = at-last-kind .before in
-    let at-start = at-words-read .before .before in
-    let table = at-start .args .table .now in
-    let read-given = at-read .read .given .0 .0 in
-    let s = at-start .args .s in
-    let words = wordsOf table in
-    left-over (readingAt words s) (bridge (bridgeValues read-given)) (length (drop (wordsRead s) words)) false false false false false refl
-    refl (sym (c .before .is-bridge-repeated .ensures) ∙ c .if2 .left) refl refl
-    ∙ fault-left
-    (judged-at bridgeLayout table s _ _ (whole (bridge (bridgeValues read-given))) _ _ _
-    (omega (arith, at-words-read .words-read .ensures)) (at-read-bridge .read-bridge .ensures)
-    (ap (λ (x : BridgeRead). bridgeRead x) (at-read .read .given .1)) (at-last-kind .last-kind .ensures)
-    (sym (how-many bridgeOf 3 0 words (s .bridges))) (at-own-fault4 .own-fault4 .ensures))
-    (bridge (bridgeValues read-given)) refl (at-if1 .if1 .left)
+    left-fault (as-read (at-read .before .before)) (ap (λ (x : BridgeRead). bridgeRead x) (at-read .read .given .1))
+    (at-own-fault4 .own-fault4 .ensures) (at-if1 .if1 .left) false false false false false refl refl
+    (sym (c .before .is-bridge-repeated .ensures) ∙ c .if2 .left) refl refl
 
 pub bridge-fault-spec : {M : Type 1} → statement M
 bridge-fault-spec =

@@ -2,18 +2,32 @@
 use native.Mathlib.Omega.{arith}
 use mathlib.Core.Path.{refl, sym, ap, _∙_}
 use mathlib.Core.Bool.{true, false}
-use lib.ListN.{length, drop}
-use Rattle.rule.specs.Words.{wordsOf}
-use Rattle.table.specs.Positions.{wordsRead, readingAt}
-use Rattle.readers.specs.Readers.{cut, whole, endRead}
-use Rattle.faults.specs.laws.FaultLaws.{judged-at, own-fault, found-fault, fault-left, left-over, words-follow}
+use lib.ListN.{length}
+use Rattle.table.specs.Positions.{wordsRead}
+use Rattle.readers.specs.Readers.{endRead}
+use Rattle.faults.specs.laws.FaultLaws.{ReadAt, read-at, own-fault, found-fault, left-fault, words-follow}
 use Prim.Native.Nat.{_+_, _/_}
 use borrow.Author.Tests.{lt-ltb, le-ltb, eq-eqb, ne-eqb}
-use Rattle.rule.specs.Records.{end, endLayout}
+use Rattle.rule.specs.Records.{endLayout}
 use Rattle.readers.specs.declared.end.EndRead.{EndRead}
 use borrow.Author.Needs.{needs}
 use Rattle.faults.proofs.lowest.end_fault.Statement.{statement}
 use Rattle.faults.proofs.lowest.end_fault.Tie as tie
+
+-- The start of the function, seen from where the record is read.
+abbrev start : tie.After-read-end → tie.Start
+start c = c .before .before .before .before .before
+
+-- The record as it is read.
+as-read :
+    (c : tie.After-read-end) →
+    ReadAt endLayout (start c .args .table .now) (start c .args .s) (endRead (c .read-end .result))
+    (c .before .before .last-kind .result) 0
+as-read c =
+    let at-last-kind = c .before .before in
+    let at-words-read = at-last-kind .before in
+    read-at endLayout (start c .args .table .now) (start c .args .s) _ (omega (arith, at-words-read .words-read .ensures))
+    (c .read-end .ensures) (at-last-kind .last-kind .ensures) refl
 
 words-read-requires : tie.Need-words-read-requires
 words-read-requires c κs = search needs
@@ -51,16 +65,8 @@ own-fault-requires-2 c κs = search needs
 returns : tie.Need-returns
 returns c =
     let at-read = c .before .before .before in
-    let at-read-end = at-read .before .before in
-    let at-last-kind = at-read-end .before .before in
-    let at-words-read = at-last-kind .before in
-    let at-start = at-words-read .before .before in
-    own-fault
-    (judged-at endLayout (at-start .args .table .now) (at-start .args .s) _ _ (whole (end (at-read .read .given .0 .0))) _ _ _
-    (omega (arith, at-words-read .words-read .ensures)) (at-read-end .read-end .ensures)
-    (ap (λ (x : EndRead). endRead x) (at-read .read .given .1)) (at-last-kind .last-kind .ensures) (refl)
-    (c .before .own-fault2 .ensures))
-    (c .if1 .taken)
+    own-fault (as-read (at-read .before .before)) (ap (λ (x : EndRead). endRead x) (at-read .read .given .1))
+    (c .before .own-fault2 .ensures) (c .if1 .taken)
 
 cast-if2 : tie.Need-cast-if2
 cast-if2 c = search needs
@@ -69,20 +75,11 @@ returns-2 : tie.Need-returns-2
 returns-2 c =
     let at-own-fault2 = c .before .before in
     let at-read = at-own-fault2 .before .before in
-    let at-read-end = at-read .before .before in
-    let at-last-kind = at-read-end .before .before in
-    let at-words-read = at-last-kind .before in
-    let at-start = at-words-read .before .before in
-    let table = at-start .args .table .now in
-    let read-given = at-read .read .given .0 .0 in
-    let s = at-start .args .s in
-    left-over (readingAt (wordsOf table) s) (end read-given) (length (drop (wordsRead s) (wordsOf table))) true false false false _
-    (simp (ne-eqb _ _ (λ z. c .if2 .taken (z ∙ sym (at-words-read .words-read .ensures))))) refl refl refl refl
-    ∙ fault-left
-    (judged-at endLayout table s _ _ (whole (end read-given)) _ _ _ (omega (arith, at-words-read .words-read .ensures))
-    (at-read-end .read-end .ensures) (ap (λ (x : EndRead). endRead x) (at-read .read .given .1)) (at-last-kind .last-kind .ensures)
-    (refl) (at-own-fault2 .own-fault2 .ensures))
-    (end read-given) refl (c .before .if1 .left)
+    let at-words-read = at-read .before .before .before .before .before in
+    let words-read = at-words-read .words-read in
+    left-fault (as-read (at-read .before .before)) (ap (λ (x : EndRead). endRead x) (at-read .read .given .1))
+    (at-own-fault2 .own-fault2 .ensures) (c .before .if1 .left) true false false false _
+    (simp (ne-eqb _ _ (λ z. c .if2 .taken (z ∙ sym (words-read .ensures))))) refl refl refl refl
 
 add-if3 : tie.Need-add-if3
 add-if3 c = search needs
@@ -92,57 +89,33 @@ returns-3 c =
     let at-if1 = c .before .before in
     let at-own-fault2 = at-if1 .before in
     let at-read = at-own-fault2 .before .before in
-    let at-read-end = at-read .before .before in
-    let at-last-kind = at-read-end .before .before in
-    let at-words-read = at-last-kind .before in
-    let at-start = at-words-read .before .before in
-    let words-read-ensures = at-words-read .words-read .ensures in
-    let table = at-start .args .table .now in
-    let read-given = at-read .read .given .0 .0 in
-    let s = at-start .args .s in
-    left-over (readingAt (wordsOf table) s) (end read-given) (length (drop (wordsRead s) (wordsOf table))) false false false false true
-    (simp (eq-eqb _ _ (c .before .if2 .left ∙ words-read-ensures))) refl refl refl
-    (words-follow table s true (lt-ltb (wordsRead s + 1) (length table / 4) (omega (arith, words-read-ensures))))
-    ∙ fault-left
-    (judged-at endLayout table s _ _ (whole (end read-given)) _ _ _ (omega (arith, words-read-ensures)) (at-read-end .read-end .ensures)
-    (ap (λ (x : EndRead). endRead x) (at-read .read .given .1)) (at-last-kind .last-kind .ensures) (refl)
-    (at-own-fault2 .own-fault2 .ensures))
-    (end read-given) refl (at-if1 .if1 .left)
+    let at-words-read = at-read .before .before .before .before .before in
+    let words-read = at-words-read .words-read in
+    let table = start (at-read .before .before) .args .table .now in
+    let s = start (at-read .before .before) .args .s in
+    left-fault (as-read (at-read .before .before)) (ap (λ (x : EndRead). endRead x) (at-read .read .given .1))
+    (at-own-fault2 .own-fault2 .ensures) (at-if1 .if1 .left) false false false false true
+    (simp (eq-eqb _ _ (c .before .if2 .left ∙ words-read .ensures))) refl refl refl
+    (words-follow table s true (lt-ltb (wordsRead s + 1) (length table / 4) (omega (arith, words-read .ensures))))
 
 returns-4 : tie.Need-returns-4
 returns-4 c =
-    let at-read-end = c .before .before .before in
-    let at-last-kind = at-read-end .before .before in
-    let at-words-read = at-last-kind .before in
-    let at-start = at-words-read .before .before in
-    found-fault
-    (judged-at endLayout (at-start .args .table .now) (at-start .args .s) _ _ cut _ _ _
-    (omega (arith, at-words-read .words-read .ensures)) (at-read-end .read-end .ensures)
-    (ap (λ (x : EndRead). endRead x) (c .before .enum-told .given .1)) (at-last-kind .last-kind .ensures) (refl)
-    (c .own-fault .ensures))
-    (λ z. absurd (omega arith))
+    found-fault (as-read (c .before .before .before)) (ap (λ (x : EndRead). endRead x) (c .before .enum-told .given .1))
+    (c .own-fault .ensures) (λ z. absurd (omega arith))
 
 returns-5 : tie.Need-returns-5
 returns-5 c =
     let at-if1 = c .before .before in
     let at-own-fault2 = at-if1 .before in
     let at-read = at-own-fault2 .before .before in
-    let at-read-end = at-read .before .before in
-    let at-last-kind = at-read-end .before .before in
-    let at-words-read = at-last-kind .before in
-    let at-start = at-words-read .before .before in
-    let words-read-ensures = at-words-read .words-read .ensures in
-    let table = at-start .args .table .now in
-    let read-given = at-read .read .given .0 .0 in
-    let s = at-start .args .s in
-    left-over (readingAt (wordsOf table) s) (end read-given) (length (drop (wordsRead s) (wordsOf table))) false false false false false
-    (simp (eq-eqb _ _ (c .before .if2 .left ∙ words-read-ensures))) refl refl refl
-    (words-follow table s false (le-ltb (wordsRead s + 1) (length table / 4) (omega (arith, words-read-ensures))))
-    ∙ fault-left
-    (judged-at endLayout table s _ _ (whole (end read-given)) _ _ _ (omega (arith, words-read-ensures)) (at-read-end .read-end .ensures)
-    (ap (λ (x : EndRead). endRead x) (at-read .read .given .1)) (at-last-kind .last-kind .ensures) (refl)
-    (at-own-fault2 .own-fault2 .ensures))
-    (end read-given) refl (at-if1 .if1 .left)
+    let at-words-read = at-read .before .before .before .before .before in
+    let words-read = at-words-read .words-read in
+    let table = start (at-read .before .before) .args .table .now in
+    let s = start (at-read .before .before) .args .s in
+    left-fault (as-read (at-read .before .before)) (ap (λ (x : EndRead). endRead x) (at-read .read .given .1))
+    (at-own-fault2 .own-fault2 .ensures) (at-if1 .if1 .left) false false false false false
+    (simp (eq-eqb _ _ (c .before .if2 .left ∙ words-read .ensures))) refl refl refl
+    (words-follow table s false (le-ltb (wordsRead s + 1) (length table / 4) (omega (arith, words-read .ensures))))
 
 pub end-fault-spec : {M : Type 1} → statement M
 end-fault-spec =

@@ -2,21 +2,40 @@
 use native.Mathlib.Omega.{arith}
 use mathlib.Core.Path.{refl, sym, ap, _∙_}
 use mathlib.Core.Bool.{true, false}
-use lib.ListN.{length, drop}
 use Rattle.rule.specs.Words.{wordsOf}
-use Rattle.table.specs.Positions.{halfLinksFrom, wordsRead, readingAt, recordsAt}
+use Rattle.table.specs.Positions.{halfLinksFrom}
 use Rattle.table.specs.laws.PositionLaws.{how-many}
-use Rattle.readers.specs.Readers.{cut, zeroBit, outOfRange, whole, halfLinkRead, halfLinkValues}
-use Rattle.faults.specs.laws.FaultLaws.{judged-at, own-fault, found-fault, fault-left, left-over, unknown-ends, read-of-16-bits}
-use Rattle.rule.specs.Records.{halfLink, halfLinkOf, halfLinkLayout}
+use Rattle.readers.specs.Readers.{halfLinkRead, halfLinkValues}
+use Rattle.faults.specs.laws.FaultLaws.{ReadAt, read-at, own-fault, found-fault, left-fault, unknown-ends, read-of-16-bits}
+use Rattle.rule.specs.Records.{halfLinkOf, halfLinkLayout}
 use Rattle.readers.specs.declared.half_link.HalfLinkRead.{HalfLinkRead}
-use Prim.Native.Nat.{ℕ}
-use Rattle.lists.specs.Lists.{selected}
-use Rattle.rule.specs.Check.{hasLink, wrongHalf}
+use Prim.Native.Nat.{_<_}
 use Rattle.earlier.specs.laws.HalfLinkLaws.{port-repeated}
 use borrow.Author.Needs.{needs}
 use Rattle.faults.proofs.lowest.half_link_fault.Statement.{statement}
 use Rattle.faults.proofs.lowest.half_link_fault.Tie as tie
+
+-- The start of the function, seen from where the record is read.
+abbrev start : tie.After-read-half-link → tie.Start
+start c = c .before .before .before .before .before .before .before
+
+-- The record as it is read.
+as-read :
+    (c : tie.After-read-half-link) →
+    ReadAt halfLinkLayout (start c .args .table .now) (start c .args .s) (halfLinkRead (c .read-half-link .result))
+    (c .before .before .last-kind .result) (start c .args .s .«half_links»)
+as-read c =
+    let at-last-kind = c .before .before in
+    let at-words-read = at-last-kind .before in
+    read-at halfLinkLayout (start c .args .table .now) (start c .args .s) _ (omega (arith, at-words-read .words-read .ensures))
+    (c .read-half-link .ensures) (at-last-kind .last-kind .ensures)
+    (sym (how-many halfLinkOf 3 (halfLinksFrom (start c .args .s)) (wordsOf (start c .args .table .now)) (start c .args .s .«half_links»)))
+
+-- Its bridge numbers and its port have 16 bits.
+of-16-bits :
+    (c : tie.After-read) →
+    ((halfLinkValues (c .read .given .0 .0)) .near < 65536) × ((halfLinkValues (c .read .given .0 .0)) .port < 65536)
+of-16-bits c = read-of-16-bits (as-read (c .before .before)) (ap (λ (x : HalfLinkRead). halfLinkRead x) (c .read .given .1))
 
 words-read-requires : tie.Need-words-read-requires
 words-read-requires c κs = search needs
@@ -66,18 +85,8 @@ own-fault-requires-4 c κs = search needs
 returns : tie.Need-returns
 returns c =
     let at-read = c .before .before .before in
-    let at-read-half-link = at-read .before .before in
-    let at-last-kind = at-read-half-link .before .before in
-    let at-words-read = at-last-kind .before in
-    let at-start = at-words-read .before .before .before .before in
-    let s = at-start .args .s in
-    own-fault
-    (judged-at halfLinkLayout (at-start .args .table .now) s _ _ (whole (halfLink (halfLinkValues (at-read .read .given .0 .0)))) _ _ _
-    (omega (arith, at-words-read .words-read .ensures)) (at-read-half-link .read-half-link .ensures)
-    (ap (λ (x : HalfLinkRead). halfLinkRead x) (at-read .read .given .1)) (at-last-kind .last-kind .ensures)
-    (sym (how-many halfLinkOf 3 (halfLinksFrom s) (wordsOf (at-start .args .table .now)) (s .«half_links»)))
-    (c .before .own-fault4 .ensures))
-    (c .if1 .taken)
+    own-fault (as-read (at-read .before .before)) (ap (λ (x : HalfLinkRead). halfLinkRead x) (at-read .read .given .1))
+    (c .before .own-fault4 .ensures) (c .if1 .taken)
 
 names-unknown-requires : tie.Need-names-unknown-requires
 names-unknown-requires c κs = search needs
@@ -87,47 +96,21 @@ returns-2 c =
     let at-if1 = c .before .before in
     let at-own-fault4 = at-if1 .before in
     let at-read = at-own-fault4 .before .before in
-    let at-read-half-link = at-read .before .before in
-    let at-last-kind = at-read-half-link .before .before in
-    let at-words-read = at-last-kind .before in
-    let at-start = at-words-read .before .before .before .before in
-    let table = at-start .args .table .now in
-    let read-given = at-read .read .given .0 .0 in
-    let s = at-start .args .s in
-    let words = wordsOf table in
-    left-over (readingAt words s) (halfLink (halfLinkValues read-given)) (length (drop (wordsRead s) words)) false true _ _ false refl
-    (unknown-ends words s (halfLinkValues read-given) ∙ sym (c .before .names-unknown .ensures) ∙ c .if2 .taken) refl refl refl
-    ∙ fault-left
-    (judged-at halfLinkLayout table s _ _ (whole (halfLink (halfLinkValues read-given))) _ _ _
-    (omega (arith, at-words-read .words-read .ensures)) (at-read-half-link .read-half-link .ensures)
-    (ap (λ (x : HalfLinkRead). halfLinkRead x) (at-read .read .given .1)) (at-last-kind .last-kind .ensures)
-    (sym (how-many halfLinkOf 3 (halfLinksFrom s) words (s .«half_links»))) (at-own-fault4 .own-fault4 .ensures))
-    (halfLink (halfLinkValues read-given)) refl (at-if1 .if1 .left)
+    let at-start = start (at-read .before .before) in
+    let half-link-read = halfLinkValues (at-read .read .given .0 .0) in
+    left-fault (as-read (at-read .before .before)) (ap (λ (x : HalfLinkRead). halfLinkRead x) (at-read .read .given .1))
+    (at-own-fault4 .own-fault4 .ensures) (at-if1 .if1 .left) false true _ _ false refl
+    (unknown-ends (wordsOf (at-start .args .table .now)) (at-start .args .s) half-link-read
+    ∙ sym (c .before .names-unknown .ensures)
+    ∙ c .if2 .taken)
+    refl refl refl
 
 is-port-repeated-requires : tie.Need-is-port-repeated-requires
 is-port-repeated-requires c κs =
-    let at-own-fault4 = c .before .before .before in
-    let at-read = at-own-fault4 .before .before in
-    let at-read-half-link = at-read .before .before in
-    let at-last-kind = at-read-half-link .before .before in
-    let at-words-read = at-last-kind .before in
-    let at-start = at-words-read .before .before .before .before in
-    let (_, (keyed-port-key, _)) = at-start .pre in
-    let table = at-start .args .table .now in
-    let read-given = at-read .read .given .0 .0 in
-    let s = at-start .args .s in
-    let words = wordsOf table in (
-      keyed-port-key .indexed,
-      read-of-16-bits (drop (wordsRead s) words) (halfLinkValues read-given)
-          ((judged-at halfLinkLayout table s _ _ (whole (halfLink (halfLinkValues read-given))) _ _ _
-          (omega (arith, at-words-read .words-read .ensures)) (at-read-half-link .read-half-link .ensures)
-          (ap (λ (x : HalfLinkRead). halfLinkRead x) (at-read .read .given .1)) (at-last-kind .last-kind .ensures)
-          (sym (how-many halfLinkOf 3 (halfLinksFrom s) words (s .«half_links»))) (at-own-fault4 .own-fault4 .ensures)) .found) .0,
-      read-of-16-bits (drop (wordsRead s) words) (halfLinkValues read-given)
-          ((judged-at halfLinkLayout table s _ _ (whole (halfLink (halfLinkValues read-given))) _ _ _
-          (omega (arith, at-words-read .words-read .ensures)) (at-read-half-link .read-half-link .ensures)
-          (ap (λ (x : HalfLinkRead). halfLinkRead x) (at-read .read .given .1)) (at-last-kind .last-kind .ensures)
-          (sym (how-many halfLinkOf 3 (halfLinksFrom s) words (s .«half_links»))) (at-own-fault4 .own-fault4 .ensures)) .found) .1,
+    let (_, (port-keyed, _)) = start (c .before .before .before .before .before .before .before) .pre in (
+      port-keyed .indexed,
+      of-16-bits (c .before .before .before .before .before) .0,
+      of-16-bits (c .before .before .before .before .before) .1,
     )
 
 returns-3 : tie.Need-returns-3
@@ -137,43 +120,24 @@ returns-3 c =
     let at-if1 = at-names-unknown .before in
     let at-own-fault4 = at-if1 .before in
     let at-read = at-own-fault4 .before .before in
-    let at-read-half-link = at-read .before .before in
-    let at-last-kind = at-read-half-link .before .before in
-    let at-words-read = at-last-kind .before in
-    let at-start = at-words-read .before .before .before .before in
-    let (_, (keyed-port-key, _)) = at-start .pre in
-    let table = at-start .args .table .now in
-    let read-given = at-read .read .given .0 .0 in
-    let s = at-start .args .s in
-    let words = wordsOf table in
-    left-over (readingAt words s) (halfLink (halfLinkValues read-given)) (length (drop (wordsRead s) words)) false false true _ false refl
-    (unknown-ends words s (halfLinkValues read-given) ∙ sym (at-names-unknown .names-unknown .ensures) ∙ at-if2 .if2 .left)
-    (sym
-    (port-repeated keyed-port-key (halfLinkValues read-given)
-    (read-of-16-bits (drop (wordsRead s) words) (halfLinkValues read-given)
-    ((judged-at halfLinkLayout table s _ _ (whole (halfLink (halfLinkValues read-given))) _ _ _
-    (omega (arith, at-words-read .words-read .ensures)) (at-read-half-link .read-half-link .ensures)
-    (ap (λ (x : HalfLinkRead). halfLinkRead x) (at-read .read .given .1)) (at-last-kind .last-kind .ensures)
-    (sym (how-many halfLinkOf 3 (halfLinksFrom s) words (s .«half_links»))) (at-own-fault4 .own-fault4 .ensures)) .found) .1))
-    ∙ sym (c .before .is-port-repeated .ensures)
-    ∙ c .if3 .taken)
+    let at-start = start (at-read .before .before) in
+    let half-link-read = halfLinkValues (at-read .read .given .0 .0) in
+    let (_, (port-keyed, _)) = at-start .pre in
+    left-fault (as-read (at-read .before .before)) (ap (λ (x : HalfLinkRead). halfLinkRead x) (at-read .read .given .1))
+    (at-own-fault4 .own-fault4 .ensures) (at-if1 .if1 .left) false false true _ false refl
+    (unknown-ends (wordsOf (at-start .args .table .now)) (at-start .args .s) half-link-read
+    ∙ sym (at-names-unknown .names-unknown .ensures)
+    ∙ at-if2 .if2 .left)
+    (sym (port-repeated port-keyed half-link-read (of-16-bits at-read .1)) ∙ sym (c .before .is-port-repeated .ensures) ∙ c .if3 .taken)
     refl refl
-    ∙ fault-left
-    (judged-at halfLinkLayout table s _ _ (whole (halfLink (halfLinkValues read-given))) _ _ _
-    (omega (arith, at-words-read .words-read .ensures)) (at-read-half-link .read-half-link .ensures)
-    (ap (λ (x : HalfLinkRead). halfLinkRead x) (at-read .read .given .1)) (at-last-kind .last-kind .ensures)
-    (sym (how-many halfLinkOf 3 (halfLinksFrom s) words (s .«half_links»))) (at-own-fault4 .own-fault4 .ensures))
-    (halfLink (halfLinkValues read-given)) refl (at-if1 .if1 .left)
 
 half-links-from-requires : tie.Need-half-links-from-requires
 half-links-from-requires c κs = search needs
 
 is-wrong-link-requires : tie.Need-is-wrong-link-requires
 is-wrong-link-requires c κs =
-    let at-start =
-    c .before .before .before .before .before .before .before .before .before .before .before .before .before .before .before .before .before in
-    let (_, (_, keyed-number-key)) = at-start .pre in
-    (omega (arith, c .half-links-from .ensures), rw (c .half-links-from .ensures) keyed-number-key)
+    let (_, (_, number-keyed)) = start (c .before .before .before .before .before .before .before .before .before .before) .pre in
+    (omega (arith, c .half-links-from .ensures), rw (c .half-links-from .ensures) number-keyed)
 
 returns-4 : tie.Need-returns-4
 returns-4 c =
@@ -185,83 +149,33 @@ returns-4 c =
     let at-if1 = at-names-unknown .before in
     let at-own-fault4 = at-if1 .before in
     let at-read = at-own-fault4 .before .before in
-    let at-read-half-link = at-read .before .before in
-    let at-last-kind = at-read-half-link .before .before in
-    let at-words-read = at-last-kind .before in
-    let at-start = at-words-read .before .before .before .before in
-    let (_, (keyed-port-key, _)) = at-start .pre in
-    let table = at-start .args .table .now in
-    let read-given = at-read .read .given .0 .0 in
-    let s = at-start .args .s in
-    let half-links = s .«half_links» in
-    let words = wordsOf table in
-    left-over (readingAt words s) (halfLink (halfLinkValues read-given)) (length (drop (wordsRead s) words)) false false false true false
-    refl (unknown-ends words s (halfLinkValues read-given) ∙ sym (at-names-unknown .names-unknown .ensures) ∙ at-if2 .if2 .left)
-    (sym
-    (port-repeated keyed-port-key (halfLinkValues read-given)
-    (read-of-16-bits (drop (wordsRead s) words) (halfLinkValues read-given)
-    ((judged-at halfLinkLayout table s _ _ (whole (halfLink (halfLinkValues read-given))) _ _ _
-    (omega (arith, at-words-read .words-read .ensures)) (at-read-half-link .read-half-link .ensures)
-    (ap (λ (x : HalfLinkRead). halfLinkRead x) (at-read .read .given .1)) (at-last-kind .last-kind .ensures)
-    (sym (how-many halfLinkOf 3 (halfLinksFrom s) words half-links)) (at-own-fault4 .own-fault4 .ensures)) .found) .1))
+    let at-start = start (at-read .before .before) in
+    let half-link-read = halfLinkValues (at-read .read .given .0 .0) in
+    let (_, (port-keyed, _)) = at-start .pre in
+    left-fault (as-read (at-read .before .before)) (ap (λ (x : HalfLinkRead). halfLinkRead x) (at-read .read .given .1))
+    (at-own-fault4 .own-fault4 .ensures) (at-if1 .if1 .left) false false false true false refl
+    (unknown-ends (wordsOf (at-start .args .table .now)) (at-start .args .s) half-link-read
+    ∙ sym (at-names-unknown .names-unknown .ensures)
+    ∙ at-if2 .if2 .left)
+    (sym (port-repeated port-keyed half-link-read (of-16-bits at-read .1))
     ∙ sym (at-is-port-repeated .is-port-repeated .ensures)
     ∙ at-if3 .if3 .left)
-    (sym
-    (c .before .is-wrong-link .ensures
-    ∙ ap
-    (λ (n : ℕ).
-    wrongHalf (halfLinkValues read-given) (selected (hasLink (read-given .link)) (recordsAt halfLinkOf 3 n words half-links)))
-    (at-half-links-from .half-links-from .ensures))
-    ∙ c .if4 .taken)
-    refl
-    ∙ fault-left
-    (judged-at halfLinkLayout table s _ _ (whole (halfLink (halfLinkValues read-given))) _ _ _
-    (omega (arith, at-words-read .words-read .ensures)) (at-read-half-link .read-half-link .ensures)
-    (ap (λ (x : HalfLinkRead). halfLinkRead x) (at-read .read .given .1)) (at-last-kind .last-kind .ensures)
-    (sym (how-many halfLinkOf 3 (halfLinksFrom s) words half-links)) (at-own-fault4 .own-fault4 .ensures))
-    (halfLink (halfLinkValues read-given)) refl (at-if1 .if1 .left)
+    (sym (rw (at-half-links-from .half-links-from .ensures) at (c .before .is-wrong-link .ensures)) ∙ c .if4 .taken) refl
 
 returns-5 : tie.Need-returns-5
 returns-5 c =
-    let at-read-half-link = c .before .before .before in
-    let at-last-kind = at-read-half-link .before .before in
-    let at-words-read = at-last-kind .before in
-    let at-start = at-words-read .before .before .before .before in
-    let s = at-start .args .s in
-    found-fault
-    (judged-at halfLinkLayout (at-start .args .table .now) s _ _ cut _ _ _ (omega (arith, at-words-read .words-read .ensures))
-    (at-read-half-link .read-half-link .ensures) (ap (λ (x : HalfLinkRead). halfLinkRead x) (c .before .enum-told .given .1))
-    (at-last-kind .last-kind .ensures)
-    (sym (how-many halfLinkOf 3 (halfLinksFrom s) (wordsOf (at-start .args .table .now)) (s .«half_links»))) (c .own-fault .ensures))
-    (λ z. absurd (omega arith))
+    found-fault (as-read (c .before .before .before)) (ap (λ (x : HalfLinkRead). halfLinkRead x) (c .before .enum-told .given .1))
+    (c .own-fault .ensures) (λ z. absurd (omega arith))
 
 returns-6 : tie.Need-returns-6
 returns-6 c =
-    let at-read-half-link = c .before .before .before in
-    let at-last-kind = at-read-half-link .before .before in
-    let at-words-read = at-last-kind .before in
-    let at-start = at-words-read .before .before .before .before in
-    let s = at-start .args .s in
-    found-fault
-    (judged-at halfLinkLayout (at-start .args .table .now) s _ _ zeroBit _ _ _ (omega (arith, at-words-read .words-read .ensures))
-    (at-read-half-link .read-half-link .ensures) (ap (λ (x : HalfLinkRead). halfLinkRead x) (c .before .enum-told2 .given .1))
-    (at-last-kind .last-kind .ensures)
-    (sym (how-many halfLinkOf 3 (halfLinksFrom s) (wordsOf (at-start .args .table .now)) (s .«half_links»))) (c .own-fault2 .ensures))
-    (λ z. absurd (omega arith))
+    found-fault (as-read (c .before .before .before)) (ap (λ (x : HalfLinkRead). halfLinkRead x) (c .before .enum-told2 .given .1))
+    (c .own-fault2 .ensures) (λ z. absurd (omega arith))
 
 returns-7 : tie.Need-returns-7
 returns-7 c =
-    let at-read-half-link = c .before .before .before in
-    let at-last-kind = at-read-half-link .before .before in
-    let at-words-read = at-last-kind .before in
-    let at-start = at-words-read .before .before .before .before in
-    let s = at-start .args .s in
-    found-fault
-    (judged-at halfLinkLayout (at-start .args .table .now) s _ _ outOfRange _ _ _ (omega (arith, at-words-read .words-read .ensures))
-    (at-read-half-link .read-half-link .ensures) (ap (λ (x : HalfLinkRead). halfLinkRead x) (c .before .enum-told3 .given .1))
-    (at-last-kind .last-kind .ensures)
-    (sym (how-many halfLinkOf 3 (halfLinksFrom s) (wordsOf (at-start .args .table .now)) (s .«half_links»))) (c .own-fault3 .ensures))
-    (λ z. absurd (omega arith))
+    found-fault (as-read (c .before .before .before)) (ap (λ (x : HalfLinkRead). halfLinkRead x) (c .before .enum-told3 .given .1))
+    (c .own-fault3 .ensures) (λ z. absurd (omega arith))
 
 returns-8 : tie.Need-returns-8
 returns-8 c =
@@ -273,41 +187,18 @@ returns-8 c =
     let at-if1 = at-names-unknown .before in
     let at-own-fault4 = at-if1 .before in
     let at-read = at-own-fault4 .before .before in
-    let at-read-half-link = at-read .before .before in
-    let at-last-kind = at-read-half-link .before .before in
-    let at-words-read = at-last-kind .before in
-    let at-start = at-words-read .before .before .before .before in
-    let (_, (keyed-port-key, _)) = at-start .pre in
-    let table = at-start .args .table .now in
-    let read-given = at-read .read .given .0 .0 in
-    let s = at-start .args .s in
-    let half-links = s .«half_links» in
-    let words = wordsOf table in
-    left-over (readingAt words s) (halfLink (halfLinkValues read-given)) (length (drop (wordsRead s) words)) false false false false false
-    refl (unknown-ends words s (halfLinkValues read-given) ∙ sym (at-names-unknown .names-unknown .ensures) ∙ at-if2 .if2 .left)
-    (sym
-    (port-repeated keyed-port-key (halfLinkValues read-given)
-    (read-of-16-bits (drop (wordsRead s) words) (halfLinkValues read-given)
-    ((judged-at halfLinkLayout table s _ _ (whole (halfLink (halfLinkValues read-given))) _ _ _
-    (omega (arith, at-words-read .words-read .ensures)) (at-read-half-link .read-half-link .ensures)
-    (ap (λ (x : HalfLinkRead). halfLinkRead x) (at-read .read .given .1)) (at-last-kind .last-kind .ensures)
-    (sym (how-many halfLinkOf 3 (halfLinksFrom s) words half-links)) (at-own-fault4 .own-fault4 .ensures)) .found) .1))
+    let at-start = start (at-read .before .before) in
+    let half-link-read = halfLinkValues (at-read .read .given .0 .0) in
+    let (_, (port-keyed, _)) = at-start .pre in
+    left-fault (as-read (at-read .before .before)) (ap (λ (x : HalfLinkRead). halfLinkRead x) (at-read .read .given .1))
+    (at-own-fault4 .own-fault4 .ensures) (at-if1 .if1 .left) false false false false false refl
+    (unknown-ends (wordsOf (at-start .args .table .now)) (at-start .args .s) half-link-read
+    ∙ sym (at-names-unknown .names-unknown .ensures)
+    ∙ at-if2 .if2 .left)
+    (sym (port-repeated port-keyed half-link-read (of-16-bits at-read .1))
     ∙ sym (at-is-port-repeated .is-port-repeated .ensures)
     ∙ at-if3 .if3 .left)
-    (sym
-    (c .before .is-wrong-link .ensures
-    ∙ ap
-    (λ (n : ℕ).
-    wrongHalf (halfLinkValues read-given) (selected (hasLink (read-given .link)) (recordsAt halfLinkOf 3 n words half-links)))
-    (at-half-links-from .half-links-from .ensures))
-    ∙ c .if4 .left)
-    refl
-    ∙ fault-left
-    (judged-at halfLinkLayout table s _ _ (whole (halfLink (halfLinkValues read-given))) _ _ _
-    (omega (arith, at-words-read .words-read .ensures)) (at-read-half-link .read-half-link .ensures)
-    (ap (λ (x : HalfLinkRead). halfLinkRead x) (at-read .read .given .1)) (at-last-kind .last-kind .ensures)
-    (sym (how-many halfLinkOf 3 (halfLinksFrom s) words half-links)) (at-own-fault4 .own-fault4 .ensures))
-    (halfLink (halfLinkValues read-given)) refl (at-if1 .if1 .left)
+    (sym (rw (at-half-links-from .half-links-from .ensures) at (c .before .is-wrong-link .ensures)) ∙ c .if4 .left) refl
 
 pub half-link-fault-spec : {M : Type 1} → statement M
 half-link-fault-spec =

@@ -2,22 +2,33 @@
 use native.Mathlib.Omega.{arith}
 use mathlib.Core.Path.{refl, sym, ap, _∙_}
 use mathlib.Core.Bool.{true, false}
-use lib.ListN.{length, drop}
 use Rattle.rule.specs.Words.{wordsOf}
-use Rattle.table.specs.Positions.{recordsAt, membersFrom, wordsRead, readingAt}
+use Rattle.table.specs.Positions.{membersFrom}
 use Rattle.table.specs.laws.PositionLaws.{how-many}
-use Rattle.readers.specs.Readers.{cut, zeroBit, outOfRange, whole, memberRead, memberValues}
-use Rattle.faults.specs.laws.FaultLaws.{judged-at, own-fault, found-fault, fault-left, left-over, unknown-member}
-use Prim.Native.Nat.{ℕ}
+use Rattle.readers.specs.Readers.{memberRead, memberValues}
+use Rattle.faults.specs.laws.FaultLaws.{ReadAt, read-at, own-fault, found-fault, left-fault, unknown-member}
 use borrow.Author.Tests.{lt-ltb, le-ltb, not-true, not-false}
-use Rattle.lists.specs.Lists.{anyPasses}
-use Rattle.rule.specs.Records.{member, vidOf, memberOf, memberLayout}
-use Rattle.rule.specs.Plan.{hasVid}
-use Rattle.rule.specs.Check.{repeatsMember}
+use Rattle.rule.specs.Records.{memberOf, memberLayout}
 use Rattle.readers.specs.declared.member.MemberRead.{MemberRead}
 use borrow.Author.Needs.{needs}
 use Rattle.faults.proofs.lowest.member_fault.Statement.{statement}
 use Rattle.faults.proofs.lowest.member_fault.Tie as tie
+
+-- The start of the function, seen from where the record is read.
+abbrev start : tie.After-read-member → tie.Start
+start c = c .before .before .before .before .before
+
+-- The record as it is read.
+as-read :
+    (c : tie.After-read-member) →
+    ReadAt memberLayout (start c .args .table .now) (start c .args .s) (memberRead (c .read-member .result))
+    (c .before .before .last-kind .result) (start c .args .s .members)
+as-read c =
+    let at-last-kind = c .before .before in
+    let at-words-read = at-last-kind .before in
+    read-at memberLayout (start c .args .table .now) (start c .args .s) _ (omega (arith, at-words-read .words-read .ensures))
+    (c .read-member .ensures) (at-last-kind .last-kind .ensures)
+    (sym (how-many memberOf 2 (membersFrom (start c .args .s)) (wordsOf (start c .args .table .now)) (start c .args .s .members)))
 
 words-read-requires : tie.Need-words-read-requires
 words-read-requires c κs = search needs
@@ -67,17 +78,8 @@ own-fault-requires-4 c κs = search needs
 returns : tie.Need-returns
 returns c =
     let at-read = c .before .before .before in
-    let at-read-member = at-read .before .before in
-    let at-last-kind = at-read-member .before .before in
-    let at-words-read = at-last-kind .before in
-    let at-start = at-words-read .before .before in
-    let s = at-start .args .s in
-    own-fault
-    (judged-at memberLayout (at-start .args .table .now) s _ _ (whole (member (memberValues (at-read .read .given .0 .0)))) _ _ _
-    (omega (arith, at-words-read .words-read .ensures)) (at-read-member .read-member .ensures)
-    (ap (λ (x : MemberRead). memberRead x) (at-read .read .given .1)) (at-last-kind .last-kind .ensures)
-    (sym (how-many memberOf 2 (membersFrom s) (wordsOf (at-start .args .table .now)) (s .members))) (c .before .own-fault4 .ensures))
-    (c .if1 .taken)
+    own-fault (as-read (at-read .before .before)) (ap (λ (x : MemberRead). memberRead x) (at-read .read .given .1))
+    (c .before .own-fault4 .ensures) (c .if1 .taken)
 
 cast-if2 : tie.Need-cast-if2
 cast-if2 c = search needs
@@ -87,22 +89,12 @@ returns-2 c =
     let at-if1 = c .before .before .before in
     let at-own-fault4 = at-if1 .before in
     let at-read = at-own-fault4 .before .before in
-    let at-read-member = at-read .before .before in
-    let at-last-kind = at-read-member .before .before in
-    let at-words-read = at-last-kind .before in
-    let at-start = at-words-read .before .before in
-    let table = at-start .args .table .now in
-    let read-given = at-read .read .given .0 .0 in
-    let s = at-start .args .s in
-    let words = wordsOf table in
-    left-over (readingAt words s) (member (memberValues read-given)) (length (drop (wordsRead s) words)) false true _ false false refl
-    (unknown-member words s (memberValues read-given) ∙ simp (le-ltb _ _ (c .if2 .taken))) refl refl refl
-    ∙ fault-left
-    (judged-at memberLayout table s _ _ (whole (member (memberValues read-given))) _ _ _
-    (omega (arith, at-words-read .words-read .ensures)) (at-read-member .read-member .ensures)
-    (ap (λ (x : MemberRead). memberRead x) (at-read .read .given .1)) (at-last-kind .last-kind .ensures)
-    (sym (how-many memberOf 2 (membersFrom s) words (s .members))) (at-own-fault4 .own-fault4 .ensures))
-    (member (memberValues read-given)) refl (at-if1 .if1 .left)
+    let words = wordsOf (start (at-read .before .before) .args .table .now) in
+    let s = start (at-read .before .before) .args .s in
+    let member-read = memberValues (at-read .read .given .0 .0) in
+    left-fault (as-read (at-read .before .before)) (ap (λ (x : MemberRead). memberRead x) (at-read .read .given .1))
+    (at-own-fault4 .own-fault4 .ensures) (at-if1 .if1 .left) false true _ false false refl
+    (unknown-member words s member-read ∙ simp (le-ltb _ _ (c .if2 .taken))) refl refl refl
 
 vids-from-requires : tie.Need-vids-from-requires
 vids-from-requires c κs = search needs
@@ -117,31 +109,17 @@ returns-3 c =
     let at-if1 = at-if2 .before .before .before in
     let at-own-fault4 = at-if1 .before in
     let at-read = at-own-fault4 .before .before in
-    let at-read-member = at-read .before .before in
-    let at-last-kind = at-read-member .before .before in
-    let at-words-read = at-last-kind .before in
-    let at-start = at-words-read .before .before in
-    let table = at-start .args .table .now in
-    let read-given = at-read .read .given .0 .0 in
-    let s = at-start .args .s in
-    let words = wordsOf table in
-    left-over (readingAt words s) (member (memberValues read-given)) (length (drop (wordsRead s) words)) false true _ false false refl
-    (unknown-member words s (memberValues read-given)
+    let words = wordsOf (start (at-read .before .before) .args .table .now) in
+    let s = start (at-read .before .before) .args .s in
+    let member-read = memberValues (at-read .read .given .0 .0) in
+    left-fault (as-read (at-read .before .before)) (ap (λ (x : MemberRead). memberRead x) (at-read .read .given .1))
+    (at-own-fault4 .own-fault4 .ensures) (at-if1 .if1 .left) false true _ false false refl
+    (unknown-member words s member-read
     ∙ simp (
       lt-ltb _ _ (at-if2 .if2 .left),
-      sym
-          (c .before .is-vid-known .ensures
-          ∙ ap (λ (n : ℕ). anyPasses (hasVid (read-given .vid)) (recordsAt vidOf 1 n words (s .vids)))
-          (at-vids-from .vids-from .ensures))
-          ∙ not-true _ (c .if3 .taken),
+      sym (rw (at-vids-from .vids-from .ensures) at (c .before .is-vid-known .ensures)) ∙ not-true _ (c .if3 .taken),
     ))
     refl refl refl
-    ∙ fault-left
-    (judged-at memberLayout table s _ _ (whole (member (memberValues read-given))) _ _ _
-    (omega (arith, at-words-read .words-read .ensures)) (at-read-member .read-member .ensures)
-    (ap (λ (x : MemberRead). memberRead x) (at-read .read .given .1)) (at-last-kind .last-kind .ensures)
-    (sym (how-many memberOf 2 (membersFrom s) words (s .members))) (at-own-fault4 .own-fault4 .ensures))
-    (member (memberValues read-given)) refl (at-if1 .if1 .left)
 
 members-from-requires : tie.Need-members-from-requires
 members-from-requires c κs = search needs
@@ -159,78 +137,32 @@ returns-4 c =
     let at-if1 = at-if2 .before .before .before in
     let at-own-fault4 = at-if1 .before in
     let at-read = at-own-fault4 .before .before in
-    let at-read-member = at-read .before .before in
-    let at-last-kind = at-read-member .before .before in
-    let at-words-read = at-last-kind .before in
-    let at-start = at-words-read .before .before in
-    let table = at-start .args .table .now in
-    let read-given = at-read .read .given .0 .0 in
-    let s = at-start .args .s in
-    let words = wordsOf table in
-    left-over (readingAt words s) (member (memberValues read-given)) (length (drop (wordsRead s) words)) false false true false false refl
-    (unknown-member words s (memberValues read-given)
+    let words = wordsOf (start (at-read .before .before) .args .table .now) in
+    let s = start (at-read .before .before) .args .s in
+    let member-read = memberValues (at-read .read .given .0 .0) in
+    left-fault (as-read (at-read .before .before)) (ap (λ (x : MemberRead). memberRead x) (at-read .read .given .1))
+    (at-own-fault4 .own-fault4 .ensures) (at-if1 .if1 .left) false false true false false refl
+    (unknown-member words s member-read
     ∙ simp (
       lt-ltb _ _ (at-if2 .if2 .left),
-      sym
-          (at-is-vid-known .is-vid-known .ensures
-          ∙ ap (λ (n : ℕ). anyPasses (hasVid (read-given .vid)) (recordsAt vidOf 1 n words (s .vids)))
-          (at-vids-from .vids-from .ensures))
-          ∙ not-false _ (at-if3 .if3 .left),
+      sym (rw (at-vids-from .vids-from .ensures) at (at-is-vid-known .is-vid-known .ensures)) ∙ not-false _ (at-if3 .if3 .left),
     ))
-    (sym
-    (c .before .is-member-repeated .ensures
-    ∙ ap (λ (n : ℕ). anyPasses (repeatsMember (memberValues read-given)) (recordsAt memberOf 2 n words (s .members)))
-    (at-members-from .members-from .ensures))
-    ∙ c .if4 .taken)
-    refl refl
-    ∙ fault-left
-    (judged-at memberLayout table s _ _ (whole (member (memberValues read-given))) _ _ _
-    (omega (arith, at-words-read .words-read .ensures)) (at-read-member .read-member .ensures)
-    (ap (λ (x : MemberRead). memberRead x) (at-read .read .given .1)) (at-last-kind .last-kind .ensures)
-    (sym (how-many memberOf 2 (membersFrom s) words (s .members))) (at-own-fault4 .own-fault4 .ensures))
-    (member (memberValues read-given)) refl (at-if1 .if1 .left)
+    (sym (rw (at-members-from .members-from .ensures) at (c .before .is-member-repeated .ensures)) ∙ c .if4 .taken) refl refl
 
 returns-5 : tie.Need-returns-5
 returns-5 c =
-    let at-read-member = c .before .before .before in
-    let at-last-kind = at-read-member .before .before in
-    let at-words-read = at-last-kind .before in
-    let at-start = at-words-read .before .before in
-    let s = at-start .args .s in
-    found-fault
-    (judged-at memberLayout (at-start .args .table .now) s _ _ cut _ _ _ (omega (arith, at-words-read .words-read .ensures))
-    (at-read-member .read-member .ensures) (ap (λ (x : MemberRead). memberRead x) (c .before .enum-told .given .1))
-    (at-last-kind .last-kind .ensures) (sym (how-many memberOf 2 (membersFrom s) (wordsOf (at-start .args .table .now)) (s .members)))
-    (c .own-fault .ensures))
-    (λ z. absurd (omega arith))
+    found-fault (as-read (c .before .before .before)) (ap (λ (x : MemberRead). memberRead x) (c .before .enum-told .given .1))
+    (c .own-fault .ensures) (λ z. absurd (omega arith))
 
 returns-6 : tie.Need-returns-6
 returns-6 c =
-    let at-read-member = c .before .before .before in
-    let at-last-kind = at-read-member .before .before in
-    let at-words-read = at-last-kind .before in
-    let at-start = at-words-read .before .before in
-    let s = at-start .args .s in
-    found-fault
-    (judged-at memberLayout (at-start .args .table .now) s _ _ zeroBit _ _ _ (omega (arith, at-words-read .words-read .ensures))
-    (at-read-member .read-member .ensures) (ap (λ (x : MemberRead). memberRead x) (c .before .enum-told2 .given .1))
-    (at-last-kind .last-kind .ensures) (sym (how-many memberOf 2 (membersFrom s) (wordsOf (at-start .args .table .now)) (s .members)))
-    (c .own-fault2 .ensures))
-    (λ z. absurd (omega arith))
+    found-fault (as-read (c .before .before .before)) (ap (λ (x : MemberRead). memberRead x) (c .before .enum-told2 .given .1))
+    (c .own-fault2 .ensures) (λ z. absurd (omega arith))
 
 returns-7 : tie.Need-returns-7
 returns-7 c =
-    let at-read-member = c .before .before .before in
-    let at-last-kind = at-read-member .before .before in
-    let at-words-read = at-last-kind .before in
-    let at-start = at-words-read .before .before in
-    let s = at-start .args .s in
-    found-fault
-    (judged-at memberLayout (at-start .args .table .now) s _ _ outOfRange _ _ _ (omega (arith, at-words-read .words-read .ensures))
-    (at-read-member .read-member .ensures) (ap (λ (x : MemberRead). memberRead x) (c .before .enum-told3 .given .1))
-    (at-last-kind .last-kind .ensures) (sym (how-many memberOf 2 (membersFrom s) (wordsOf (at-start .args .table .now)) (s .members)))
-    (c .own-fault3 .ensures))
-    (λ z. absurd (omega arith))
+    found-fault (as-read (c .before .before .before)) (ap (λ (x : MemberRead). memberRead x) (c .before .enum-told3 .given .1))
+    (c .own-fault3 .ensures) (λ z. absurd (omega arith))
 
 returns-8 : tie.Need-returns-8
 returns-8 c =
@@ -242,36 +174,17 @@ returns-8 c =
     let at-if1 = at-if2 .before .before .before in
     let at-own-fault4 = at-if1 .before in
     let at-read = at-own-fault4 .before .before in
-    let at-read-member = at-read .before .before in
-    let at-last-kind = at-read-member .before .before in
-    let at-words-read = at-last-kind .before in
-    let at-start = at-words-read .before .before in
-    let table = at-start .args .table .now in
-    let read-given = at-read .read .given .0 .0 in
-    let s = at-start .args .s in
-    let words = wordsOf table in
-    left-over (readingAt words s) (member (memberValues read-given)) (length (drop (wordsRead s) words)) false false false false false refl
-    (unknown-member words s (memberValues read-given)
+    let words = wordsOf (start (at-read .before .before) .args .table .now) in
+    let s = start (at-read .before .before) .args .s in
+    let member-read = memberValues (at-read .read .given .0 .0) in
+    left-fault (as-read (at-read .before .before)) (ap (λ (x : MemberRead). memberRead x) (at-read .read .given .1))
+    (at-own-fault4 .own-fault4 .ensures) (at-if1 .if1 .left) false false false false false refl
+    (unknown-member words s member-read
     ∙ simp (
       lt-ltb _ _ (at-if2 .if2 .left),
-      sym
-          (at-is-vid-known .is-vid-known .ensures
-          ∙ ap (λ (n : ℕ). anyPasses (hasVid (read-given .vid)) (recordsAt vidOf 1 n words (s .vids)))
-          (at-vids-from .vids-from .ensures))
-          ∙ not-false _ (at-if3 .if3 .left),
+      sym (rw (at-vids-from .vids-from .ensures) at (at-is-vid-known .is-vid-known .ensures)) ∙ not-false _ (at-if3 .if3 .left),
     ))
-    (sym
-    (c .before .is-member-repeated .ensures
-    ∙ ap (λ (n : ℕ). anyPasses (repeatsMember (memberValues read-given)) (recordsAt memberOf 2 n words (s .members)))
-    (at-members-from .members-from .ensures))
-    ∙ c .if4 .left)
-    refl refl
-    ∙ fault-left
-    (judged-at memberLayout table s _ _ (whole (member (memberValues read-given))) _ _ _
-    (omega (arith, at-words-read .words-read .ensures)) (at-read-member .read-member .ensures)
-    (ap (λ (x : MemberRead). memberRead x) (at-read .read .given .1)) (at-last-kind .last-kind .ensures)
-    (sym (how-many memberOf 2 (membersFrom s) words (s .members))) (at-own-fault4 .own-fault4 .ensures))
-    (member (memberValues read-given)) refl (at-if1 .if1 .left)
+    (sym (rw (at-members-from .members-from .ensures) at (c .before .is-member-repeated .ensures)) ∙ c .if4 .left) refl refl
 
 pub member-fault-spec : {M : Type 1} → statement M
 member-fault-spec =

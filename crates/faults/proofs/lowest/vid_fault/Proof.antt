@@ -2,20 +2,32 @@
 use native.Mathlib.Omega.{arith}
 use mathlib.Core.Path.{refl, sym, ap, _∙_}
 use mathlib.Core.Bool.{true, false}
-use lib.ListN.{length, drop}
 use Rattle.rule.specs.Words.{wordsOf}
-use Rattle.table.specs.Positions.{recordsAt, vidsFrom, wordsRead, readingAt}
+use Rattle.table.specs.Positions.{vidsFrom}
 use Rattle.table.specs.laws.PositionLaws.{how-many}
-use Rattle.readers.specs.Readers.{cut, outOfRange, whole, vidRead, vidValues}
-use Rattle.faults.specs.laws.FaultLaws.{judged-at, own-fault, found-fault, fault-left, left-over}
-use Prim.Native.Nat.{ℕ}
-use Rattle.lists.specs.Lists.{anyPasses}
-use Rattle.rule.specs.Records.{vid, vidOf, vidLayout}
-use Rattle.rule.specs.Plan.{hasVid}
+use Rattle.readers.specs.Readers.{vidRead}
+use Rattle.faults.specs.laws.FaultLaws.{ReadAt, read-at, own-fault, found-fault, left-fault}
+use Rattle.rule.specs.Records.{vidOf, vidLayout}
 use Rattle.readers.specs.declared.vid.VidRead.{VidRead}
 use borrow.Author.Needs.{needs}
 use Rattle.faults.proofs.lowest.vid_fault.Statement.{statement}
 use Rattle.faults.proofs.lowest.vid_fault.Tie as tie
+
+-- The start of the function, seen from where the record is read.
+abbrev start : tie.After-read-vid → tie.Start
+start c = c .before .before .before .before .before
+
+-- The record as it is read.
+as-read :
+    (c : tie.After-read-vid) →
+    ReadAt vidLayout (start c .args .table .now) (start c .args .s) (vidRead (c .read-vid .result))
+    (c .before .before .last-kind .result) (start c .args .s .vids)
+as-read c =
+    let at-last-kind = c .before .before in
+    let at-words-read = at-last-kind .before in
+    read-at vidLayout (start c .args .table .now) (start c .args .s) _ (omega (arith, at-words-read .words-read .ensures))
+    (c .read-vid .ensures) (at-last-kind .last-kind .ensures)
+    (sym (how-many vidOf 1 (vidsFrom (start c .args .s)) (wordsOf (start c .args .table .now)) (start c .args .s .vids)))
 
 words-read-requires : tie.Need-words-read-requires
 words-read-requires c κs = search needs
@@ -59,17 +71,8 @@ own-fault-requires-3 c κs = search needs
 returns : tie.Need-returns
 returns c =
     let at-read = c .before .before .before in
-    let at-read-vid = at-read .before .before in
-    let at-last-kind = at-read-vid .before .before in
-    let at-words-read = at-last-kind .before in
-    let at-start = at-words-read .before .before in
-    let s = at-start .args .s in
-    own-fault
-    (judged-at vidLayout (at-start .args .table .now) s _ _ (whole (vid (vidValues (at-read .read .given .0 .0)))) _ _ _
-    (omega (arith, at-words-read .words-read .ensures)) (at-read-vid .read-vid .ensures)
-    (ap (λ (x : VidRead). vidRead x) (at-read .read .given .1)) (at-last-kind .last-kind .ensures)
-    (sym (how-many vidOf 1 (vidsFrom s) (wordsOf (at-start .args .table .now)) (s .vids))) (c .before .own-fault3 .ensures))
-    (c .if1 .taken)
+    own-fault (as-read (at-read .before .before)) (ap (λ (x : VidRead). vidRead x) (at-read .read .given .1))
+    (c .before .own-fault3 .ensures) (c .if1 .taken)
 
 vids-from-requires : tie.Need-vids-from-requires
 vids-from-requires c κs = search needs
@@ -83,53 +86,19 @@ returns-2 c =
     let at-if1 = at-vids-from .before in
     let at-own-fault3 = at-if1 .before in
     let at-read = at-own-fault3 .before .before in
-    let at-read-vid = at-read .before .before in
-    let at-last-kind = at-read-vid .before .before in
-    let at-words-read = at-last-kind .before in
-    let at-start = at-words-read .before .before in
-    let table = at-start .args .table .now in
-    let read-given = at-read .read .given .0 .0 in
-    let s = at-start .args .s in
-    let words = wordsOf table in
-    left-over (readingAt words s) (vid (vidValues read-given)) (length (drop (wordsRead s) words)) false false true false false refl refl
-    (sym
-    (c .before .is-vid-known .ensures
-    ∙ ap (λ (n : ℕ). anyPasses (hasVid (read-given .vid)) (recordsAt vidOf 1 n words (s .vids))) (at-vids-from .vids-from .ensures))
-    ∙ c .if2 .taken)
-    refl refl
-    ∙ fault-left
-    (judged-at vidLayout table s _ _ (whole (vid (vidValues read-given))) _ _ _ (omega (arith, at-words-read .words-read .ensures))
-    (at-read-vid .read-vid .ensures) (ap (λ (x : VidRead). vidRead x) (at-read .read .given .1)) (at-last-kind .last-kind .ensures)
-    (sym (how-many vidOf 1 (vidsFrom s) words (s .vids))) (at-own-fault3 .own-fault3 .ensures))
-    (vid (vidValues read-given)) refl (at-if1 .if1 .left)
+    left-fault (as-read (at-read .before .before)) (ap (λ (x : VidRead). vidRead x) (at-read .read .given .1))
+    (at-own-fault3 .own-fault3 .ensures) (at-if1 .if1 .left) false false true false false refl refl
+    (sym (rw (at-vids-from .vids-from .ensures) at (c .before .is-vid-known .ensures)) ∙ c .if2 .taken) refl refl
 
 returns-3 : tie.Need-returns-3
 returns-3 c =
-    let at-read-vid = c .before .before .before in
-    let at-last-kind = at-read-vid .before .before in
-    let at-words-read = at-last-kind .before in
-    let at-start = at-words-read .before .before in
-    let s = at-start .args .s in
-    found-fault
-    (judged-at vidLayout (at-start .args .table .now) s _ _ cut _ _ _ (omega (arith, at-words-read .words-read .ensures))
-    (at-read-vid .read-vid .ensures) (ap (λ (x : VidRead). vidRead x) (c .before .enum-told .given .1))
-    (at-last-kind .last-kind .ensures) (sym (how-many vidOf 1 (vidsFrom s) (wordsOf (at-start .args .table .now)) (s .vids)))
-    (c .own-fault .ensures))
-    (λ z. absurd (omega arith))
+    found-fault (as-read (c .before .before .before)) (ap (λ (x : VidRead). vidRead x) (c .before .enum-told .given .1))
+    (c .own-fault .ensures) (λ z. absurd (omega arith))
 
 returns-4 : tie.Need-returns-4
 returns-4 c =
-    let at-read-vid = c .before .before .before in
-    let at-last-kind = at-read-vid .before .before in
-    let at-words-read = at-last-kind .before in
-    let at-start = at-words-read .before .before in
-    let s = at-start .args .s in
-    found-fault
-    (judged-at vidLayout (at-start .args .table .now) s _ _ outOfRange _ _ _ (omega (arith, at-words-read .words-read .ensures))
-    (at-read-vid .read-vid .ensures) (ap (λ (x : VidRead). vidRead x) (c .before .enum-told2 .given .1))
-    (at-last-kind .last-kind .ensures) (sym (how-many vidOf 1 (vidsFrom s) (wordsOf (at-start .args .table .now)) (s .vids)))
-    (c .own-fault2 .ensures))
-    (λ z. absurd (omega arith))
+    found-fault (as-read (c .before .before .before)) (ap (λ (x : VidRead). vidRead x) (c .before .enum-told2 .given .1))
+    (c .own-fault2 .ensures) (λ z. absurd (omega arith))
 
 returns-5 : tie.Need-returns-5
 returns-5 c =
@@ -137,25 +106,9 @@ returns-5 c =
     let at-if1 = at-vids-from .before in
     let at-own-fault3 = at-if1 .before in
     let at-read = at-own-fault3 .before .before in
-    let at-read-vid = at-read .before .before in
-    let at-last-kind = at-read-vid .before .before in
-    let at-words-read = at-last-kind .before in
-    let at-start = at-words-read .before .before in
-    let table = at-start .args .table .now in
-    let read-given = at-read .read .given .0 .0 in
-    let s = at-start .args .s in
-    let words = wordsOf table in
-    left-over (readingAt words s) (vid (vidValues read-given)) (length (drop (wordsRead s) words)) false false false false false refl refl
-    (sym
-    (c .before .is-vid-known .ensures
-    ∙ ap (λ (n : ℕ). anyPasses (hasVid (read-given .vid)) (recordsAt vidOf 1 n words (s .vids))) (at-vids-from .vids-from .ensures))
-    ∙ c .if2 .left)
-    refl refl
-    ∙ fault-left
-    (judged-at vidLayout table s _ _ (whole (vid (vidValues read-given))) _ _ _ (omega (arith, at-words-read .words-read .ensures))
-    (at-read-vid .read-vid .ensures) (ap (λ (x : VidRead). vidRead x) (at-read .read .given .1)) (at-last-kind .last-kind .ensures)
-    (sym (how-many vidOf 1 (vidsFrom s) words (s .vids))) (at-own-fault3 .own-fault3 .ensures))
-    (vid (vidValues read-given)) refl (at-if1 .if1 .left)
+    left-fault (as-read (at-read .before .before)) (ap (λ (x : VidRead). vidRead x) (at-read .read .given .1))
+    (at-own-fault3 .own-fault3 .ensures) (at-if1 .if1 .left) false false false false false refl refl
+    (sym (rw (at-vids-from .vids-from .ensures) at (c .before .is-vid-known .ensures)) ∙ c .if2 .left) refl refl
 
 pub vid-fault-spec : {M : Type 1} → statement M
 vid-fault-spec =
