@@ -10,6 +10,9 @@ import tempfile
 
 FACT = re.compile(r"^(\S+) : tie\.Need-(\S+)(.*)$", re.M)
 CHAIN = re.compile(r"(?<![\w.·-])c((?: \.before)*) \.([^\s().,]+)")
+# The list of answers at the end of a proof file.
+CLOSING = re.compile(r"tie\.close\s+\(tie\.spec\s((?:[^()]|\([^()]*\))*)\)")
+WIDTH = 140
 
 
 def generated(crate):
@@ -83,3 +86,28 @@ def answers(text):
     close = close.start() if close else len(text)
     ends = [match.start() for match in found[1:]] + [close]
     return [(match, end) for match, end in zip(found, ends)], close
+
+
+def listed(text):
+    """The answers in the list at the end: names, and `(λ c. search needs)` for what `search` finds."""
+    return re.findall(r"\([^()]*\)|[^\s()]+", text)
+
+
+def filled(words):
+    """The list at the end, `words` being the answers in their order."""
+    whole = f" (tie.spec {' '.join(words)})"
+    if len(whole) <= 100:
+        return whole
+    lines, line = [], "    (tie.spec"
+    for word in words:
+        if len(line) + 2 + len(word) > WIDTH:
+            lines.append(line)
+            line = "    " + word
+        else:
+            line += " " + word
+    return "\n" + "\n".join([*lines, line]) + ")"
+
+
+def by_search(lifetimes):
+    """The answer that `search` finds, in the list at the end."""
+    return "(λ c κs. search needs)" if lifetimes else "(λ c. search needs)"

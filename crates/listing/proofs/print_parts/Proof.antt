@@ -19,8 +19,7 @@ abbrev μ-loop : tie.MeasureT-loop
 loop-holds : tie.Need-loop-holds Inv-loop μ-loop
 loop-holds c =
     let at-start = c .before .before .before .before .before .before in
-    let (underway, _) = at-start .pre in
-    (underway, refl, refl, refl, refl)
+    let (underway, _) = at-start .pre in (underway, refl, refl, refl, refl)
 
 next-part-requires : tie.Need-next-part-requires Inv-loop μ-loop
 next-part-requires c κs =
@@ -31,9 +30,6 @@ next-part-requires c κs =
       underway,
       (omega (arith, path-ids-length, path-ids-room), omega (arith, words-length, words-room), omega (arith, out-length, out-room)),
     )
-
-enum-known-next : tie.Need-enum-known-next Inv-loop μ-loop
-enum-known-next c = search needs
 
 slice-reshare-prefix-print : tie.Need-slice-reshare-prefix-print Inv-loop μ-loop
 slice-reshare-prefix-print c =
@@ -51,24 +47,6 @@ slice-aggregate-print c =
     let at-start = at-loop .before .before .before .before .before .before .before in
     let (next-of, _) = at-next-part .next-part .ensures in
     simp length-take (omega (arith, part-fits (at-start .args .table .now) (at-loop .loop .progress) (at-next .next .given .1) _ next-of))
-
-print-requires : tie.Need-print-requires Inv-loop μ-loop
-print-requires c κs = search needs
-
-same-length : tie.Need-same-length Inv-loop μ-loop
-same-length c = search needs
-
-same-length-2 : tie.Need-same-length-2 Inv-loop μ-loop
-same-length-2 c = search needs
-
-same-length-3 : tie.Need-same-length-3 Inv-loop μ-loop
-same-length-3 c = search needs
-
-same-length-4 : tie.Need-same-length-4 Inv-loop μ-loop
-same-length-4 c = search needs
-
-returns : tie.Need-returns Inv-loop μ-loop
-returns c = search needs
 
 loop-less : tie.Need-loop-less Inv-loop μ-loop
 loop-less c =
@@ -93,27 +71,9 @@ loop-again c = (
   search needs,
 )
 
-enum-told : tie.Need-enum-told Inv-loop μ-loop
-enum-told c = search needs
-
-same-length-5 : tie.Need-same-length-5 Inv-loop μ-loop
-same-length-5 c = search needs
-
-same-length-6 : tie.Need-same-length-6 Inv-loop μ-loop
-same-length-6 c = search needs
-
-same-length-7 : tie.Need-same-length-7 Inv-loop μ-loop
-same-length-7 c = search needs
-
-same-length-8 : tie.Need-same-length-8 Inv-loop μ-loop
-same-length-8 c = search needs
-
-returns-2 : tie.Need-returns-2 Inv-loop μ-loop
-returns-2 c = search needs
-
 pub print-parts-spec : {M : Type 1} → statement M
 print-parts-spec =
     tie.close
-    (tie.spec Inv-loop μ-loop loop-holds next-part-requires enum-known-next slice-reshare-prefix-print slice-aggregate-print print-requires
-    same-length same-length-2 same-length-3 same-length-4 returns loop-less loop-again enum-told same-length-5 same-length-6 same-length-7
-    same-length-8 returns-2)
+    (tie.spec Inv-loop μ-loop loop-holds next-part-requires (λ c. search needs) slice-reshare-prefix-print slice-aggregate-print
+    (λ c κs. search needs) (λ c. search needs) (λ c. search needs) (λ c. search needs) (λ c. search needs) (λ c. search needs) loop-less
+    loop-again (λ c. search needs) (λ c. search needs) (λ c. search needs) (λ c. search needs) (λ c. search needs) (λ c. search needs))

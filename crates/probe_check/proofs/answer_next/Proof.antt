@@ -7,18 +7,6 @@ use borrow.Author.Needs.{needs}
 use Rattle.probe_check.proofs.answer_next.Statement.{statement}
 use Rattle.probe_check.proofs.answer_next.Tie as tie
 
-slice-aggregate-next-table : tie.Need-slice-aggregate-next-table
-slice-aggregate-next-table c = search needs
-
-slice-aggregate-next-table-2 : tie.Need-slice-aggregate-next-table-2
-slice-aggregate-next-table-2 c = search needs
-
-next-table-requires : tie.Need-next-table-requires
-next-table-requires c κs = search needs
-
-enum-known-next : tie.Need-enum-known-next
-enum-known-next c = search needs
-
 array-share-prefix-table : tie.Need-array-share-prefix-table
 array-share-prefix-table c =
     let at-next-table = c .before .before .before .before in
@@ -30,20 +18,8 @@ slice-aggregate-answer-table c =
     let at-next-table = at-next .before .before .before in
     simp length-take (omega (arith, ap lengthOf (at-next .next .given .1), at-next-table .next-table .ensures))
 
-answer-table-requires : tie.Need-answer-table-requires
-answer-table-requires c κs = search needs
-
-enum-told : tie.Need-enum-told
-enum-told c = search needs
-
-returns : tie.Need-returns
-returns c = search needs
-
-returns-2 : tie.Need-returns-2
-returns-2 c = search needs
-
 pub answer-next-spec : {M : Type 1} → statement M
 answer-next-spec =
     tie.close
-    (tie.spec slice-aggregate-next-table slice-aggregate-next-table-2 next-table-requires enum-known-next array-share-prefix-table
-    slice-aggregate-answer-table answer-table-requires enum-told returns returns-2)
+    (tie.spec (λ c. search needs) (λ c. search needs) (λ c κs. search needs) (λ c. search needs) array-share-prefix-table
+    slice-aggregate-answer-table (λ c κs. search needs) (λ c. search needs) (λ c. search needs) (λ c. search needs))

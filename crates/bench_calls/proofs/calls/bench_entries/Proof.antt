@@ -8,18 +8,6 @@ use Rattle.bench_calls.specs.laws.BenchCallLaws.{entries-number}
 use Rattle.bench_calls.proofs.calls.bench_entries.Statement.{statement}
 use Rattle.bench_calls.proofs.calls.bench_entries.Tie as tie
 
-slice-aggregate-entries : tie.Need-slice-aggregate-entries
-slice-aggregate-entries c = search needs
-
-entries-requires : tie.Need-entries-requires
-entries-requires c κs = search needs
-
-enum-known-answer : tie.Need-enum-known-answer
-enum-known-answer c = search needs
-
-enum-known-answer-2 : tie.Need-enum-known-answer-2
-enum-known-answer-2 c = search needs
-
 returns : tie.Need-returns
 returns c =
     let at-entries = c .before .before .before .before in
@@ -37,4 +25,4 @@ returns-2 c =
 pub bench-entries-spec : {M : Type 1} → statement M
 bench-entries-spec =
     tie.close
-    (tie.spec slice-aggregate-entries entries-requires enum-known-answer enum-known-answer-2 returns returns-2)
+    (tie.spec (λ c. search needs) (λ c κs. search needs) (λ c. search needs) (λ c. search needs) returns returns-2)

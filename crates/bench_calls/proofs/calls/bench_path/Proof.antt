@@ -8,18 +8,6 @@ use Rattle.bench_calls.specs.laws.BenchCallLaws.{path-number}
 use Rattle.bench_calls.proofs.calls.bench_path.Statement.{statement}
 use Rattle.bench_calls.proofs.calls.bench_path.Tie as tie
 
-slice-aggregate-path : tie.Need-slice-aggregate-path
-slice-aggregate-path c = search needs
-
-path-requires : tie.Need-path-requires
-path-requires c κs = search needs
-
-enum-known-answer : tie.Need-enum-known-answer
-enum-known-answer c = search needs
-
-enum-known-answer-2 : tie.Need-enum-known-answer-2
-enum-known-answer-2 c = search needs
-
 returns : tie.Need-returns
 returns c =
     let at-path = c .before .before .before .before in
@@ -37,4 +25,4 @@ returns-2 c =
 pub bench-path-spec : {M : Type 1} → statement M
 bench-path-spec =
     tie.close
-    (tie.spec slice-aggregate-path path-requires enum-known-answer enum-known-answer-2 returns returns-2)
+    (tie.spec (λ c. search needs) (λ c κs. search needs) (λ c. search needs) (λ c. search needs) returns returns-2)

@@ -8,24 +8,6 @@ use Rattle.bench_calls.specs.laws.BenchCallLaws.{tree-number}
 use Rattle.bench_calls.proofs.calls.bench_tree.Statement.{statement}
 use Rattle.bench_calls.proofs.calls.bench_tree.Tie as tie
 
-slice-aggregate-tree : tie.Need-slice-aggregate-tree
-slice-aggregate-tree c = search needs
-
-slice-aggregate-tree-2 : tie.Need-slice-aggregate-tree-2
-slice-aggregate-tree-2 c = search needs
-
-slice-aggregate-tree-3 : tie.Need-slice-aggregate-tree-3
-slice-aggregate-tree-3 c = search needs
-
-tree-requires : tie.Need-tree-requires
-tree-requires c κs = search needs
-
-enum-known-answer : tie.Need-enum-known-answer
-enum-known-answer c = search needs
-
-enum-known-answer-2 : tie.Need-enum-known-answer-2
-enum-known-answer-2 c = search needs
-
 returns : tie.Need-returns
 returns c =
     let at-tree = c .before .before .before .before .before .before in
@@ -43,5 +25,5 @@ returns-2 c =
 pub bench-tree-spec : {M : Type 1} → statement M
 bench-tree-spec =
     tie.close
-    (tie.spec slice-aggregate-tree slice-aggregate-tree-2 slice-aggregate-tree-3 tree-requires enum-known-answer enum-known-answer-2 returns
-    returns-2)
+    (tie.spec (λ c. search needs) (λ c. search needs) (λ c. search needs) (λ c κs. search needs) (λ c. search needs) (λ c. search needs)
+    returns returns-2)

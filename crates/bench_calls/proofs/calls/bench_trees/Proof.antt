@@ -9,14 +9,8 @@ use borrow.Author.Needs.{needs}
 use Rattle.bench_calls.proofs.calls.bench_trees.Statement.{statement}
 use Rattle.bench_calls.proofs.calls.bench_trees.Tie as tie
 
-slice-aggregate-examine : tie.Need-slice-aggregate-examine
-slice-aggregate-examine c = search needs
-
 examine-requires : tie.Need-examine-requires
 examine-requires c κs = no-keys-yet
-
-enum-known-examined : tie.Need-enum-known-examined
-enum-known-examined c = search needs
 
 returns : tie.Need-returns
 returns c =
@@ -28,18 +22,12 @@ returns c =
     too-many (at-start .args .table .now) (at-examine .examine .result) examine-is (at-start .args .count) _
     (at-examined .examined .given .1) (omega (arith, c .if1 .taken, many))
 
-slice-aggregate-trees-of-table : tie.Need-slice-aggregate-trees-of-table
-slice-aggregate-trees-of-table c = search needs
-
 trees-of-table-requires : tie.Need-trees-of-table-requires
 trees-of-table-requires c κs =
     let at-examined = c .before .before .before .before in
     let at-examine = at-examined .before .before .before in
     let (_, the-passed) = at-examine .examine .ensures in
     let passed = the-passed _ (at-examined .examined .given .1) in (passed .0, omega (arith, c .before .if1 .left), passed .1)
-
-enum-known-examined-2 : tie.Need-enum-known-examined-2
-enum-known-examined-2 c = search needs
 
 returns-2 : tie.Need-returns-2
 returns-2 c =
@@ -63,5 +51,5 @@ returns-3 c =
 pub bench-trees-spec : {M : Type 1} → statement M
 bench-trees-spec =
     tie.close
-    (tie.spec slice-aggregate-examine examine-requires enum-known-examined returns slice-aggregate-trees-of-table trees-of-table-requires
-    enum-known-examined-2 returns-2 returns-3)
+    (tie.spec (λ c. search needs) examine-requires (λ c. search needs) returns (λ c. search needs) trees-of-table-requires
+    (λ c. search needs) returns-2 returns-3)

@@ -34,12 +34,6 @@ tree-in-network-requires c κs =
       omega (arith, path-ids-room, path-ids-length),
     )
 
-add-root : tie.Need-add-root Inv-loop μ-loop
-add-root c = search needs
-
-loop-less : tie.Need-loop-less Inv-loop μ-loop
-loop-less c = search needs
-
 loop-again : tie.Need-loop-again Inv-loop μ-loop
 loop-again c = (
   search needs,
@@ -48,16 +42,11 @@ loop-again c = (
   let at-tree-in-network = c .before .before .before .before in next-tree _ _ _ _ (at-tree-in-network .tree-in-network .ensures),
 )
 
-same-length : tie.Need-same-length Inv-loop μ-loop
-same-length c = search needs
-
-same-length-2 : tie.Need-same-length-2 Inv-loop μ-loop
-same-length-2 c = search needs
-
 returns : tie.Need-returns Inv-loop μ-loop
 returns c = all-trees _ _ _ _ _ (c .before .loop .inv .2) (c .loop-test .left) (c .before .loop .inv .3)
 
 pub make-trees-spec : {M : Type 1} → statement M
 make-trees-spec =
     tie.close
-    (tie.spec Inv-loop μ-loop loop-holds tree-in-network-requires add-root loop-less loop-again same-length same-length-2 returns)
+    (tie.spec Inv-loop μ-loop loop-holds tree-in-network-requires (λ c. search needs) (λ c. search needs) loop-again (λ c. search needs)
+    (λ c. search needs) returns)

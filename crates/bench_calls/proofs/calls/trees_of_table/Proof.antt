@@ -7,21 +7,6 @@ use borrow.Author.Needs.{needs}
 use Rattle.bench_calls.proofs.calls.trees_of_table.Statement.{statement}
 use Rattle.bench_calls.proofs.calls.trees_of_table.Tie as tie
 
-slice-aggregate-make-network : tie.Need-slice-aggregate-make-network
-slice-aggregate-make-network c = search needs
-
-make-network-requires : tie.Need-make-network-requires
-make-network-requires c κs = search needs
-
-slice-aggregate-make-trees : tie.Need-slice-aggregate-make-trees
-slice-aggregate-make-trees c = search needs
-
-slice-aggregate-make-trees-2 : tie.Need-slice-aggregate-make-trees-2
-slice-aggregate-make-trees-2 c = search needs
-
-slice-aggregate-make-trees-3 : tie.Need-slice-aggregate-make-trees-3
-slice-aggregate-make-trees-3 c = search needs
-
 make-trees-requires : tie.Need-make-trees-requires
 make-trees-requires c κs =
     let at-make-network = c .before .before .before .before in
@@ -32,12 +17,6 @@ make-trees-requires c κs =
       omega arith,
       omega arith,
     )
-
-slice-aggregate-cost-at : tie.Need-slice-aggregate-cost-at
-slice-aggregate-cost-at c = search needs
-
-cost-at-requires : tie.Need-cost-at-requires
-cost-at-requires c κs = search needs
 
 returns : tie.Need-returns
 returns c =
@@ -52,5 +31,5 @@ returns c =
 pub trees-of-table-spec : {M : Type 1} → statement M
 trees-of-table-spec =
     tie.close
-    (tie.spec slice-aggregate-make-network make-network-requires slice-aggregate-make-trees slice-aggregate-make-trees-2
-    slice-aggregate-make-trees-3 make-trees-requires slice-aggregate-cost-at cost-at-requires returns)
+    (tie.spec (λ c. search needs) (λ c κs. search needs) (λ c. search needs) (λ c. search needs) (λ c. search needs) make-trees-requires
+    (λ c. search needs) (λ c κs. search needs) returns)

@@ -7,12 +7,6 @@ use borrow.Author.Needs.{needs}
 use Rattle.branches.proofs.branches.branch_cost.Statement.{statement}
 use Rattle.branches.proofs.branches.branch_cost.Tie as tie
 
-cost-at-requires : tie.Need-cost-at-requires
-cost-at-requires c κs = search needs
-
-is-no-path-requires : tie.Need-is-no-path-requires
-is-no-path-requires c κs = search needs
-
 returns : tie.Need-returns
 returns c =
     let at-cost-at = c .before .before in
@@ -25,4 +19,4 @@ returns-2 c =
     (at-cost-at .cost-at .ensures)
 
 pub branch-cost-spec : {M : Type 1} → statement M
-branch-cost-spec = tie.close (tie.spec cost-at-requires is-no-path-requires returns returns-2)
+branch-cost-spec = tie.close (tie.spec (λ c κs. search needs) (λ c κs. search needs) returns returns-2)

@@ -7,19 +7,10 @@ use borrow.Author.Needs.{needs}
 use Rattle.branches.proofs.branches.branch_hops.Statement.{statement}
 use Rattle.branches.proofs.branches.branch_hops.Tie as tie
 
-cost-at-requires : tie.Need-cost-at-requires
-cost-at-requires c κs = search needs
-
-is-no-path-requires : tie.Need-is-no-path-requires
-is-no-path-requires c κs = search needs
-
 returns : tie.Need-returns
 returns c =
     let at-cost-at = c .before .before in
     rw (eq-eqb _ noPathCost (no-path (at-cost-at .cost-at .ensures) (c .before .is-no-path .ensures) (c .if1 .taken))) refl
-
-hops-at-requires : tie.Need-hops-at-requires
-hops-at-requires c κs = search needs
 
 returns-2 : tie.Need-returns-2
 returns-2 c =
@@ -30,4 +21,4 @@ returns-2 c =
 
 pub branch-hops-spec : {M : Type 1} → statement M
 branch-hops-spec =
-    tie.close (tie.spec cost-at-requires is-no-path-requires returns hops-at-requires returns-2)
+    tie.close (tie.spec (λ c κs. search needs) (λ c κs. search needs) returns (λ c κs. search needs) returns-2)

@@ -7,19 +7,10 @@ use borrow.Author.Needs.{needs}
 use Rattle.branches.proofs.branches.branch_last.Statement.{statement}
 use Rattle.branches.proofs.branches.branch_last.Tie as tie
 
-cost-at-requires : tie.Need-cost-at-requires
-cost-at-requires c κs = search needs
-
-is-no-path-requires : tie.Need-is-no-path-requires
-is-no-path-requires c κs = search needs
-
 returns : tie.Need-returns
 returns c =
     let at-cost-at = c .before .before in
     rw (eq-eqb _ noPathCost (no-path (at-cost-at .cost-at .ensures) (c .before .is-no-path .ensures) (c .if1 .taken))) refl
-
-next-number-requires : tie.Need-next-number-requires
-next-number-requires c κs = search needs
 
 returns-2 : tie.Need-returns-2
 returns-2 c =
@@ -30,5 +21,4 @@ returns-2 c =
 
 pub branch-last-spec : {M : Type 1} → statement M
 branch-last-spec =
-    tie.close
-    (tie.spec cost-at-requires is-no-path-requires returns next-number-requires returns-2)
+    tie.close (tie.spec (λ c κs. search needs) (λ c κs. search needs) returns (λ c κs. search needs) returns-2)

@@ -4,17 +4,11 @@ use borrow.Author.Needs.{needs}
 use Rattle.branches.proofs.branches.labelled_branches.Statement.{statement}
 use Rattle.branches.proofs.branches.labelled_branches.Tie as tie
 
-refused-requires : tie.Need-refused-requires
-refused-requires c κs = search needs
-
 returns : tie.Need-returns
 returns c =
     let at-start = c .before .before .before .before .before .before in
     short-costs (at-start .args .labels .now) (at-start .args .n) (at-start .args .costs .now) (at-start .args .hops .now)
     (at-start .args .lasts .now) _ (c .refused .ensures) (c .before .if1 .taken)
-
-refused-requires-2 : tie.Need-refused-requires-2
-refused-requires-2 c κs = search needs
 
 returns-2 : tie.Need-returns-2
 returns-2 c =
@@ -23,9 +17,6 @@ returns-2 c =
     short-hops (at-start .args .labels .now) (at-start .args .n) (at-start .args .costs .now) (at-start .args .hops .now)
     (at-start .args .lasts .now) _ (c .refused2 .ensures) (at-if1 .if1 .left) (c .before .if2 .taken)
 
-refused-requires-3 : tie.Need-refused-requires-3
-refused-requires-3 c κs = search needs
-
 returns-3 : tie.Need-returns-3
 returns-3 c =
     let at-if2 = c .before .before in
@@ -33,21 +24,6 @@ returns-3 c =
     let at-start = at-if1 .before .before .before .before .before in
     short-lasts (at-start .args .labels .now) (at-start .args .n) (at-start .args .costs .now) (at-start .args .hops .now)
     (at-start .args .lasts .now) _ (c .refused3 .ensures) (at-if1 .if1 .left) (at-if2 .if2 .left) (c .before .if3 .taken)
-
-write-branches-requires : tie.Need-write-branches-requires
-write-branches-requires c κs = search needs
-
-cast-t15 : tie.Need-cast-t15
-cast-t15 c = search needs
-
-same-length : tie.Need-same-length
-same-length c = search needs
-
-same-length-2 : tie.Need-same-length-2
-same-length-2 c = search needs
-
-same-length-3 : tie.Need-same-length-3
-same-length-3 c = search needs
 
 returns-4 : tie.Need-returns-4
 returns-4 c =
@@ -63,5 +39,5 @@ returns-4 c =
 pub labelled-branches-spec : {M : Type 1} → statement M
 labelled-branches-spec =
     tie.close
-    (tie.spec refused-requires returns refused-requires-2 returns-2 refused-requires-3 returns-3 write-branches-requires cast-t15
-    same-length same-length-2 same-length-3 returns-4)
+    (tie.spec (λ c κs. search needs) returns (λ c κs. search needs) returns-2 (λ c κs. search needs) returns-3 (λ c κs. search needs)
+    (λ c. search needs) (λ c. search needs) (λ c. search needs) (λ c. search needs) returns-4)

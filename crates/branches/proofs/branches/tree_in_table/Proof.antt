@@ -10,15 +10,6 @@ use Rattle.branches.specs.laws.BranchCalls.{no-branches-named, named-bra
 use Rattle.branches.proofs.branches.tree_in_table.Statement.{statement}
 use Rattle.branches.proofs.branches.tree_in_table.Tie as tie
 
-slice-aggregate-named-tree : tie.Need-slice-aggregate-named-tree
-slice-aggregate-named-tree c = search needs
-
-named-tree-requires : tie.Need-named-tree-requires
-named-tree-requires c κs = search needs
-
-refused-requires : tie.Need-refused-requires
-refused-requires c κs = search needs
-
 returns : tie.Need-returns
 returns c =
     let at-named-tree = c .before .before .before in
@@ -28,23 +19,10 @@ returns c =
     (at-start .args .from) (at-named-tree .named-tree .ensures) _ (c .refused .ensures) (at-start .args .costs .now)
     (at-start .args .hops .now) (at-start .args .lasts .now) (c .before .if1 .taken)
 
-slice-aggregate-labelled-branches : tie.Need-slice-aggregate-labelled-branches
-slice-aggregate-labelled-branches c = search needs
-
 labelled-branches-requires : tie.Need-labelled-branches-requires
 labelled-branches-requires c κs =
     let at-start = c .before .before .before .before .before .before .before .before .before .before .before .before .before in
-    let (checked, _) = at-start .pre in
-    (omega arith, few-bridges checked)
-
-same-length : tie.Need-same-length
-same-length c = search needs
-
-same-length-2 : tie.Need-same-length-2
-same-length-2 c = search needs
-
-same-length-3 : tie.Need-same-length-3
-same-length-3 c = search needs
+    let (checked, _) = at-start .pre in (omega arith, few-bridges checked)
 
 returns-2 : tie.Need-returns-2
 returns-2 c =
@@ -61,5 +39,5 @@ returns-2 c =
 pub tree-in-table-spec : {M : Type 1} → statement M
 tree-in-table-spec =
     tie.close
-    (tie.spec slice-aggregate-named-tree named-tree-requires refused-requires returns slice-aggregate-labelled-branches
-    labelled-branches-requires same-length same-length-2 same-length-3 returns-2)
+    (tie.spec (λ c. search needs) (λ c κs. search needs) (λ c κs. search needs) returns (λ c. search needs) labelled-branches-requires
+    (λ c. search needs) (λ c. search needs) (λ c. search needs) returns-2)

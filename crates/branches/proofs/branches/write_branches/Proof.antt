@@ -16,39 +16,6 @@ abbrev μ-loop : tie.MeasureT-loop
 loop-holds : tie.Need-loop-holds Inv-loop μ-loop
 loop-holds c = (filling-starts _ _ _, filling-starts _ _ _, filling-starts _ _ _)
 
-branch-cost-requires : tie.Need-branch-cost-requires Inv-loop μ-loop
-branch-cost-requires c κs = search needs
-
-mul-costs : tie.Need-mul-costs Inv-loop μ-loop
-mul-costs c = search needs
-
-slice-write-costs : tie.Need-slice-write-costs Inv-loop μ-loop
-slice-write-costs c = search needs
-
-branch-hops-requires : tie.Need-branch-hops-requires Inv-loop μ-loop
-branch-hops-requires c κs = search needs
-
-mul-hops : tie.Need-mul-hops Inv-loop μ-loop
-mul-hops c = search needs
-
-slice-write-hops : tie.Need-slice-write-hops Inv-loop μ-loop
-slice-write-hops c = search needs
-
-branch-last-requires : tie.Need-branch-last-requires Inv-loop μ-loop
-branch-last-requires c κs = search needs
-
-mul-lasts : tie.Need-mul-lasts Inv-loop μ-loop
-mul-lasts c = search needs
-
-slice-write-lasts : tie.Need-slice-write-lasts Inv-loop μ-loop
-slice-write-lasts c = search needs
-
-add-u : tie.Need-add-u Inv-loop μ-loop
-add-u c = search needs
-
-loop-less : tie.Need-loop-less Inv-loop μ-loop
-loop-less c = search needs
-
 loop-again : tie.Need-loop-again Inv-loop μ-loop
 loop-again c =
     let at-branch-cost = c .before .before in
@@ -63,19 +30,9 @@ loop-again c =
       filling-on filling-λ-3 _ lasts-room loop-test-taken (c .branch-last .ensures),
     )
 
-same-length : tie.Need-same-length Inv-loop μ-loop
-same-length c = search needs
-
-same-length-2 : tie.Need-same-length-2 Inv-loop μ-loop
-same-length-2 c = search needs
-
-same-length-3 : tie.Need-same-length-3 Inv-loop μ-loop
-same-length-3 c = search needs
-
 returns : tie.Need-returns Inv-loop μ-loop
 returns c =
-    let at-loop = c .before in
-    let (filling-λ, the-filling-λ, filling-λ-3) = at-loop .loop .inv in
+    let (filling-λ, the-filling-λ, filling-λ-3) = c .before .loop .inv in
     let loop-test-left = c .loop-test .left in
     record {
       costs-are = filling-ends filling-λ loop-test-left;
@@ -86,5 +43,6 @@ returns c =
 pub write-branches-spec : {M : Type 1} → statement M
 write-branches-spec =
     tie.close
-    (tie.spec Inv-loop μ-loop loop-holds branch-cost-requires mul-costs slice-write-costs branch-hops-requires mul-hops slice-write-hops
-    branch-last-requires mul-lasts slice-write-lasts add-u loop-less loop-again same-length same-length-2 same-length-3 returns)
+    (tie.spec Inv-loop μ-loop loop-holds (λ c κs. search needs) (λ c. search needs) (λ c. search needs) (λ c κs. search needs)
+    (λ c. search needs) (λ c. search needs) (λ c κs. search needs) (λ c. search needs) (λ c. search needs) (λ c. search needs)
+    (λ c. search needs) loop-again (λ c. search needs) (λ c. search needs) (λ c. search needs) returns)

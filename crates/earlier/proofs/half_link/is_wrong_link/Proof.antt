@@ -10,9 +10,6 @@ use borrow.Author.Needs.{needs}
 use Rattle.earlier.proofs.half_link.is_wrong_link.Statement.{statement}
 use Rattle.earlier.proofs.half_link.is_wrong_link.Tie as tie
 
-last-place-requires : tie.Need-last-place-requires
-last-place-requires c κs = search needs
-
 returns : tie.Need-returns
 returns c =
     let at-start = c .before .before .before .before in
@@ -42,18 +39,6 @@ returns-2 c =
     third-of-number keyed (halfLinkValues (at-start .args .h)) (at-last-place .last-place .result) (at-last-place .last-place .ensures)
     (at-if1 .if1 .left) (c .before .place-before .result) (c .before .place-before .ensures) (c .if2 .taken)
 
-cast-at : tie.Need-cast-at
-cast-at c = search needs
-
-sub-at : tie.Need-sub-at
-sub-at c = search needs
-
-mul-at : tie.Need-mul-at
-mul-at c = search needs
-
-add-at : tie.Need-add-at
-add-at c = search needs
-
 half-link-at-requires : tie.Need-half-link-at-requires
 half-link-at-requires c κs =
     let at-last-place = c .before .before .before in
@@ -63,9 +48,6 @@ half-link-at-requires c κs =
       at-last-place .last-place .ensures,
       last-within (holds (at-start .args .link-index .now) (at-start .args .h .link)) (at-start .args .count),
     )
-
-is-mirror-requires : tie.Need-is-mirror-requires
-is-mirror-requires c κs = search needs
 
 returns-3 : tie.Need-returns-3
 returns-3 c =
@@ -83,5 +65,5 @@ returns-3 c =
 pub is-wrong-link-spec : {M : Type 1} → statement M
 is-wrong-link-spec =
     tie.close
-    (tie.spec last-place-requires returns place-before-requires returns-2 cast-at sub-at mul-at add-at half-link-at-requires
-    is-mirror-requires returns-3)
+    (tie.spec (λ c κs. search needs) returns place-before-requires returns-2 (λ c. search needs) (λ c. search needs) (λ c. search needs)
+    (λ c. search needs) half-link-at-requires (λ c κs. search needs) returns-3)

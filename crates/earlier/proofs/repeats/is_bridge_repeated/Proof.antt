@@ -20,15 +20,6 @@ abbrev μ-loop : tie.MeasureT-loop
 loop-holds : tie.Need-loop-holds Inv-loop μ-loop
 loop-holds c = search-starts _ _
 
-mul-bridge-at : tie.Need-mul-bridge-at Inv-loop μ-loop
-mul-bridge-at c = search needs
-
-bridge-at-requires : tie.Need-bridge-at-requires Inv-loop μ-loop
-bridge-at-requires c κs = search needs
-
-repeats-bridge-requires : tie.Need-repeats-bridge-requires Inv-loop μ-loop
-repeats-bridge-requires c κs = search needs
-
 returns : tie.Need-returns Inv-loop μ-loop
 returns c =
     let at-bridge-at = c .before .before in
@@ -38,12 +29,6 @@ returns c =
     record-found bridgeOf 3 0 (wordsOf (at-start .args .table .now)) (repeatsBridge (bridgeValues (at-start .args .b))) (at-loop .loop .inv)
     (3 * at-loop .loop .i) (bridgeValues (at-bridge-at .bridge-at .result)) (c .before .repeats-bridge .result)
     (at-loop-test .loop-test .taken) (omega arith) (at-bridge-at .bridge-at .ensures) (c .before .repeats-bridge .ensures) (c .if1 .taken)
-
-add-i : tie.Need-add-i Inv-loop μ-loop
-add-i c = search needs
-
-loop-less : tie.Need-loop-less Inv-loop μ-loop
-loop-less c = search needs
 
 loop-again : tie.Need-loop-again Inv-loop μ-loop
 loop-again c =
@@ -64,5 +49,5 @@ returns-2 c =
 pub is-bridge-repeated-spec : {M : Type 1} → statement M
 is-bridge-repeated-spec =
     tie.close
-    (tie.spec Inv-loop μ-loop loop-holds mul-bridge-at bridge-at-requires repeats-bridge-requires returns add-i loop-less loop-again
-    returns-2)
+    (tie.spec Inv-loop μ-loop loop-holds (λ c. search needs) (λ c κs. search needs) (λ c κs. search needs) returns (λ c. search needs)
+    (λ c. search needs) loop-again returns-2)

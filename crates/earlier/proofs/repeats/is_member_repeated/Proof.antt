@@ -20,18 +20,6 @@ abbrev μ-loop : tie.MeasureT-loop
 loop-holds : tie.Need-loop-holds Inv-loop μ-loop
 loop-holds c = search-starts _ _
 
-mul-member-at : tie.Need-mul-member-at Inv-loop μ-loop
-mul-member-at c = search needs
-
-add-member-at : tie.Need-add-member-at Inv-loop μ-loop
-add-member-at c = search needs
-
-member-at-requires : tie.Need-member-at-requires Inv-loop μ-loop
-member-at-requires c κs = search needs
-
-repeats-member-requires : tie.Need-repeats-member-requires Inv-loop μ-loop
-repeats-member-requires c κs = search needs
-
 returns : tie.Need-returns Inv-loop μ-loop
 returns c =
     let at-member-at = c .before .before in
@@ -42,12 +30,6 @@ returns c =
     (at-loop .loop .inv) (at-start .args .from + 2 * at-loop .loop .i) (memberValues (at-member-at .member-at .result))
     (c .before .repeats-member .result) (at-loop-test .loop-test .taken) (omega arith) (at-member-at .member-at .ensures)
     (c .before .repeats-member .ensures) (c .if1 .taken)
-
-add-i : tie.Need-add-i Inv-loop μ-loop
-add-i c = search needs
-
-loop-less : tie.Need-loop-less Inv-loop μ-loop
-loop-less c = search needs
 
 loop-again : tie.Need-loop-again Inv-loop μ-loop
 loop-again c =
@@ -69,5 +51,5 @@ returns-2 c =
 pub is-member-repeated-spec : {M : Type 1} → statement M
 is-member-repeated-spec =
     tie.close
-    (tie.spec Inv-loop μ-loop loop-holds mul-member-at add-member-at member-at-requires repeats-member-requires returns add-i loop-less
-    loop-again returns-2)
+    (tie.spec Inv-loop μ-loop loop-holds (λ c. search needs) (λ c. search needs) (λ c κs. search needs) (λ c κs. search needs) returns
+    (λ c. search needs) (λ c. search needs) loop-again returns-2)

@@ -22,12 +22,6 @@ abbrev μ-loop : tie.MeasureT-loop
 loop-holds : tie.Need-loop-holds Inv-loop μ-loop
 loop-holds c = search-starts _ _
 
-add-vid-at : tie.Need-add-vid-at Inv-loop μ-loop
-add-vid-at c = search needs
-
-vid-at-requires : tie.Need-vid-at-requires Inv-loop μ-loop
-vid-at-requires c κs = search needs
-
 returns : tie.Need-returns Inv-loop μ-loop
 returns c =
     let at-vid-at = c .before .before in
@@ -37,12 +31,6 @@ returns c =
     record-found vidOf 1 (at-start .args .from) (wordsOf (at-start .args .table .now)) (hasVid (at-start .args .vid)) (at-loop .loop .inv)
     (at-start .args .from + at-loop .loop .i) (vidValues (at-vid-at .vid-at .result)) _ (at-loop-test .loop-test .taken) (omega arith)
     (at-vid-at .vid-at .ensures) refl (eq-eqb _ _ (c .if1 .taken))
-
-add-i : tie.Need-add-i Inv-loop μ-loop
-add-i c = search needs
-
-loop-less : tie.Need-loop-less Inv-loop μ-loop
-loop-less c = search needs
 
 loop-again : tie.Need-loop-again Inv-loop μ-loop
 loop-again c =
@@ -63,4 +51,5 @@ returns-2 c =
 pub is-vid-known-spec : {M : Type 1} → statement M
 is-vid-known-spec =
     tie.close
-    (tie.spec Inv-loop μ-loop loop-holds add-vid-at vid-at-requires returns add-i loop-less loop-again returns-2)
+    (tie.spec Inv-loop μ-loop loop-holds (λ c. search needs) (λ c κs. search needs) returns (λ c. search needs) (λ c. search needs)
+    loop-again returns-2)

@@ -7,9 +7,6 @@ use borrow.Author.Needs.{needs}
 use Rattle.ect.proofs.mask.masked_identifier.Statement.{statement}
 use Rattle.ect.proofs.mask.masked_identifier.Tie as tie
 
-spread-mask-requires : tie.Need-spread-mask-requires
-spread-mask-requires c κs = search needs
-
 returns : tie.Need-returns
 returns c =
     let at-start = c .before in
@@ -17,4 +14,4 @@ returns c =
     ∙ eight-bytes (at-start .args .mask) (at-start .args .identifier) (omega arith) (omega arith)
 
 pub masked-identifier-spec : {M : Type 1} → statement M
-masked-identifier-spec = tie.close (tie.spec spread-mask-requires returns)
+masked-identifier-spec = tie.close (tie.spec (λ c κs. search needs) returns)

@@ -4,12 +4,9 @@ use borrow.Author.Needs.{needs}
 use Rattle.ect.proofs.mask.spread_mask.Statement.{statement}
 use Rattle.ect.proofs.mask.spread_mask.Tie as tie
 
-mul-result : tie.Need-mul-result
-mul-result c = search needs
-
 returns : tie.Need-returns
 unfolding spread
 returns c = search needs
 
 pub spread-mask-spec : {M : Type 1} → statement M
-spread-mask-spec = tie.close (tie.spec mul-result returns)
+spread-mask-spec = tie.close (tie.spec (λ c. search needs) returns)

@@ -16,11 +16,7 @@ abbrev μ-loop : tie.MeasureT-loop
 cost-at-requires : tie.Need-cost-at-requires Inv-loop μ-loop
 cost-at-requires c κs =
     let at-start = c .before .before in
-    let (walkable-from, labels-room, _) = at-start .pre in
-    omega (arith, walkable-from .inside, walkable-from .walkable .most, labels-room)
-
-is-no-path-requires : tie.Need-is-no-path-requires Inv-loop μ-loop
-is-no-path-requires c κs = search needs
+    let (walkable-from, labels-room, _) = at-start .pre in omega (arith, walkable-from .inside, walkable-from .walkable .most, labels-room)
 
 returns : tie.Need-returns Inv-loop μ-loop
 returns c =
@@ -37,18 +33,13 @@ loop-holds c =
 hops-at-requires : tie.Need-hops-at-requires Inv-loop μ-loop
 hops-at-requires c κs =
     let at-start = c .before .before .before .before .before .before in
-    let (_, labels-room, _) = at-start .pre in
-    omega (arith, walking-inside (c .loop .inv), labels-room)
-
-differs-requires : tie.Need-differs-requires Inv-loop μ-loop
-differs-requires c κs = search needs
+    let (_, labels-room, _) = at-start .pre in omega (arith, walking-inside (c .loop .inv), labels-room)
 
 next-number-requires : tie.Need-next-number-requires Inv-loop μ-loop
 next-number-requires c κs =
     let at-loop = c .before .before .before in
     let at-start = at-loop .before .before .before .before .before .before in
-    let (_, labels-room, _) = at-start .pre in
-    omega (arith, walking-inside (at-loop .loop .inv), labels-room)
+    let (_, labels-room, _) = at-start .pre in omega (arith, walking-inside (at-loop .loop .inv), labels-room)
 
 mul-result : tie.Need-mul-result Inv-loop μ-loop
 mul-result c =
@@ -59,8 +50,7 @@ shared-slice-read-result : tie.Need-shared-slice-read-result Inv-loop μ-loop
 shared-slice-read-result c =
     let at-loop = c .before .before .before .before .before .before in
     let at-start = at-loop .before .before .before .before .before .before in
-    let (_, _, hops-room) = at-start .pre in
-    omega (arith, walking-inside (at-loop .loop .inv), hops-room)
+    let (_, _, hops-room) = at-start .pre in omega (arith, walking-inside (at-loop .loop .inv), hops-room)
 
 returns-2 : tie.Need-returns-2 Inv-loop μ-loop
 returns-2 c =
@@ -112,5 +102,5 @@ returns-3 c =
 pub egress-port-spec : {M : Type 1} → statement M
 egress-port-spec =
     tie.close
-    (tie.spec Inv-loop μ-loop cost-at-requires is-no-path-requires returns loop-holds hops-at-requires differs-requires next-number-requires
-    mul-result shared-slice-read-result returns-2 cast-c loop-less loop-again returns-3)
+    (tie.spec Inv-loop μ-loop cost-at-requires (λ c κs. search needs) returns loop-holds hops-at-requires (λ c κs. search needs)
+    next-number-requires mul-result shared-slice-read-result returns-2 cast-c loop-less loop-again returns-3)

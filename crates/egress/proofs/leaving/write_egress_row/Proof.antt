@@ -14,8 +14,7 @@ abbrev μ-loop : tie.MeasureT-loop
 loop-holds : tie.Need-loop-holds Inv-loop μ-loop
 loop-holds c =
     let at-start = c .before .before .before in
-    let (_, _, _, egress-rows-room) = at-start .pre in
-    rowing-starts _ _ _ _ _ _ egress-rows-room
+    let (_, _, _, egress-rows-room) = at-start .pre in rowing-starts _ _ _ _ _ _ egress-rows-room
 
 egress-port-requires : tie.Need-egress-port-requires Inv-loop μ-loop
 egress-port-requires c κs =
@@ -23,22 +22,10 @@ egress-port-requires c κs =
     let (the-walkable, labels-room, hops-room, _) = at-start .pre in
     (record { count = (at-start .args .n); walkable = the-walkable; inside = (c .loop-test .taken) }, labels-room, hops-room)
 
-add-egress-rows : tie.Need-add-egress-rows Inv-loop μ-loop
-add-egress-rows c = search needs
-
-mul-egress-rows : tie.Need-mul-egress-rows Inv-loop μ-loop
-mul-egress-rows c = search needs
-
 slice-write-egress-rows : tie.Need-slice-write-egress-rows Inv-loop μ-loop
 slice-write-egress-rows c =
     let at-loop = c .before .before in
     rowing-room ((at-loop .loop .inv)) ((c .before .loop-test .taken))
-
-add-d : tie.Need-add-d Inv-loop μ-loop
-add-d c = search needs
-
-loop-less : tie.Need-loop-less Inv-loop μ-loop
-loop-less c = search needs
 
 loop-again : tie.Need-loop-again Inv-loop μ-loop
 loop-again c =
@@ -54,5 +41,5 @@ returns c = rowing-ends ((c .before .loop .inv)) ((c .loop-test .left))
 pub write-egress-row-spec : {M : Type 1} → statement M
 write-egress-row-spec =
     tie.close
-    (tie.spec Inv-loop μ-loop loop-holds egress-port-requires add-egress-rows mul-egress-rows slice-write-egress-rows add-d loop-less
-    loop-again same-length returns)
+    (tie.spec Inv-loop μ-loop loop-holds egress-port-requires (λ c. search needs) (λ c. search needs) slice-write-egress-rows
+    (λ c. search needs) (λ c. search needs) loop-again same-length returns)

@@ -8,21 +8,6 @@ use Rattle.egress.specs.laws.RowLaws.{kept-all, row-added, row-kept, row
 use Rattle.egress.proofs.rows.keep_egress_row.Statement.{statement}
 use Rattle.egress.proofs.rows.keep_egress_row.Tie as tie
 
-sub-slot : tie.Need-sub-slot
-sub-slot c = search needs
-
-mul-slot : tie.Need-mul-slot
-mul-slot c = search needs
-
-add-slot : tie.Need-add-slot
-add-slot c = search needs
-
-mul-if1 : tie.Need-mul-if1
-mul-if1 c = search needs
-
-slice-read-if1 : tie.Need-slice-read-if1
-slice-read-if1 c = search needs
-
 returns : tie.Need-returns
 returns c =
     let at-start = c .before .before .before .before .before .before .before in
@@ -34,21 +19,6 @@ kept-tree-requires c κs =
     let at-start = c .before .before .before .before .before .before .before .before .before in
     let ((is-network, _, path-ids-room, trees-kept), (index-least, index-bound, a-bound, _, _)) = at-start .pre in
     ((is-network, index-least, index-bound, omega (arith, a-bound)), (path-ids-room, trees-kept))
-
-mul-place : tie.Need-mul-place
-mul-place c = search needs
-
-add-place : tie.Need-add-place
-add-place c = search needs
-
-cast-egress-rows : tie.Need-cast-egress-rows
-cast-egress-rows c = search needs
-
-mul-egress-rows : tie.Need-mul-egress-rows
-mul-egress-rows c = search needs
-
-slice-write-egress-rows : tie.Need-slice-write-egress-rows
-slice-write-egress-rows c = search needs
 
 add-write-egress-row : tie.Need-add-write-egress-row
 add-write-egress-row c =
@@ -64,21 +34,11 @@ mul-write-egress-row c =
     let (_, (kept-tree-bound, _)) = at-kept-tree .kept-tree .ensures in
     omega (arith, kept-tree-bound, (c .before .store .given), (at-good .good))
 
-sub-write-egress-row : tie.Need-sub-write-egress-row
-sub-write-egress-row c = search needs
-
-part-write-egress-row-start : tie.Need-part-write-egress-row-start
-part-write-egress-row-start c = search needs
-
-part-write-egress-row-end : tie.Need-part-write-egress-row-end
-part-write-egress-row-end c = search needs
-
 bridges-requires : tie.Need-bridges-requires
 bridges-requires c κs =
     let at-start =
     c .before .before .before .before .before .before .before .before .before .before .before .before .before .before .before .before in
-    let ((is-network, _, _, _), _) = at-start .pre in
-    is-network .network .size
+    let ((is-network, _, _, _), _) = at-start .pre in is-network .network .size
 
 write-egress-row-requires : tie.Need-write-egress-row-requires
 write-egress-row-requires c κs =
@@ -98,14 +58,7 @@ add-result : tie.Need-add-result
 add-result c =
     let at-start =
     c .before .before .before .before .before .before .before .before .before .before .before .before .before .before .before .before .before .before .before .before .before in
-    let (_, (_, _, _, count-bound, _)) = at-start .pre in
-    omega (arith, count-bound)
-
-same-length : tie.Need-same-length
-same-length c = search needs
-
-same-length-2 : tie.Need-same-length-2
-same-length-2 c = search needs
+    let (_, (_, _, _, count-bound, _)) = at-start .pre in omega (arith, count-bound)
 
 same-length-3 : tie.Need-same-length-3
 same-length-3 c =
@@ -150,6 +103,7 @@ returns-2 c =
 pub keep-egress-row-spec : {M : Type 1} → statement M
 keep-egress-row-spec =
     tie.close
-    (tie.spec sub-slot mul-slot add-slot mul-if1 slice-read-if1 returns kept-tree-requires mul-place add-place cast-egress-rows
-    mul-egress-rows slice-write-egress-rows add-write-egress-row mul-write-egress-row sub-write-egress-row part-write-egress-row-start
-    part-write-egress-row-end bridges-requires write-egress-row-requires add-result same-length same-length-2 same-length-3 returns-2)
+    (tie.spec (λ c. search needs) (λ c. search needs) (λ c. search needs) (λ c. search needs) (λ c. search needs) returns
+    kept-tree-requires (λ c. search needs) (λ c. search needs) (λ c. search needs) (λ c. search needs) (λ c. search needs)
+    add-write-egress-row mul-write-egress-row (λ c. search needs) (λ c. search needs) (λ c. search needs) bridges-requires
+    write-egress-row-requires add-result (λ c. search needs) (λ c. search needs) same-length-3 returns-2)

@@ -12,14 +12,7 @@ use Rattle.entries.proofs.list.entries_in_table.Tie as tie
 returns : tie.Need-returns
 returns c =
     let at-start = c .before .before .before .before .before in
-    let (checked, _) = at-start .pre in
-    lacks-bridge checked ((at-start .args .bridge)) ((c .if1 .taken)) ((at-start .args .list .now))
-
-slice-aggregate-list-of-table : tie.Need-slice-aggregate-list-of-table
-slice-aggregate-list-of-table c = search needs
-
-list-of-table-requires : tie.Need-list-of-table-requires
-list-of-table-requires c κs = search needs
+    let (checked, _) = at-start .pre in lacks-bridge checked ((at-start .args .bridge)) ((c .if1 .taken)) ((at-start .args .list .now))
 
 array-share-prefix-words : tie.Need-array-share-prefix-words
 array-share-prefix-words c =
@@ -46,9 +39,6 @@ fitted-requires c κs =
     simp length-take
     (omega (arith, few-made checked ((at-start .args .bridge)) ((at-if1 .if1 .left)) ((at-list-of-table .list-of-table .ensures))))
 
-same-length : tie.Need-same-length
-same-length c = search needs
-
 returns-2 : tie.Need-returns-2
 returns-2 c =
     let at-fitted = c .before .before in
@@ -63,5 +53,5 @@ returns-2 c =
 pub entries-in-table-spec : {M : Type 1} → statement M
 entries-in-table-spec =
     tie.close
-    (tie.spec returns slice-aggregate-list-of-table list-of-table-requires array-share-prefix-words slice-aggregate-fitted fitted-requires
-    same-length returns-2)
+    (tie.spec returns (λ c. search needs) (λ c κs. search needs) array-share-prefix-words slice-aggregate-fitted fitted-requires
+    (λ c. search needs) returns-2)

@@ -10,15 +10,6 @@ returns c =
     let at-start = c .before .before .before in
     fits-not ((at-start .args .words .now)) ((at-start .args .list .now)) ((c .if1 .taken))
 
-copy-requires : tie.Need-copy-requires
-copy-requires c κs = search needs
-
-cast-t10 : tie.Need-cast-t10
-cast-t10 c = search needs
-
-same-length : tie.Need-same-length
-same-length c = search needs
-
 returns-2 : tie.Need-returns-2
 returns-2 c =
     let at-copy = c .before .before in
@@ -27,4 +18,4 @@ returns-2 c =
     fits-in ((at-start .args .words .now)) ((at-start .args .list .now)) ((at-if1 .if1 .left)) ((at-copy .copy .ensures))
 
 pub fitted-spec : {M : Type 1} → statement M
-fitted-spec = tie.close (tie.spec returns copy-requires cast-t10 same-length returns-2)
+fitted-spec = tie.close (tie.spec returns (λ c κs. search needs) (λ c. search needs) (λ c. search needs) returns-2)

@@ -10,9 +10,6 @@ use borrow.Author.Needs.{needs}
 use Rattle.entries.proofs.list.list_in_network.Statement.{statement}
 use Rattle.entries.proofs.list.list_in_network.Tie as tie
 
-slice-aggregate-hop-ports : tie.Need-slice-aggregate-hop-ports
-slice-aggregate-hop-ports c = search needs
-
 hop-ports-requires : tie.Need-hop-ports-requires
 hop-ports-requires c κs =
     let at-start = c .before .before .before .before .before .before in
@@ -21,12 +18,6 @@ hop-ports-requires c κs =
       in-network table-network (at-start .args .b) b-bound,
       omega (arith, bridges-in-table table-network, few-bridges (table-network .checked)),
     )
-
-slice-aggregate-rising-ports : tie.Need-slice-aggregate-rising-ports
-slice-aggregate-rising-ports c = search needs
-
-slice-aggregate-rising-ports-2 : tie.Need-slice-aggregate-rising-ports-2
-slice-aggregate-rising-ports-2 c = search needs
 
 rising-ports-requires : tie.Need-rising-ports-requires
 rising-ports-requires c κs =
@@ -40,12 +31,6 @@ rising-ports-requires c κs =
       omega (arith, few-bridges checked),
     )
 
-slice-aggregate-keep-egress-rows : tie.Need-slice-aggregate-keep-egress-rows
-slice-aggregate-keep-egress-rows c = search needs
-
-slice-aggregate-keep-egress-rows-2 : tie.Need-slice-aggregate-keep-egress-rows-2
-slice-aggregate-keep-egress-rows-2 c = search needs
-
 keep-egress-rows-requires : tie.Need-keep-egress-rows-requires
 keep-egress-rows-requires c κs =
     let at-hop-ports = c .before .before .before .before .before .before .before .before .before in
@@ -58,17 +43,10 @@ keep-egress-rows-requires c κs =
           (λ i l. getD-replicate {A = ℕ} 6144 i 0 0 (omega arith)),
     )
 
-slice-aggregate-whole-list : tie.Need-slice-aggregate-whole-list
-slice-aggregate-whole-list c = search needs
-
-array-share-prefix-rises : tie.Need-array-share-prefix-rises
-array-share-prefix-rises c = search needs
-
 slice-aggregate-whole-list-2 : tie.Need-slice-aggregate-whole-list-2
 slice-aggregate-whole-list-2 c =
     let at-rising-ports = c .before .before .before .before .before .before .before .before .before .before .before .before .before in
-    let (_, rising-ports-bound) = at-rising-ports .rising-ports .ensures in
-    simp length-take (omega (arith, rising-ports-bound))
+    let (_, rising-ports-bound) = at-rising-ports .rising-ports .ensures in simp length-take (omega (arith, rising-ports-bound))
 
 whole-list-requires : tie.Need-whole-list-requires
 whole-list-requires c κs =
@@ -83,15 +61,6 @@ whole-list-requires c κs =
       whole-room table-network (at-start .args .b) b-bound (at-hop-ports .hop-ports .ensures) rising-ports egress-rows-ready
           (at-start .args .words .now) words-room,
     )
-
-same-length : tie.Need-same-length
-same-length c = search needs
-
-same-length-2 : tie.Need-same-length-2
-same-length-2 c = search needs
-
-same-length-3 : tie.Need-same-length-3
-same-length-3 c = search needs
 
 returns : tie.Need-returns
 returns c =
@@ -111,6 +80,6 @@ returns c =
 pub list-in-network-spec : {M : Type 1} → statement M
 list-in-network-spec =
     tie.close
-    (tie.spec slice-aggregate-hop-ports hop-ports-requires slice-aggregate-rising-ports slice-aggregate-rising-ports-2 rising-ports-requires
-    slice-aggregate-keep-egress-rows slice-aggregate-keep-egress-rows-2 keep-egress-rows-requires slice-aggregate-whole-list
-    array-share-prefix-rises slice-aggregate-whole-list-2 whole-list-requires same-length same-length-2 same-length-3 returns)
+    (tie.spec (λ c. search needs) hop-ports-requires (λ c. search needs) (λ c. search needs) rising-ports-requires (λ c. search needs)
+    (λ c. search needs) keep-egress-rows-requires (λ c. search needs) (λ c. search needs) slice-aggregate-whole-list-2 whole-list-requires
+    (λ c. search needs) (λ c. search needs) (λ c. search needs) returns)

@@ -39,24 +39,13 @@ member-requires : tie.Need-member-requires Inv-loop μ-loop
 member-requires c κs =
     let at-start =
     c .before .before .before .before .before .before .before .before .before .before .before .before .before .before .before .before .before .before .before in
-    let (hops-ready, _, _, _) = at-start .pre in
-    (hops-ready .table-network .checked .whole, c .if1 .taken)
-
-cast-a : tie.Need-cast-a Inv-loop μ-loop
-cast-a c = search needs
+    let (hops-ready, _, _, _) = at-start .pre in (hops-ready .table-network .checked .whole, c .if1 .taken)
 
 transmitter-index-requires : tie.Need-transmitter-index-requires Inv-loop μ-loop
 transmitter-index-requires c κs =
     let at-start =
     c .before .before .before .before .before .before .before .before .before .before .before .before .before .before .before .before .before .before .before .before .before in
-    let (hops-ready, _, _, _) = at-start .pre in
-    hops-ready .table-network .checked .whole
-
-add-j : tie.Need-add-j Inv-loop μ-loop
-add-j c = search needs
-
-loop-less : tie.Need-loop-less Inv-loop μ-loop
-loop-less c = search needs
+    let (hops-ready, _, _, _) = at-start .pre in hops-ready .table-network .checked .whole
 
 loop-again : tie.Need-loop-again Inv-loop μ-loop
 loop-again c =
@@ -81,8 +70,7 @@ cast-keep-egress-row : tie.Need-cast-keep-egress-row Inv-loop μ-loop
 cast-keep-egress-row c =
     let at-start =
     c .before .before .before .before .before .before .before .before .before .before .before .before .before .before .before .before .before .before .before .before .before .before .before in
-    let (hops-ready, _, _, _) = at-start .pre in
-    omega (arith, hops-ready .known, few-bridges (hops-ready .table-network .checked))
+    let (hops-ready, _, _, _) = at-start .pre in omega (arith, hops-ready .known, few-bridges (hops-ready .table-network .checked))
 
 keep-egress-row-requires : tie.Need-keep-egress-row-requires Inv-loop μ-loop
 keep-egress-row-requires c κs =
@@ -93,9 +81,10 @@ keep-egress-row-requires c κs =
     let at-loop = at-if1 .before .before in
     let at-path-ids = at-loop .before .before .before .before .before .before in
     let at-start = at-path-ids .before .before .before .before .before .before .before .before .before .before .before in
+    let table-network = hops-ready .table-network in
     let (hops-ready, path-ids-room, _, _) = at-start .pre in
     let (keeping-members, path-ids-length, _, trees-kept) = at-loop .loop .inv in
-    let checked = hops-ready .table-network .checked in
+    let checked = table-network .checked in
     let if1-taken = at-if1 .if1 .taken in
     let j-at-loop = at-loop .loop .j in
     let fits = index-fits checked j-at-loop if1-taken in
@@ -103,7 +92,7 @@ keep-egress-row-requires c κs =
     member-index checked j-at-loop if1-taken _ (at-member .member .ensures) _ (at-transmitter-index .transmitter-index .ensures)
     (at-if2 .if2 .left) in (
       (
-        is-network (hops-ready .table-network),
+        is-network table-network,
         hops-ready .has-hops,
         omega (arith, path-ids-room, path-ids-length, at-path-ids .path-ids .given),
         trees-kept,
@@ -116,18 +105,12 @@ keep-egress-row-requires c κs =
           ap (λ (m : Member). m .bridge) (at-member .member .ensures),
           member-fits checked j-at-loop if1-taken .bridge-known,
           bridges-counted checked,
-          bridges-in-table (hops-ready .table-network),
+          bridges-in-table table-network,
         ),
         members-room hops-ready keeping-members if1-taken,
         keeping-members .held,
       ),
     )
-
-add-j-2 : tie.Need-add-j-2 Inv-loop μ-loop
-add-j-2 c = search needs
-
-loop-less-2 : tie.Need-loop-less-2 Inv-loop μ-loop
-loop-less-2 c = search needs
 
 loop-again-2 : tie.Need-loop-again-2 Inv-loop μ-loop
 loop-again-2 c = (
@@ -155,12 +138,6 @@ loop-again-2 c = (
       let (_, (_, trees-kept)) = at-keep-egress-row .keep-egress-row .ensures in trees-kept,
 )
 
-same-length : tie.Need-same-length Inv-loop μ-loop
-same-length c = search needs
-
-same-length-2 : tie.Need-same-length-2 Inv-loop μ-loop
-same-length-2 c = search needs
-
 same-length-3 : tie.Need-same-length-3 Inv-loop μ-loop
 same-length-3 c =
     let at-loop = c .before .before in
@@ -175,12 +152,11 @@ returns c =
     let at-start =
     at-loop .before .before .before .before .before .before .before .before .before .before .before .before .before .before .before .before .before in
     let (hops-ready, _, _, _) = at-start .pre in
-    let (keeping-members, _, _, trees-kept) = at-loop .loop .inv in
-    (members-end hops-ready keeping-members (c .if1 .left), trees-kept)
+    let (keeping-members, _, _, trees-kept) = at-loop .loop .inv in (members-end hops-ready keeping-members (c .if1 .left), trees-kept)
 
 pub keep-egress-rows-spec : {M : Type 1} → statement M
 keep-egress-rows-spec =
     tie.close
-    (tie.spec Inv-loop μ-loop keep-own-egress-rows-requires loop-holds member-requires cast-a transmitter-index-requires add-j loop-less
-    loop-again cast-keep-egress-row keep-egress-row-requires add-j-2 loop-less-2 loop-again-2 same-length same-length-2 same-length-3
-    returns)
+    (tie.spec Inv-loop μ-loop keep-own-egress-rows-requires loop-holds member-requires (λ c. search needs) transmitter-index-requires
+    (λ c. search needs) (λ c. search needs) loop-again cast-keep-egress-row keep-egress-row-requires (λ c. search needs)
+    (λ c. search needs) loop-again-2 (λ c. search needs) (λ c. search needs) same-length-3 returns)

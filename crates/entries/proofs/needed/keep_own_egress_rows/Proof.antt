@@ -23,20 +23,17 @@ abbrev μ-loop : tie.MeasureT-loop
 loop-holds : tie.Need-loop-holds Inv-loop μ-loop
 loop-holds c =
     let at-start = c .before .before .before .before .before .before in
-    let (hops-ready, _, trees-kept, egress-rows-kept) = at-start .pre in
-    (own-starts hops-ready egress-rows-kept, refl, refl, trees-kept)
+    let (hops-ready, _, trees-kept, egress-rows-kept) = at-start .pre in (own-starts hops-ready egress-rows-kept, refl, refl, trees-kept)
 
 vid-requires : tie.Need-vid-requires Inv-loop μ-loop
 vid-requires c κs =
     let at-start = c .before .before .before .before .before .before .before .before .before in
-    let (hops-ready, _, _, _) = at-start .pre in
-    (hops-ready .table-network .checked .whole, c .if1 .taken)
+    let (hops-ready, _, _, _) = at-start .pre in (hops-ready .table-network .checked .whole, c .if1 .taken)
 
 cast-keep-egress-row : tie.Need-cast-keep-egress-row Inv-loop μ-loop
 cast-keep-egress-row c =
     let at-start = c .before .before .before .before .before .before .before .before .before .before in
-    let (hops-ready, _, _, _) = at-start .pre in
-    omega (arith, hops-ready .known, few-bridges (hops-ready .table-network .checked))
+    let (hops-ready, _, _, _) = at-start .pre in omega (arith, hops-ready .known, few-bridges (hops-ready .table-network .checked))
 
 keep-egress-row-requires : tie.Need-keep-egress-row-requires Inv-loop μ-loop
 keep-egress-row-requires c κs =
@@ -66,12 +63,6 @@ keep-egress-row-requires c κs =
       ),
     )
 
-add-k : tie.Need-add-k Inv-loop μ-loop
-add-k c = search needs
-
-loop-less : tie.Need-loop-less Inv-loop μ-loop
-loop-less c = search needs
-
 loop-again : tie.Need-loop-again Inv-loop μ-loop
 loop-again c = (
   let at-keep-egress-row = c .before .before .before .before .before .before in
@@ -90,17 +81,10 @@ loop-again c = (
       let (_, (_, trees-kept)) = at-keep-egress-row .keep-egress-row .ensures in trees-kept,
 )
 
-same-length : tie.Need-same-length Inv-loop μ-loop
-same-length c = search needs
-
-same-length-2 : tie.Need-same-length-2 Inv-loop μ-loop
-same-length-2 c = search needs
-
 same-length-3 : tie.Need-same-length-3 Inv-loop μ-loop
 same-length-3 c =
     let at-loop = c .before .before in
-    let (keeping-own, _, _, _) = at-loop .loop .inv in
-    keeping-own .kept .same-length
+    let (keeping-own, _, _, _) = at-loop .loop .inv in keeping-own .kept .same-length
 
 returns : tie.Need-returns Inv-loop μ-loop
 returns c =
@@ -118,5 +102,5 @@ returns c =
 pub keep-own-egress-rows-spec : {M : Type 1} → statement M
 keep-own-egress-rows-spec =
     tie.close
-    (tie.spec Inv-loop μ-loop loop-holds vid-requires cast-keep-egress-row keep-egress-row-requires add-k loop-less loop-again same-length
-    same-length-2 same-length-3 returns)
+    (tie.spec Inv-loop μ-loop loop-holds vid-requires cast-keep-egress-row keep-egress-row-requires (λ c. search needs) (λ c. search needs)
+    loop-again (λ c. search needs) (λ c. search needs) same-length-3 returns)

@@ -19,9 +19,6 @@ returns c =
     cond b (indexOf (vidRecord (planAt (wordsOf (at-start .args .table .now)) (at-start .args .s)) (at-start .args .m .vid))) 0)
     (not-true (at-start .args .m .transmits) (c .if1 .taken)))
 
-index-of-requires : tie.Need-index-of-requires
-index-of-requires c κs = search needs
-
 returns-2 : tie.Need-returns-2
 returns-2 c =
     let at-start = c .before .before .before .before in
@@ -33,4 +30,4 @@ returns-2 c =
     (not-false (at-start .args .m .transmits) (c .before .if1 .left)))
 
 pub transmitter-index-spec : {M : Type 1} → statement M
-transmitter-index-spec = tie.close (tie.spec returns index-of-requires returns-2)
+transmitter-index-spec = tie.close (tie.spec returns (λ c κs. search needs) returns-2)

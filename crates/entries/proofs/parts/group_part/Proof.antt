@@ -18,8 +18,7 @@ loop-holds : tie.Need-loop-holds Inv-loop μ-loop
 unfolding groupPart
 loop-holds c =
     let at-start = c .before .before .before .before in
-    let (_, room) = at-start .pre in
-    appending-starts _ _ _ _ room
+    let (_, room) = at-start .pre in appending-starts _ _ _ _ room
 
 member-words-requires : tie.Need-member-words-requires Inv-loop μ-loop
 member-words-requires c κs =
@@ -29,12 +28,6 @@ member-words-requires c κs =
       (checked, egress-rows-inside, index-least, index-bound, vid-bound, (c .before .if1 .taken)),
       appending-room ((at-loop .loop .inv)) ((c .before .if1 .taken)),
     )
-
-add-j : tie.Need-add-j Inv-loop μ-loop
-add-j c = search needs
-
-loop-less : tie.Need-loop-less Inv-loop μ-loop
-loop-less c = search needs
 
 loop-again : tie.Need-loop-again Inv-loop μ-loop
 loop-again c =
@@ -57,4 +50,4 @@ returns c =
 pub group-part-spec : {M : Type 1} → statement M
 group-part-spec =
     tie.close
-    (tie.spec Inv-loop μ-loop loop-holds member-words-requires add-j loop-less loop-again same-length returns)
+    (tie.spec Inv-loop μ-loop loop-holds member-words-requires (λ c. search needs) (λ c. search needs) loop-again same-length returns)

@@ -12,9 +12,6 @@ use borrow.Author.Needs.{needs}
 use Rattle.entries.proofs.parts.member_words.Statement.{statement}
 use Rattle.entries.proofs.parts.member_words.Tie as tie
 
-member-requires : tie.Need-member-requires
-member-requires c κs = search needs
-
 returns : tie.Need-returns
 returns c =
     let at-member = c .before .before in
@@ -50,9 +47,6 @@ transmitter-words-requires c κs =
           room,
     )
 
-same-length : tie.Need-same-length
-same-length c = search needs
-
 returns-3 : tie.Need-returns-3
 returns-3 c =
     let at-transmitter-words = c .before .before in
@@ -65,4 +59,4 @@ returns-3 c =
 pub member-words-spec : {M : Type 1} → statement M
 member-words-spec =
     tie.close
-    (tie.spec member-requires returns returns-2 transmitter-words-requires same-length returns-3)
+    (tie.spec (λ c κs. search needs) returns returns-2 transmitter-words-requires (λ c. search needs) returns-3)

@@ -12,12 +12,6 @@ use borrow.Author.Needs.{needs}
 use Rattle.entries.proofs.parts.transmitter_words.Statement.{statement}
 use Rattle.entries.proofs.parts.transmitter_words.Tie as tie
 
-cast-bridge : tie.Need-cast-bridge
-cast-bridge c = search needs
-
-bridge-requires : tie.Need-bridge-requires
-bridge-requires c κs = search needs
-
 group-address-requires : tie.Need-group-address-requires
 group-address-requires c κs =
     let at-start = c .before .before .before .before .before .before in
@@ -26,9 +20,6 @@ group-address-requires c κs =
           (arith, ap (λ (x : Bridge). x .spSourceId) ((c .bridge .ensures)), source-fits checked ((at-start .args .m .bridge)) bridge-bound),
       isid-bound,
     )
-
-cast-egress-row-at : tie.Need-cast-egress-row-at
-cast-egress-row-at c = search needs
 
 egress-row-at-requires : tie.Need-egress-row-at-requires
 egress-row-at-requires c κs =
@@ -66,12 +57,6 @@ part-ports-behind-start c =
       (egress-rows-inside .inside) ((at-start .args .v .index)) ((at-start .args .m .bridge)) index-least index-bound bridge-bound,
     )
 
-part-ports-behind-end : tie.Need-part-ports-behind-end
-part-ports-behind-end c = search needs
-
-slice-aggregate-ports-behind : tie.Need-slice-aggregate-ports-behind
-slice-aggregate-ports-behind c = search needs
-
 ports-behind-requires : tie.Need-ports-behind-requires
 ports-behind-requires c κs =
     let at-egress-row-at = c .before .before in
@@ -91,8 +76,7 @@ ports-behind-requires c κs =
 array-share-prefix-behind : tie.Need-array-share-prefix-behind
 array-share-prefix-behind c =
     let at-start = c .before .before .before .before .before .before .before .before .before .before .before .before .before in
-    let ((checked, _, _, _, _, _, _), _) = at-start .pre in
-    omega (arith, behind-few checked _ _ ((c .before .ports-behind .ensures)))
+    let ((checked, _, _, _, _, _, _), _) = at-start .pre in omega (arith, behind-few checked _ _ ((c .before .ports-behind .ensures)))
 
 slice-aggregate-group-words : tie.Need-slice-aggregate-group-words
 slice-aggregate-group-words c =
@@ -118,9 +102,6 @@ group-words-requires c κs =
       vid-bound,
     )
 
-same-length : tie.Need-same-length
-same-length c = search needs
-
 returns : tie.Need-returns
 returns c =
     let at-group-words = c .before .before in
@@ -139,6 +120,6 @@ returns c =
 pub transmitter-words-spec : {M : Type 1} → statement M
 transmitter-words-spec =
     tie.close
-    (tie.spec cast-bridge bridge-requires group-address-requires cast-egress-row-at egress-row-at-requires mul-ports-behind sub-ports-behind
-    part-ports-behind-start part-ports-behind-end slice-aggregate-ports-behind ports-behind-requires array-share-prefix-behind
-    slice-aggregate-group-words group-words-requires same-length returns)
+    (tie.spec (λ c. search needs) (λ c κs. search needs) group-address-requires (λ c. search needs) egress-row-at-requires mul-ports-behind
+    sub-ports-behind part-ports-behind-start (λ c. search needs) (λ c. search needs) ports-behind-requires array-share-prefix-behind
+    slice-aggregate-group-words group-words-requires (λ c. search needs) returns)

@@ -11,9 +11,6 @@ use borrow.Author.Needs.{needs}
 use Rattle.entries.proofs.parts.vid_part.Statement.{statement}
 use Rattle.entries.proofs.parts.vid_part.Tie as tie
 
-vid-requires : tie.Need-vid-requires
-vid-requires c κs = search needs
-
 egress-row-at-requires : tie.Need-egress-row-at-requires
 egress-row-at-requires c κs =
     let at-start = c .before .before .before .before .before in
@@ -54,9 +51,6 @@ part-individual-words-start c =
       row-place-inside checked egress-rows-inside ((at-start .args .k)) k-bound ((at-start .args .b)) b-bound
           (vidValues ((c .before .vid .result))) ((c .before .vid .ensures)) ((c .egress-row-at .result)) ((c .egress-row-at .ensures)),
     )
-
-part-individual-words-end : tie.Need-part-individual-words-end
-part-individual-words-end c = search needs
 
 individual-words-requires : tie.Need-individual-words-requires
 individual-words-requires c κs =
@@ -102,9 +96,6 @@ group-part-requires c κs =
           ((at-start .args .at)) room _ ((at-individual-words .individual-words .result)) ((at-individual-words .individual-words .ensures)),
     )
 
-same-length : tie.Need-same-length
-same-length c = search needs
-
 returns : tie.Need-returns
 returns c =
     let at-group-part = c .before .before in
@@ -122,5 +113,5 @@ returns c =
 pub vid-part-spec : {M : Type 1} → statement M
 vid-part-spec =
     tie.close
-    (tie.spec vid-requires egress-row-at-requires mul-individual-words sub-individual-words part-individual-words-start
-    part-individual-words-end individual-words-requires group-part-requires same-length returns)
+    (tie.spec (λ c κs. search needs) egress-row-at-requires mul-individual-words sub-individual-words part-individual-words-start
+    (λ c. search needs) individual-words-requires group-part-requires (λ c. search needs) returns)

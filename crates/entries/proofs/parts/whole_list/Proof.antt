@@ -17,8 +17,7 @@ loop-holds : tie.Need-loop-holds Inv-loop μ-loop
 unfolding wholeList
 loop-holds c =
     let at-start = c .before .before .before .before in
-    let (_, room) = at-start .pre in
-    appending-starts _ _ _ _ room
+    let (_, room) = at-start .pre in appending-starts _ _ _ _ room
 
 vid-part-requires : tie.Need-vid-part-requires Inv-loop μ-loop
 vid-part-requires c κs =
@@ -26,12 +25,6 @@ vid-part-requires c κs =
     let at-start = at-loop .before .before .before .before .before in
     let ((checked, egress-rows-inside, b-bound), _) = at-start .pre in
     ((checked, egress-rows-inside, b-bound, (c .before .if1 .taken)), appending-room ((at-loop .loop .inv)) ((c .before .if1 .taken)))
-
-add-k : tie.Need-add-k Inv-loop μ-loop
-add-k c = search needs
-
-loop-less : tie.Need-loop-less Inv-loop μ-loop
-loop-less c = search needs
 
 loop-again : tie.Need-loop-again Inv-loop μ-loop
 loop-again c =
@@ -54,4 +47,4 @@ returns c =
 pub whole-list-spec : {M : Type 1} → statement M
 whole-list-spec =
     tie.close
-    (tie.spec Inv-loop μ-loop loop-holds vid-part-requires add-k loop-less loop-again same-length returns)
+    (tie.spec Inv-loop μ-loop loop-holds vid-part-requires (λ c. search needs) (λ c. search needs) loop-again same-length returns)

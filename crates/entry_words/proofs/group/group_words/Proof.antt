@@ -25,38 +25,16 @@ abbrev μ-ports : tie.MeasureT-ports
 ports-holds : tie.Need-ports-holds Inv-loop μ-loop Inv-ports μ-ports
 ports-holds c =
     let at-start = c .before .before .before in
-    let (room, _) = at-start .pre in
-    listing-starts _ _ _ _ _ _ room
-
-mul-port : tie.Need-mul-port Inv-loop μ-loop Inv-ports μ-ports
-mul-port c = search needs
-
-shared-slice-read-port : tie.Need-shared-slice-read-port Inv-loop μ-loop Inv-ports μ-ports
-shared-slice-read-port c = search needs
-
-add-i : tie.Need-add-i Inv-loop μ-loop Inv-ports μ-ports
-add-i c = search needs
+    let (room, _) = at-start .pre in listing-starts _ _ _ _ _ _ room
 
 loop-holds : tie.Need-loop-holds Inv-loop μ-loop Inv-ports μ-ports
 loop-holds c = seeking-starts _ _ _ _
-
-ports-less : tie.Need-ports-less Inv-loop μ-loop Inv-ports μ-ports
-ports-less c = search needs
 
 ports-again : tie.Need-ports-again Inv-loop μ-loop Inv-ports μ-ports
 ports-again c =
     let at-ports-test = c .before .before .before in
     let at-ports = at-ports-test .before in
     none-listed ((c .before .loop .inv)) ((at-ports .ports .inv)) ((at-ports-test .ports-test .taken)) refl ((c .loop-test .left))
-
-mul-if1 : tie.Need-mul-if1 Inv-loop μ-loop Inv-ports μ-ports
-mul-if1 c = search needs
-
-shared-slice-read-if1 : tie.Need-shared-slice-read-if1 Inv-loop μ-loop Inv-ports μ-ports
-shared-slice-read-if1 c = search needs
-
-wide-requires : tie.Need-wide-requires Inv-loop μ-loop Inv-ports μ-ports
-wide-requires c κs = search needs
 
 write-entry-requires : tie.Need-write-entry-requires Inv-loop μ-loop Inv-ports μ-ports
 write-entry-requires c κs =
@@ -74,9 +52,6 @@ write-entry-requires c κs =
       omega (arith, (c .wide .ensures)),
     )
 
-ports-less-2 : tie.Need-ports-less-2 Inv-loop μ-loop Inv-ports μ-ports
-ports-less-2 c = search needs
-
 ports-again-2 : tie.Need-ports-again-2 Inv-loop μ-loop Inv-ports μ-ports
 ports-again-2 c =
     let at-write-entry = c .before .before in
@@ -89,12 +64,6 @@ ports-again-2 c =
     let (wide-is, _) = at-wide .wide .ensures in
     found-listed ((at-loop .loop .inv)) ((at-ports .ports .inv)) ((at-ports-test .ports-test .taken)) refl
     ((at-loop-test .loop-test .taken)) ((at-if1 .if1 .taken)) wide-is ((at-write-entry .write-entry .ensures))
-
-add-j : tie.Need-add-j Inv-loop μ-loop Inv-ports μ-ports
-add-j c = search needs
-
-loop-less : tie.Need-loop-less Inv-loop μ-loop Inv-ports μ-ports
-loop-less c = search needs
 
 loop-again : tie.Need-loop-again Inv-loop μ-loop Inv-ports μ-ports
 loop-again c =
@@ -111,5 +80,6 @@ returns c = listing-ends ((c .before .ports .inv)) ((c .ports-test .left))
 pub group-words-spec : {M : Type 1} → statement M
 group-words-spec =
     tie.close
-    (tie.spec Inv-loop μ-loop Inv-ports μ-ports ports-holds mul-port shared-slice-read-port add-i loop-holds ports-less ports-again mul-if1
-    shared-slice-read-if1 wide-requires write-entry-requires ports-less-2 ports-again-2 add-j loop-less loop-again same-length returns)
+    (tie.spec Inv-loop μ-loop Inv-ports μ-ports ports-holds (λ c. search needs) (λ c. search needs) (λ c. search needs) loop-holds
+    (λ c. search needs) ports-again (λ c. search needs) (λ c. search needs) (λ c κs. search needs) write-entry-requires (λ c. search needs)
+    ports-again-2 (λ c. search needs) (λ c. search needs) loop-again same-length returns)

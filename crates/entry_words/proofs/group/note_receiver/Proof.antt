@@ -10,23 +10,11 @@ use borrow.Author.Needs.{needs}
 use Rattle.entry_words.proofs.group.note_receiver.Statement.{statement}
 use Rattle.entry_words.proofs.group.note_receiver.Tie as tie
 
-member-requires : tie.Need-member-requires
-member-requires c κs = search needs
-
-cast-bridge : tie.Need-cast-bridge
-cast-bridge c = search needs
-
-is-receiver-requires : tie.Need-is-receiver-requires
-is-receiver-requires c κs = search needs
-
 returns : tie.Need-returns
 returns c =
     let at-member = c .before .before .before in
     not-noted _ _ _ _ _ (memberValues ((at-member .member .result))) ((at-member .member .ensures))
     (sym (not-true _ ((c .if1 .taken))) ∙ (c .before .is-receiver .ensures)) _ _
-
-mul-behind : tie.Need-mul-behind
-mul-behind c = search needs
 
 shared-slice-read-behind : tie.Need-shared-slice-read-behind
 shared-slice-read-behind c =
@@ -40,9 +28,6 @@ shared-slice-read-behind c =
       egress-row-room,
     )
 
-mul-behind-2 : tie.Need-mul-behind-2
-mul-behind-2 c = search needs
-
 slice-write-behind : tie.Need-slice-write-behind
 slice-write-behind c =
     let at-is-receiver = c .before .before in
@@ -53,12 +38,6 @@ slice-write-behind c =
     (memberValues ((at-start .args .m))) ((at-start .args .j)) (memberValues ((at-member .member .result))) ((at-member .member .ensures))
     (sym (not-false _ ((c .before .if1 .left))) ∙ (at-is-receiver .is-receiver .ensures)) ((at-start .args .behind .now))
     ((at-start .args .at)) room
-
-add-result : tie.Need-add-result
-add-result c = search needs
-
-same-length : tie.Need-same-length
-same-length c = search needs
 
 returns-2 : tie.Need-returns-2
 returns-2 c =
@@ -76,5 +55,5 @@ returns-2 c =
 pub note-receiver-spec : {M : Type 1} → statement M
 note-receiver-spec =
     tie.close
-    (tie.spec member-requires cast-bridge is-receiver-requires returns mul-behind shared-slice-read-behind mul-behind-2 slice-write-behind
-    add-result same-length returns-2)
+    (tie.spec (λ c κs. search needs) (λ c. search needs) (λ c κs. search needs) returns (λ c. search needs) shared-slice-read-behind
+    (λ c. search needs) slice-write-behind (λ c. search needs) (λ c. search needs) returns-2)

@@ -31,12 +31,6 @@ note-receiver-requires c κs =
     let (checked, egress-row-room, _) = at-start .pre in
     ((checked, (c .before .if1 .taken), egress-row-room), appending-room ((at-loop .loop .inv)) ((c .before .if1 .taken)))
 
-add-j : tie.Need-add-j Inv-loop μ-loop
-add-j c = search needs
-
-loop-less : tie.Need-loop-less Inv-loop μ-loop
-loop-less c = search needs
-
 loop-again : tie.Need-loop-again Inv-loop μ-loop
 loop-again c =
     let at-note-receiver = c .before .before in
@@ -58,4 +52,4 @@ returns c =
 pub ports-behind-spec : {M : Type 1} → statement M
 ports-behind-spec =
     tie.close
-    (tie.spec Inv-loop μ-loop loop-holds note-receiver-requires add-j loop-less loop-again same-length returns)
+    (tie.spec Inv-loop μ-loop loop-holds note-receiver-requires (λ c. search needs) (λ c. search needs) loop-again same-length returns)

@@ -17,8 +17,7 @@ loop-holds : tie.Need-loop-holds Inv-loop μ-loop
 unfolding individualWords
 loop-holds c =
     let at-start = c .before .before .before in
-    let (_, room) = at-start .pre in
-    appending-starts _ _ _ _ room
+    let (_, room) = at-start .pre in appending-starts _ _ _ _ room
 
 write-individual-requires : tie.Need-write-individual-requires Inv-loop μ-loop
 write-individual-requires c κs =
@@ -26,12 +25,6 @@ write-individual-requires c κs =
     let at-start = at-loop .before .before .before .before in
     let ((checked, egress-row-room, vid-bound), _) = at-start .pre in
     ((checked, (c .before .if1 .taken), egress-row-room, vid-bound), appending-room ((at-loop .loop .inv)) ((c .before .if1 .taken)))
-
-add-d : tie.Need-add-d Inv-loop μ-loop
-add-d c = search needs
-
-loop-less : tie.Need-loop-less Inv-loop μ-loop
-loop-less c = search needs
 
 loop-again : tie.Need-loop-again Inv-loop μ-loop
 loop-again c =
@@ -54,4 +47,4 @@ returns c =
 pub individual-words-spec : {M : Type 1} → statement M
 individual-words-spec =
     tie.close
-    (tie.spec Inv-loop μ-loop loop-holds write-individual-requires add-d loop-less loop-again same-length returns)
+    (tie.spec Inv-loop μ-loop loop-holds write-individual-requires (λ c. search needs) (λ c. search needs) loop-again same-length returns)

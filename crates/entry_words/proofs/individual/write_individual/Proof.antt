@@ -7,20 +7,8 @@ use borrow.Author.Needs.{needs}
 use Rattle.entry_words.proofs.individual.write_individual.Statement.{statement}
 use Rattle.entry_words.proofs.individual.write_individual.Tie as tie
 
-mul-wide : tie.Need-mul-wide
-mul-wide c = search needs
-
-shared-slice-read-wide : tie.Need-shared-slice-read-wide
-shared-slice-read-wide c = search needs
-
-wide-requires : tie.Need-wide-requires
-wide-requires c κs = search needs
-
 returns : tie.Need-returns
 returns c = no-individual _ _ _ _ _ ((c .before .wide .ensures .0)) ((c .if1 .taken)) _ _
-
-bridge-requires : tie.Need-bridge-requires
-bridge-requires c κs = search needs
 
 write-entry-requires : tie.Need-write-entry-requires
 write-entry-requires c κs =
@@ -38,9 +26,6 @@ write-entry-requires c κs =
       wide-bound,
     )
 
-same-length : tie.Need-same-length
-same-length c = search needs
-
 returns-2 : tie.Need-returns-2
 returns-2 c =
     let at-write-entry = c .before .before in
@@ -54,4 +39,5 @@ returns-2 c =
 pub write-individual-spec : {M : Type 1} → statement M
 write-individual-spec =
     tie.close
-    (tie.spec mul-wide shared-slice-read-wide wide-requires returns bridge-requires write-entry-requires same-length returns-2)
+    (tie.spec (λ c. search needs) (λ c. search needs) (λ c κs. search needs) returns (λ c κs. search needs) write-entry-requires
+    (λ c. search needs) returns-2)

@@ -28,59 +28,11 @@ as-read c =
     (c .read-bridge .ensures) (at-last-kind .last-kind .ensures)
     (sym (how-many bridgeOf 3 0 (wordsOf (start c .args .table .now)) (start c .args .s .bridges)))
 
-words-read-requires : tie.Need-words-read-requires
-words-read-requires c κs = search needs
-
-mul-at : tie.Need-mul-at
-mul-at c = search needs
-
-last-kind-requires : tie.Need-last-kind-requires
-last-kind-requires c κs = search needs
-
-sub-read-bridge : tie.Need-sub-read-bridge
-sub-read-bridge c = search needs
-
-part-read-bridge-start : tie.Need-part-read-bridge-start
-part-read-bridge-start c = search needs
-
-part-read-bridge-end : tie.Need-part-read-bridge-end
-part-read-bridge-end c = search needs
-
-read-bridge-requires : tie.Need-read-bridge-requires
-read-bridge-requires c κs = search needs
-
-enum-told : tie.Need-enum-told
-enum-told c = search needs
-
-own-fault-requires : tie.Need-own-fault-requires
-own-fault-requires c κs = search needs
-
-enum-told-2 : tie.Need-enum-told-2
-enum-told-2 c = search needs
-
-own-fault-requires-2 : tie.Need-own-fault-requires-2
-own-fault-requires-2 c κs = search needs
-
-enum-told-3 : tie.Need-enum-told-3
-enum-told-3 c = search needs
-
-own-fault-requires-3 : tie.Need-own-fault-requires-3
-own-fault-requires-3 c κs = search needs
-
-enum-known-read : tie.Need-enum-known-read
-enum-known-read c = search needs
-
-own-fault-requires-4 : tie.Need-own-fault-requires-4
-own-fault-requires-4 c κs = search needs
-
 returns : tie.Need-returns
 returns c =
     let at-read = c .before .before .before in
     own-fault (as-read (at-read .before .before)) (ap (λ (x : BridgeRead). bridgeRead x) (at-read .read .given .1))
     (c .before .own-fault4 .ensures) (c .if1 .taken)
-
-is-bridge-repeated-requires : tie.Need-is-bridge-repeated-requires
-is-bridge-repeated-requires c κs = search needs
 
 returns-2 : tie.Need-returns-2
 returns-2 c =
@@ -118,6 +70,7 @@ returns-6 c =
 pub bridge-fault-spec : {M : Type 1} → statement M
 bridge-fault-spec =
     tie.close
-    (tie.spec words-read-requires mul-at last-kind-requires sub-read-bridge part-read-bridge-start part-read-bridge-end read-bridge-requires
-    enum-told own-fault-requires enum-told-2 own-fault-requires-2 enum-told-3 own-fault-requires-3 enum-known-read own-fault-requires-4
-    returns is-bridge-repeated-requires returns-2 returns-3 returns-4 returns-5 returns-6)
+    (tie.spec (λ c κs. search needs) (λ c. search needs) (λ c κs. search needs) (λ c. search needs) (λ c. search needs) (λ c. search needs)
+    (λ c κs. search needs) (λ c. search needs) (λ c κs. search needs) (λ c. search needs) (λ c κs. search needs) (λ c. search needs)
+    (λ c κs. search needs) (λ c. search needs) (λ c κs. search needs) returns (λ c κs. search needs) returns-2 returns-3 returns-4
+    returns-5 returns-6)

@@ -29,47 +29,11 @@ as-read c =
     read-at endLayout (start c .args .table .now) (start c .args .s) _ (omega (arith, at-words-read .words-read .ensures))
     (c .read-end .ensures) (at-last-kind .last-kind .ensures) refl
 
-words-read-requires : tie.Need-words-read-requires
-words-read-requires c κs = search needs
-
-mul-at : tie.Need-mul-at
-mul-at c = search needs
-
-last-kind-requires : tie.Need-last-kind-requires
-last-kind-requires c κs = search needs
-
-sub-read-end : tie.Need-sub-read-end
-sub-read-end c = search needs
-
-part-read-end-start : tie.Need-part-read-end-start
-part-read-end-start c = search needs
-
-part-read-end-end : tie.Need-part-read-end-end
-part-read-end-end c = search needs
-
-read-end-requires : tie.Need-read-end-requires
-read-end-requires c κs = search needs
-
-enum-told : tie.Need-enum-told
-enum-told c = search needs
-
-own-fault-requires : tie.Need-own-fault-requires
-own-fault-requires c κs = search needs
-
-enum-known-read : tie.Need-enum-known-read
-enum-known-read c = search needs
-
-own-fault-requires-2 : tie.Need-own-fault-requires-2
-own-fault-requires-2 c κs = search needs
-
 returns : tie.Need-returns
 returns c =
     let at-read = c .before .before .before in
     own-fault (as-read (at-read .before .before)) (ap (λ (x : EndRead). endRead x) (at-read .read .given .1))
     (c .before .own-fault2 .ensures) (c .if1 .taken)
-
-cast-if2 : tie.Need-cast-if2
-cast-if2 c = search needs
 
 returns-2 : tie.Need-returns-2
 returns-2 c =
@@ -80,9 +44,6 @@ returns-2 c =
     left-fault (as-read (at-read .before .before)) (ap (λ (x : EndRead). endRead x) (at-read .read .given .1))
     (at-own-fault2 .own-fault2 .ensures) (c .before .if1 .left) true false false false _
     (simp (ne-eqb _ _ (λ z. c .if2 .taken (z ∙ sym (words-read .ensures))))) refl refl refl refl
-
-add-if3 : tie.Need-add-if3
-add-if3 c = search needs
 
 returns-3 : tie.Need-returns-3
 returns-3 c =
@@ -120,5 +81,6 @@ returns-5 c =
 pub end-fault-spec : {M : Type 1} → statement M
 end-fault-spec =
     tie.close
-    (tie.spec words-read-requires mul-at last-kind-requires sub-read-end part-read-end-start part-read-end-end read-end-requires enum-told
-    own-fault-requires enum-known-read own-fault-requires-2 returns cast-if2 returns-2 add-if3 returns-3 returns-4 returns-5)
+    (tie.spec (λ c κs. search needs) (λ c. search needs) (λ c κs. search needs) (λ c. search needs) (λ c. search needs) (λ c. search needs)
+    (λ c κs. search needs) (λ c. search needs) (λ c κs. search needs) (λ c. search needs) (λ c κs. search needs) returns
+    (λ c. search needs) returns-2 (λ c. search needs) returns-3 returns-4 returns-5)

@@ -37,59 +37,11 @@ of-16-bits :
     ((halfLinkValues (c .read .given .0 .0)) .near < 65536) × ((halfLinkValues (c .read .given .0 .0)) .port < 65536)
 of-16-bits c = read-of-16-bits (as-read (c .before .before)) (ap (λ (x : HalfLinkRead). halfLinkRead x) (c .read .given .1))
 
-words-read-requires : tie.Need-words-read-requires
-words-read-requires c κs = search needs
-
-mul-at : tie.Need-mul-at
-mul-at c = search needs
-
-last-kind-requires : tie.Need-last-kind-requires
-last-kind-requires c κs = search needs
-
-sub-read-half-link : tie.Need-sub-read-half-link
-sub-read-half-link c = search needs
-
-part-read-half-link-start : tie.Need-part-read-half-link-start
-part-read-half-link-start c = search needs
-
-part-read-half-link-end : tie.Need-part-read-half-link-end
-part-read-half-link-end c = search needs
-
-read-half-link-requires : tie.Need-read-half-link-requires
-read-half-link-requires c κs = search needs
-
-enum-told : tie.Need-enum-told
-enum-told c = search needs
-
-own-fault-requires : tie.Need-own-fault-requires
-own-fault-requires c κs = search needs
-
-enum-told-2 : tie.Need-enum-told-2
-enum-told-2 c = search needs
-
-own-fault-requires-2 : tie.Need-own-fault-requires-2
-own-fault-requires-2 c κs = search needs
-
-enum-told-3 : tie.Need-enum-told-3
-enum-told-3 c = search needs
-
-own-fault-requires-3 : tie.Need-own-fault-requires-3
-own-fault-requires-3 c κs = search needs
-
-enum-known-read : tie.Need-enum-known-read
-enum-known-read c = search needs
-
-own-fault-requires-4 : tie.Need-own-fault-requires-4
-own-fault-requires-4 c κs = search needs
-
 returns : tie.Need-returns
 returns c =
     let at-read = c .before .before .before in
     own-fault (as-read (at-read .before .before)) (ap (λ (x : HalfLinkRead). halfLinkRead x) (at-read .read .given .1))
     (c .before .own-fault4 .ensures) (c .if1 .taken)
-
-names-unknown-requires : tie.Need-names-unknown-requires
-names-unknown-requires c κs = search needs
 
 returns-2 : tie.Need-returns-2
 returns-2 c =
@@ -130,9 +82,6 @@ returns-3 c =
     ∙ at-if2 .if2 .left)
     (sym (port-repeated port-keyed half-link-read (of-16-bits at-read .1)) ∙ sym (c .before .is-port-repeated .ensures) ∙ c .if3 .taken)
     refl refl
-
-half-links-from-requires : tie.Need-half-links-from-requires
-half-links-from-requires c κs = search needs
 
 is-wrong-link-requires : tie.Need-is-wrong-link-requires
 is-wrong-link-requires c κs =
@@ -203,7 +152,7 @@ returns-8 c =
 pub half-link-fault-spec : {M : Type 1} → statement M
 half-link-fault-spec =
     tie.close
-    (tie.spec words-read-requires mul-at last-kind-requires sub-read-half-link part-read-half-link-start part-read-half-link-end
-    read-half-link-requires enum-told own-fault-requires enum-told-2 own-fault-requires-2 enum-told-3 own-fault-requires-3 enum-known-read
-    own-fault-requires-4 returns names-unknown-requires returns-2 is-port-repeated-requires returns-3 half-links-from-requires
-    is-wrong-link-requires returns-4 returns-5 returns-6 returns-7 returns-8)
+    (tie.spec (λ c κs. search needs) (λ c. search needs) (λ c κs. search needs) (λ c. search needs) (λ c. search needs) (λ c. search needs)
+    (λ c κs. search needs) (λ c. search needs) (λ c κs. search needs) (λ c. search needs) (λ c κs. search needs) (λ c. search needs)
+    (λ c κs. search needs) (λ c. search needs) (λ c κs. search needs) returns (λ c κs. search needs) returns-2 is-port-repeated-requires
+    returns-3 (λ c κs. search needs) is-wrong-link-requires returns-4 returns-5 returns-6 returns-7 returns-8)

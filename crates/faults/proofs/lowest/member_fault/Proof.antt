@@ -30,59 +30,11 @@ as-read c =
     (c .read-member .ensures) (at-last-kind .last-kind .ensures)
     (sym (how-many memberOf 2 (membersFrom (start c .args .s)) (wordsOf (start c .args .table .now)) (start c .args .s .members)))
 
-words-read-requires : tie.Need-words-read-requires
-words-read-requires c κs = search needs
-
-mul-at : tie.Need-mul-at
-mul-at c = search needs
-
-last-kind-requires : tie.Need-last-kind-requires
-last-kind-requires c κs = search needs
-
-sub-read-member : tie.Need-sub-read-member
-sub-read-member c = search needs
-
-part-read-member-start : tie.Need-part-read-member-start
-part-read-member-start c = search needs
-
-part-read-member-end : tie.Need-part-read-member-end
-part-read-member-end c = search needs
-
-read-member-requires : tie.Need-read-member-requires
-read-member-requires c κs = search needs
-
-enum-told : tie.Need-enum-told
-enum-told c = search needs
-
-own-fault-requires : tie.Need-own-fault-requires
-own-fault-requires c κs = search needs
-
-enum-told-2 : tie.Need-enum-told-2
-enum-told-2 c = search needs
-
-own-fault-requires-2 : tie.Need-own-fault-requires-2
-own-fault-requires-2 c κs = search needs
-
-enum-told-3 : tie.Need-enum-told-3
-enum-told-3 c = search needs
-
-own-fault-requires-3 : tie.Need-own-fault-requires-3
-own-fault-requires-3 c κs = search needs
-
-enum-known-read : tie.Need-enum-known-read
-enum-known-read c = search needs
-
-own-fault-requires-4 : tie.Need-own-fault-requires-4
-own-fault-requires-4 c κs = search needs
-
 returns : tie.Need-returns
 returns c =
     let at-read = c .before .before .before in
     own-fault (as-read (at-read .before .before)) (ap (λ (x : MemberRead). memberRead x) (at-read .read .given .1))
     (c .before .own-fault4 .ensures) (c .if1 .taken)
-
-cast-if2 : tie.Need-cast-if2
-cast-if2 c = search needs
 
 returns-2 : tie.Need-returns-2
 returns-2 c =
@@ -95,12 +47,6 @@ returns-2 c =
     left-fault (as-read (at-read .before .before)) (ap (λ (x : MemberRead). memberRead x) (at-read .read .given .1))
     (at-own-fault4 .own-fault4 .ensures) (at-if1 .if1 .left) false true _ false false refl
     (unknown-member words s member-read ∙ simp (le-ltb _ _ (c .if2 .taken))) refl refl refl
-
-vids-from-requires : tie.Need-vids-from-requires
-vids-from-requires c κs = search needs
-
-is-vid-known-requires : tie.Need-is-vid-known-requires
-is-vid-known-requires c κs = search needs
 
 returns-3 : tie.Need-returns-3
 returns-3 c =
@@ -120,12 +66,6 @@ returns-3 c =
       sym (rw (at-vids-from .vids-from .ensures) at (c .before .is-vid-known .ensures)) ∙ not-true _ (c .if3 .taken),
     ))
     refl refl refl
-
-members-from-requires : tie.Need-members-from-requires
-members-from-requires c κs = search needs
-
-is-member-repeated-requires : tie.Need-is-member-repeated-requires
-is-member-repeated-requires c κs = search needs
 
 returns-4 : tie.Need-returns-4
 returns-4 c =
@@ -189,7 +129,7 @@ returns-8 c =
 pub member-fault-spec : {M : Type 1} → statement M
 member-fault-spec =
     tie.close
-    (tie.spec words-read-requires mul-at last-kind-requires sub-read-member part-read-member-start part-read-member-end read-member-requires
-    enum-told own-fault-requires enum-told-2 own-fault-requires-2 enum-told-3 own-fault-requires-3 enum-known-read own-fault-requires-4
-    returns cast-if2 returns-2 vids-from-requires is-vid-known-requires returns-3 members-from-requires is-member-repeated-requires
-    returns-4 returns-5 returns-6 returns-7 returns-8)
+    (tie.spec (λ c κs. search needs) (λ c. search needs) (λ c κs. search needs) (λ c. search needs) (λ c. search needs) (λ c. search needs)
+    (λ c κs. search needs) (λ c. search needs) (λ c κs. search needs) (λ c. search needs) (λ c κs. search needs) (λ c. search needs)
+    (λ c κs. search needs) (λ c. search needs) (λ c κs. search needs) returns (λ c. search needs) returns-2 (λ c κs. search needs)
+    (λ c κs. search needs) returns-3 (λ c κs. search needs) (λ c κs. search needs) returns-4 returns-5 returns-6 returns-7 returns-8)

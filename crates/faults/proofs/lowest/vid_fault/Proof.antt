@@ -29,56 +29,11 @@ as-read c =
     (c .read-vid .ensures) (at-last-kind .last-kind .ensures)
     (sym (how-many vidOf 1 (vidsFrom (start c .args .s)) (wordsOf (start c .args .table .now)) (start c .args .s .vids)))
 
-words-read-requires : tie.Need-words-read-requires
-words-read-requires c κs = search needs
-
-mul-at : tie.Need-mul-at
-mul-at c = search needs
-
-last-kind-requires : tie.Need-last-kind-requires
-last-kind-requires c κs = search needs
-
-sub-read-vid : tie.Need-sub-read-vid
-sub-read-vid c = search needs
-
-part-read-vid-start : tie.Need-part-read-vid-start
-part-read-vid-start c = search needs
-
-part-read-vid-end : tie.Need-part-read-vid-end
-part-read-vid-end c = search needs
-
-read-vid-requires : tie.Need-read-vid-requires
-read-vid-requires c κs = search needs
-
-enum-told : tie.Need-enum-told
-enum-told c = search needs
-
-own-fault-requires : tie.Need-own-fault-requires
-own-fault-requires c κs = search needs
-
-enum-told-2 : tie.Need-enum-told-2
-enum-told-2 c = search needs
-
-own-fault-requires-2 : tie.Need-own-fault-requires-2
-own-fault-requires-2 c κs = search needs
-
-enum-known-read : tie.Need-enum-known-read
-enum-known-read c = search needs
-
-own-fault-requires-3 : tie.Need-own-fault-requires-3
-own-fault-requires-3 c κs = search needs
-
 returns : tie.Need-returns
 returns c =
     let at-read = c .before .before .before in
     own-fault (as-read (at-read .before .before)) (ap (λ (x : VidRead). vidRead x) (at-read .read .given .1))
     (c .before .own-fault3 .ensures) (c .if1 .taken)
-
-vids-from-requires : tie.Need-vids-from-requires
-vids-from-requires c κs = search needs
-
-is-vid-known-requires : tie.Need-is-vid-known-requires
-is-vid-known-requires c κs = search needs
 
 returns-2 : tie.Need-returns-2
 returns-2 c =
@@ -113,6 +68,6 @@ returns-5 c =
 pub vid-fault-spec : {M : Type 1} → statement M
 vid-fault-spec =
     tie.close
-    (tie.spec words-read-requires mul-at last-kind-requires sub-read-vid part-read-vid-start part-read-vid-end read-vid-requires enum-told
-    own-fault-requires enum-told-2 own-fault-requires-2 enum-known-read own-fault-requires-3 returns vids-from-requires
-    is-vid-known-requires returns-2 returns-3 returns-4 returns-5)
+    (tie.spec (λ c κs. search needs) (λ c. search needs) (λ c κs. search needs) (λ c. search needs) (λ c. search needs) (λ c. search needs)
+    (λ c κs. search needs) (λ c. search needs) (λ c κs. search needs) (λ c. search needs) (λ c κs. search needs) (λ c. search needs)
+    (λ c κs. search needs) returns (λ c κs. search needs) (λ c κs. search needs) returns-2 returns-3 returns-4 returns-5)

@@ -5,24 +5,6 @@ use lib.ListN.{length-take}
 use Rattle.figures.proofs.entry_lists.print_entries.Statement.{statement}
 use Rattle.figures.proofs.entry_lists.print_entries.Tie as tie
 
-entries-requires : tie.Need-entries-requires
-entries-requires c κs = search needs
-
-slice-aggregate-write-word : tie.Need-slice-aggregate-write-word
-slice-aggregate-write-word c = search needs
-
-write-word-requires : tie.Need-write-word-requires
-write-word-requires c κs = search needs
-
-slice-aggregate-write-answer : tie.Need-slice-aggregate-write-answer
-slice-aggregate-write-answer c = search needs
-
-write-answer-requires : tie.Need-write-answer-requires
-write-answer-requires c κs = search needs
-
-array-share-prefix-line : tie.Need-array-share-prefix-line
-array-share-prefix-line c = search needs
-
 slice-aggregate-write-all : tie.Need-slice-aggregate-write-all
 slice-aggregate-write-all c =
     let at-write-answer = c .before .before in
@@ -31,17 +13,8 @@ slice-aggregate-write-all c =
     simp length-take
     (omega (arith, (at-write-answer .write-answer .ensures), (at-write-word .write-word .ensures .end-is), (at-start .pre)))
 
-write-all-requires : tie.Need-write-all-requires
-write-all-requires c κs = search needs
-
-same-length : tie.Need-same-length
-same-length c = search needs
-
-returns : tie.Need-returns
-returns c = search needs
-
 pub print-entries-spec : {M : Type 1} → statement M
 print-entries-spec =
     tie.close
-    (tie.spec entries-requires slice-aggregate-write-word write-word-requires slice-aggregate-write-answer write-answer-requires
-    array-share-prefix-line slice-aggregate-write-all write-all-requires same-length returns)
+    (tie.spec (λ c κs. search needs) (λ c. search needs) (λ c κs. search needs) (λ c. search needs) (λ c κs. search needs)
+    (λ c. search needs) slice-aggregate-write-all (λ c κs. search needs) (λ c. search needs) (λ c. search needs))

@@ -13,20 +13,7 @@ abbrev μ-loop : tie.MeasureT-loop
 
 loop-holds : tie.Need-loop-holds Inv-loop μ-loop
 loop-holds c =
-    let (_, in-chain) = c .pre in
-    follows in-chain
-
-cast-at : tie.Need-cast-at Inv-loop μ-loop
-cast-at c = search needs
-
-add-if1 : tie.Need-add-if1 Inv-loop μ-loop
-add-if1 c = search needs
-
-mul-if1 : tie.Need-mul-if1 Inv-loop μ-loop
-mul-if1 c = search needs
-
-shared-slice-read-if1 : tie.Need-shared-slice-read-if1 Inv-loop μ-loop
-shared-slice-read-if1 c = search needs
+    let (_, in-chain) = c .pre in follows in-chain
 
 returns : tie.Need-returns Inv-loop μ-loop
 returns c =
@@ -34,30 +21,19 @@ returns c =
     let at-loop = at-loop-test .before in
     follows-to-key (at-loop .loop .inv) (at-loop-test .loop-test .taken) (c .if1 .taken)
 
-add-place : tie.Need-add-place Inv-loop μ-loop
-add-place c = search needs
-
-mul-place : tie.Need-mul-place Inv-loop μ-loop
-mul-place c = search needs
-
-shared-slice-read-place : tie.Need-shared-slice-read-place Inv-loop μ-loop
-shared-slice-read-place c = search needs
-
 loop-less : tie.Need-loop-less Inv-loop μ-loop
 loop-less c =
     let at-loop-test = c .before .before .before in
     let at-loop = at-loop-test .before in
     let at-start = at-loop .before in
-    let (indexed, _) = at-start .pre in
-    follows-less (at-loop .loop .inv) indexed (at-loop-test .loop-test .taken)
+    let (indexed, _) = at-start .pre in follows-less (at-loop .loop .inv) indexed (at-loop-test .loop-test .taken)
 
 loop-again : tie.Need-loop-again Inv-loop μ-loop
 loop-again c =
     let at-loop-test = c .before .before .before in
     let at-loop = at-loop-test .before in
     let at-start = at-loop .before in
-    let (indexed, _) = at-start .pre in
-    follows-on (at-loop .loop .inv) indexed (at-loop-test .loop-test .taken) (c .before .if1 .left)
+    let (indexed, _) = at-start .pre in follows-on (at-loop .loop .inv) indexed (at-loop-test .loop-test .taken) (c .before .if1 .left)
 
 returns-2 : tie.Need-returns-2 Inv-loop μ-loop
 returns-2 c = follows-to-none (c .before .loop .inv) (omega arith)
@@ -65,5 +41,5 @@ returns-2 c = follows-to-none (c .before .loop .inv) (omega arith)
 pub last-in-chain-spec : {M : Type 1} → statement M
 last-in-chain-spec =
     tie.close
-    (tie.spec Inv-loop μ-loop loop-holds cast-at add-if1 mul-if1 shared-slice-read-if1 returns add-place mul-place shared-slice-read-place
-    loop-less loop-again returns-2)
+    (tie.spec Inv-loop μ-loop loop-holds (λ c. search needs) (λ c. search needs) (λ c. search needs) (λ c. search needs) returns
+    (λ c. search needs) (λ c. search needs) (λ c. search needs) loop-less loop-again returns-2)

@@ -5,18 +5,6 @@ use borrow.Author.Needs.{needs}
 use Rattle.key_index.proofs.chain.last_place.Statement.{statement}
 use Rattle.key_index.proofs.chain.last_place.Tie as tie
 
-chain-of-requires : tie.Need-chain-of-requires
-chain-of-requires c κs = search needs
-
-cast-chain : tie.Need-cast-chain
-cast-chain c = search needs
-
-mul-last-in-chain : tie.Need-mul-last-in-chain
-mul-last-in-chain c = search needs
-
-shared-slice-read-last-in-chain : tie.Need-shared-slice-read-last-in-chain
-shared-slice-read-last-in-chain c = search needs
-
 last-in-chain-requires : tie.Need-last-in-chain-requires
 last-in-chain-requires c κs =
     let at-start = c .before .before .before in
@@ -32,4 +20,4 @@ returns c =
 pub last-place-spec : {M : Type 1} → statement M
 last-place-spec =
     tie.close
-    (tie.spec chain-of-requires cast-chain mul-last-in-chain shared-slice-read-last-in-chain last-in-chain-requires returns)
+    (tie.spec (λ c κs. search needs) (λ c. search needs) (λ c. search needs) (λ c. search needs) last-in-chain-requires returns)

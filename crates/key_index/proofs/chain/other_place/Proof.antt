@@ -5,27 +5,12 @@ use borrow.Author.Needs.{needs}
 use Rattle.key_index.proofs.chain.other_place.Statement.{statement}
 use Rattle.key_index.proofs.chain.other_place.Tie as tie
 
-add-last-place : tie.Need-add-last-place
-add-last-place c = search needs
-
-mul-last-place : tie.Need-mul-last-place
-mul-last-place c = search needs
-
-shared-slice-read-last-place : tie.Need-shared-slice-read-last-place
-shared-slice-read-last-place c = search needs
-
-last-place-requires : tie.Need-last-place-requires
-last-place-requires c κs = search needs
-
 returns : tie.Need-returns
 returns c =
     let at-start = c .before .before .before .before in
     let (_, place-least, place-bound) = at-start .pre in
     other-is-last (at-start .args .index .now) (at-start .args .count) (at-start .args .place) (c .before .last-place .result) place-least
     place-bound (c .before .last-place .ensures) (c .if1 .taken)
-
-place-before-requires : tie.Need-place-before-requires
-place-before-requires c κs = search needs
 
 returns-2 : tie.Need-returns-2
 returns-2 c =
@@ -39,4 +24,4 @@ returns-2 c =
 pub other-place-spec : {M : Type 1} → statement M
 other-place-spec =
     tie.close
-    (tie.spec add-last-place mul-last-place shared-slice-read-last-place last-place-requires returns place-before-requires returns-2)
+    (tie.spec (λ c. search needs) (λ c. search needs) (λ c. search needs) (λ c κs. search needs) returns (λ c κs. search needs) returns-2)

@@ -5,24 +5,6 @@ use borrow.Author.Needs.{needs}
 use Rattle.key_index.proofs.chain.place_before.Statement.{statement}
 use Rattle.key_index.proofs.chain.place_before.Tie as tie
 
-add-last-in-chain : tie.Need-add-last-in-chain
-add-last-in-chain c = search needs
-
-mul-last-in-chain : tie.Need-mul-last-in-chain
-mul-last-in-chain c = search needs
-
-shared-slice-read-last-in-chain : tie.Need-shared-slice-read-last-in-chain
-shared-slice-read-last-in-chain c = search needs
-
-add-last-in-chain-2 : tie.Need-add-last-in-chain-2
-add-last-in-chain-2 c = search needs
-
-mul-last-in-chain-2 : tie.Need-mul-last-in-chain-2
-mul-last-in-chain-2 c = search needs
-
-shared-slice-read-last-in-chain-2 : tie.Need-shared-slice-read-last-in-chain-2
-shared-slice-read-last-in-chain-2 c = search needs
-
 last-in-chain-requires : tie.Need-last-in-chain-requires
 last-in-chain-requires c κs =
     let at-start = c .before .before .before in
@@ -38,5 +20,5 @@ returns c =
 pub place-before-spec : {M : Type 1} → statement M
 place-before-spec =
     tie.close
-    (tie.spec add-last-in-chain mul-last-in-chain shared-slice-read-last-in-chain add-last-in-chain-2 mul-last-in-chain-2
-    shared-slice-read-last-in-chain-2 last-in-chain-requires returns)
+    (tie.spec (λ c. search needs) (λ c. search needs) (λ c. search needs) (λ c. search needs) (λ c. search needs) (λ c. search needs)
+    last-in-chain-requires returns)

@@ -15,18 +15,6 @@ abbrev μ-loop : tie.MeasureT-loop
 loop-holds : tie.Need-loop-holds Inv-loop μ-loop
 loop-holds c = finding-starts (c .before .pre .1) (c .before .pre .2)
 
-waits-at-requires : tie.Need-waits-at-requires Inv-loop μ-loop
-waits-at-requires c κs = search needs
-
-differs-requires : tie.Need-differs-requires Inv-loop μ-loop
-differs-requires c κs = search needs
-
-add-u : tie.Need-add-u Inv-loop μ-loop
-add-u c = search needs
-
-loop-less : tie.Need-loop-less Inv-loop μ-loop
-loop-less c = search needs
-
 loop-again : tie.Need-loop-again Inv-loop μ-loop
 loop-again c =
     let at-waits-at = c .before .before in
@@ -42,4 +30,5 @@ returns c =
 pub first-waiting-spec : {M : Type 1} → statement M
 first-waiting-spec =
     tie.close
-    (tie.spec Inv-loop μ-loop loop-holds waits-at-requires differs-requires add-u loop-less loop-again returns)
+    (tie.spec Inv-loop μ-loop loop-holds (λ c κs. search needs) (λ c κs. search needs) (λ c. search needs) (λ c. search needs) loop-again
+    returns)

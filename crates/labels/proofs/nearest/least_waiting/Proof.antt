@@ -14,18 +14,6 @@ abbrev μ-loop : tie.MeasureT-loop
 loop-holds : tie.Need-loop-holds Inv-loop μ-loop
 loop-holds c = leasting-starts _ _
 
-waits-at-requires : tie.Need-waits-at-requires Inv-loop μ-loop
-waits-at-requires c κs = search needs
-
-lesser-requires : tie.Need-lesser-requires Inv-loop μ-loop
-lesser-requires c κs = search needs
-
-add-u : tie.Need-add-u Inv-loop μ-loop
-add-u c = search needs
-
-loop-less : tie.Need-loop-less Inv-loop μ-loop
-loop-less c = search needs
-
 loop-again : tie.Need-loop-again Inv-loop μ-loop
 loop-again c =
     let at-loop-test = c .before .before in
@@ -38,4 +26,5 @@ returns c = leasting-ends (c .before .loop .inv) (c .loop-test .left)
 pub least-waiting-spec : {M : Type 1} → statement M
 least-waiting-spec =
     tie.close
-    (tie.spec Inv-loop μ-loop loop-holds waits-at-requires lesser-requires add-u loop-less loop-again returns)
+    (tie.spec Inv-loop μ-loop loop-holds (λ c κs. search needs) (λ c κs. search needs) (λ c. search needs) (λ c. search needs) loop-again
+    returns)

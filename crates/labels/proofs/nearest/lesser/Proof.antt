@@ -6,9 +6,6 @@ use borrow.Author.Needs.{needs}
 use Rattle.labels.proofs.nearest.lesser.Statement.{statement}
 use Rattle.labels.proofs.nearest.lesser.Tie as tie
 
-is-below-requires : tie.Need-is-below-requires
-is-below-requires c κs = search needs
-
 returns : tie.Need-returns
 returns c =
     let at-start = c .before .before in
@@ -20,4 +17,4 @@ returns-2 c =
     let not-less : at-start .args .b .0 ≤ at-start .args .a .0 = not-below (c .before .is-below .ensures) (c .if1 .left) in omega arith
 
 pub lesser-spec : {M : Type 1} → statement M
-lesser-spec = tie.close (tie.spec is-below-requires returns returns-2)
+lesser-spec = tie.close (tie.spec (λ c κs. search needs) returns returns-2)

@@ -8,15 +8,6 @@ use borrow.Author.Needs.{needs}
 use Rattle.labels.proofs.relax.is_lower_offer.Statement.{statement}
 use Rattle.labels.proofs.relax.is_lower_offer.Tie as tie
 
-cost-at-requires : tie.Need-cost-at-requires
-cost-at-requires c κs = search needs
-
-differs-requires : tie.Need-differs-requires
-differs-requires c κs = search needs
-
-is-below-requires : tie.Need-is-below-requires
-is-below-requires c κs = search needs
-
 returns : tie.Need-returns
 returns c =
     let at-differs = c .before .before in
@@ -25,15 +16,6 @@ returns c =
     lower-by-cost (at-start .args .path-ids .now) (at-start .args .via) (at-start .args .cost .0) (at-start .args .hops .0)
     (labelAt (at-start .args .labels .now) (at-start .args .v)) (at-cost-at .cost-at .ensures) (c .is-below .ensures)
     (differ (at-differs .differs .ensures) (c .before .if1 .taken))
-
-hops-at-requires : tie.Need-hops-at-requires
-hops-at-requires c κs = search needs
-
-differs-requires-2 : tie.Need-differs-requires-2
-differs-requires-2 c κs = search needs
-
-is-below-requires-2 : tie.Need-is-below-requires-2
-is-below-requires-2 c κs = search needs
 
 returns-2 : tie.Need-returns-2
 returns-2 c =
@@ -47,12 +29,6 @@ returns-2 c =
     (labelAt (at-start .args .labels .now) (at-start .args .v)) (at-cost-at .cost-at .ensures) (at-hops-at .hops-at .ensures)
     (agree (at-differs .differs .ensures) (at-if1 .if1 .left)) (c .is-below2 .ensures)
     (differ (at-differs2 .differs2 .ensures) (c .before .if2 .taken))
-
-next-at-requires : tie.Need-next-at-requires
-next-at-requires c κs = search needs
-
-count-requires : tie.Need-count-requires
-count-requires c κs = search needs
 
 is-lower-row-requires : tie.Need-is-lower-row-requires
 is-lower-row-requires c κs =
@@ -81,5 +57,5 @@ returns-3 c =
 pub is-lower-offer-spec : {M : Type 1} → statement M
 is-lower-offer-spec =
     tie.close
-    (tie.spec cost-at-requires differs-requires is-below-requires returns hops-at-requires differs-requires-2 is-below-requires-2 returns-2
-    next-at-requires count-requires is-lower-row-requires returns-3)
+    (tie.spec (λ c κs. search needs) (λ c κs. search needs) (λ c κs. search needs) returns (λ c κs. search needs) (λ c κs. search needs)
+    (λ c κs. search needs) returns-2 (λ c κs. search needs) (λ c κs. search needs) is-lower-row-requires returns-3)

@@ -9,21 +9,6 @@ use borrow.Author.Needs.{needs}
 use Rattle.links.proofs.counts.counts.Statement.{statement}
 use Rattle.links.proofs.counts.counts.Tie as tie
 
-cast-t4 : tie.Need-cast-t4
-cast-t4 c = search needs
-
-cast-t5 : tie.Need-cast-t5
-cast-t5 c = search needs
-
-count-usable-requires : tie.Need-count-usable-requires
-count-usable-requires c κs = search needs
-
-cast-t7 : tie.Need-cast-t7
-cast-t7 c = search needs
-
-cast-t8 : tie.Need-cast-t8
-cast-t8 c = search needs
-
 returns : tie.Need-returns
 returns c =
     let at-count-usable = c .before .before in
@@ -35,4 +20,5 @@ returns c =
     (sym (how-many memberOf 2 (membersFrom s) ws (s .members)))
 
 pub counts-spec : {M : Type 1} → statement M
-counts-spec = tie.close (tie.spec cast-t4 cast-t5 count-usable-requires cast-t7 cast-t8 returns)
+counts-spec = tie.close
+    (tie.spec (λ c. search needs) (λ c. search needs) (λ c κs. search needs) (λ c. search needs) (λ c. search needs) returns)

@@ -11,27 +11,6 @@ use borrow.Author.Needs.{needs}
 use Rattle.links.proofs.pairs.offer.Statement.{statement}
 use Rattle.links.proofs.pairs.offer.Tie as tie
 
-half-link-requires : tie.Need-half-link-requires
-half-link-requires c κs = search needs
-
-cast-at : tie.Need-cast-at
-cast-at c = search needs
-
-mul-at : tie.Need-mul-at
-mul-at c = search needs
-
-cast-at-2 : tie.Need-cast-at-2
-cast-at-2 c = search needs
-
-add-at : tie.Need-add-at
-add-at c = search needs
-
-link-metric-requires : tie.Need-link-metric-requires
-link-metric-requires c κs = search needs
-
-is-usable-requires : tie.Need-is-usable-requires
-is-usable-requires c κs = search needs
-
 returns : tie.Need-returns
 returns c =
     let at-link-metric = c .before .before in
@@ -41,9 +20,6 @@ returns c =
     (halfLinkNumber (wordsOf (at-start .args .table .now)) (at-start .args .s) (at-start .args .i))
     (halfLinkValues (at-half-link .half-link .result)) (at-half-link .half-link .ensures) (at-link-metric .link-metric .result .0)
     (at-link-metric .link-metric .ensures) (sym (not-true _ (c .if1 .taken)) ∙ c .before .is-usable .ensures)
-
-mul-lesser : tie.Need-mul-lesser
-mul-lesser c = search needs
 
 slice-read-lesser : tie.Need-slice-read-lesser
 slice-read-lesser c =
@@ -66,12 +42,6 @@ hop-number-requires c κs =
     hop-fits checked (at-start .args .i) i-bound (halfLinkValues (at-half-link .half-link .result)) (at-half-link .half-link .ensures)
     (at-link-metric .link-metric .result .0) (sym (not-false _ (c .before .if1 .left)) ∙ at-is-usable .is-usable .ensures)
 
-lesser-requires : tie.Need-lesser-requires
-lesser-requires c κs = search needs
-
-mul-pairs : tie.Need-mul-pairs
-mul-pairs c = search needs
-
 slice-write-pairs : tie.Need-slice-write-pairs
 slice-write-pairs c =
     let at-half-link = c .before .before .before .before .before .before .before .before in
@@ -82,9 +52,6 @@ slice-write-pairs c =
       pairs-room,
       place-there checked (at-start .args .i) i-bound (halfLinkValues (at-half-link .half-link .result)) (at-half-link .half-link .ensures),
     )
-
-same-length : tie.Need-same-length
-same-length c = search needs
 
 returns-2 : tie.Need-returns-2
 returns-2 c =
@@ -102,5 +69,6 @@ returns-2 c =
 pub offer-spec : {M : Type 1} → statement M
 offer-spec =
     tie.close
-    (tie.spec half-link-requires cast-at mul-at cast-at-2 add-at link-metric-requires is-usable-requires returns mul-lesser
-    slice-read-lesser hop-number-requires lesser-requires mul-pairs slice-write-pairs same-length returns-2)
+    (tie.spec (λ c κs. search needs) (λ c. search needs) (λ c. search needs) (λ c. search needs) (λ c. search needs) (λ c κs. search needs)
+    (λ c κs. search needs) returns (λ c. search needs) slice-read-lesser hop-number-requires (λ c κs. search needs) (λ c. search needs)
+    slice-write-pairs (λ c. search needs) returns-2)

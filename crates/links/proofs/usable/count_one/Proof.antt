@@ -9,9 +9,6 @@ use borrow.Author.Needs.{needs}
 use Rattle.links.proofs.usable.count_one.Statement.{statement}
 use Rattle.links.proofs.usable.count_one.Tie as tie
 
-half-link-requires : tie.Need-half-link-requires
-half-link-requires c κs = search needs
-
 returns : tie.Need-returns
 returns c =
     let at-half-link = c .before .before in
@@ -24,11 +21,7 @@ link-metric-requires : tie.Need-link-metric-requires
 link-metric-requires c κs =
     let at-half-link = c .before .before in
     let at-start = at-half-link .before .before .before in
-    let (checked, i-bound, link-index) = at-start .pre in
-    (checked, i-bound, at-half-link .half-link .ensures, link-index)
-
-is-usable-requires : tie.Need-is-usable-requires
-is-usable-requires c κs = search needs
+    let (checked, i-bound, link-index) = at-start .pre in (checked, i-bound, at-half-link .half-link .ensures, link-index)
 
 returns-2 : tie.Need-returns-2
 returns-2 c =
@@ -55,4 +48,4 @@ returns-3 c =
 pub count-one-spec : {M : Type 1} → statement M
 count-one-spec =
     tie.close
-    (tie.spec half-link-requires returns link-metric-requires is-usable-requires returns-2 returns-3)
+    (tie.spec (λ c κs. search needs) returns link-metric-requires (λ c κs. search needs) returns-2 returns-3)

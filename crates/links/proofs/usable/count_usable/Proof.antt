@@ -20,9 +20,6 @@ loop-holds c =
     let at-start = c .before .before in
     counting-starts (wordsOf (at-start .args .table .now)) (at-start .args .s)
 
-count-one-requires : tie.Need-count-one-requires Inv-loop μ-loop
-count-one-requires c κs = search needs
-
 add-count : tie.Need-add-count Inv-loop μ-loop
 add-count c =
     let at-loop = c .before .before .before in
@@ -37,12 +34,6 @@ add-count c =
       checked .whole .bounded,
       checked .whole .within,
     )
-
-add-i : tie.Need-add-i Inv-loop μ-loop
-add-i c = search needs
-
-loop-less : tie.Need-loop-less Inv-loop μ-loop
-loop-less c = search needs
 
 loop-again : tie.Need-loop-again Inv-loop μ-loop
 loop-again c =
@@ -61,4 +52,4 @@ returns c =
 pub count-usable-spec : {M : Type 1} → statement M
 count-usable-spec =
     tie.close
-    (tie.spec Inv-loop μ-loop loop-holds count-one-requires add-count add-i loop-less loop-again returns)
+    (tie.spec Inv-loop μ-loop loop-holds (λ c κs. search needs) add-count (λ c. search needs) (λ c. search needs) loop-again returns)

@@ -7,26 +7,11 @@ use borrow.Author.Needs.{needs}
 use Rattle.links.proofs.usable.link_metric.Statement.{statement}
 use Rattle.links.proofs.usable.link_metric.Tie as tie
 
-cast-other-place : tie.Need-cast-other-place
-cast-other-place c = search needs
-
-add-other-place : tie.Need-add-other-place
-add-other-place c = search needs
-
-other-place-requires : tie.Need-other-place-requires
-other-place-requires c κs = search needs
-
 returns : tie.Need-returns
 returns c =
     let at-start = c .before .before .before .before in
     metric-alone (at-start .pre .0) (at-start .pre .3) (at-start .args .i) (at-start .pre .1) (halfLinkValues (at-start .args .h))
     (at-start .pre .2) (c .before .other-place .result) (c .before .other-place .ensures) (c .if1 .taken)
-
-cast-half-link : tie.Need-cast-half-link
-cast-half-link c = search needs
-
-sub-half-link : tie.Need-sub-half-link
-sub-half-link c = search needs
 
 half-link-requires : tie.Need-half-link-requires
 half-link-requires c κs =
@@ -38,9 +23,6 @@ half-link-requires c κs =
             (at-start .pre .2) (c .before .other-place .result) (c .before .other-place .ensures),
       ),
     )
-
-combined-requires : tie.Need-combined-requires
-combined-requires c κs = search needs
 
 returns-2 : tie.Need-returns-2
 returns-2 c =
@@ -55,5 +37,5 @@ returns-2 c =
 pub link-metric-spec : {M : Type 1} → statement M
 link-metric-spec =
     tie.close
-    (tie.spec cast-other-place add-other-place other-place-requires returns cast-half-link sub-half-link half-link-requires
-    combined-requires returns-2)
+    (tie.spec (λ c. search needs) (λ c. search needs) (λ c κs. search needs) returns (λ c. search needs) (λ c. search needs)
+    half-link-requires (λ c κs. search needs) returns-2)

@@ -8,33 +8,6 @@ use native.Mathlib.Omega.{arith}
 use Rattle.listing_lines.proofs.entry_line.write_entry_line.Statement.{statement}
 use Rattle.listing_lines.proofs.entry_line.write_entry_line.Tie as tie
 
-vid-of-requires : tie.Need-vid-of-requires
-vid-of-requires c κs = search needs
-
-port-of-requires : tie.Need-port-of-requires
-port-of-requires c κs = search needs
-
-slice-aggregate-write-word : tie.Need-slice-aggregate-write-word
-slice-aggregate-write-word c = search needs
-
-write-word-requires : tie.Need-write-word-requires
-write-word-requires c κs = search needs
-
-slice-aggregate-write-fields : tie.Need-slice-aggregate-write-fields
-slice-aggregate-write-fields c = search needs
-
-write-fields-requires : tie.Need-write-fields-requires
-write-fields-requires c κs = search needs
-
-write-byte-requires : tie.Need-write-byte-requires
-write-byte-requires c κs = search needs
-
-address-of-requires : tie.Need-address-of-requires
-address-of-requires c κs = search needs
-
-write-address-requires : tie.Need-write-address-requires
-write-address-requires c κs = search needs
-
 write-byte-requires-2 : tie.Need-write-byte-requires-2
 write-byte-requires-2 c κs =
     let at-write-address = c .before .before .before in
@@ -51,9 +24,6 @@ write-byte-requires-2 c κs =
       (at-write-address .write-address .ensures .end-is),
       length-digits 16 12 (at-address-of .address-of .result),
     )
-
-same-length : tie.Need-same-length
-same-length c = search needs
 
 returns : tie.Need-returns
 returns c =
@@ -93,5 +63,6 @@ returns c =
 pub write-entry-line-spec : {M : Type 1} → statement M
 write-entry-line-spec =
     tie.close
-    (tie.spec vid-of-requires port-of-requires slice-aggregate-write-word write-word-requires slice-aggregate-write-fields
-    write-fields-requires write-byte-requires address-of-requires write-address-requires write-byte-requires-2 same-length returns)
+    (tie.spec (λ c κs. search needs) (λ c κs. search needs) (λ c. search needs) (λ c κs. search needs) (λ c. search needs)
+    (λ c κs. search needs) (λ c κs. search needs) (λ c κs. search needs) (λ c κs. search needs) write-byte-requires-2 (λ c. search needs)
+    returns)

@@ -15,30 +15,9 @@ abbrev μ-loop : tie.MeasureT-loop
 loop-holds : tie.Need-loop-holds Inv-loop μ-loop
 loop-holds c = entry-listing-starts _ _ _ _
 
-sub-loop : tie.Need-sub-loop Inv-loop μ-loop
-sub-loop c = search needs
-
-mul-write-entry-line : tie.Need-mul-write-entry-line Inv-loop μ-loop
-mul-write-entry-line c = search needs
-
-shared-slice-read-write-entry-line : tie.Need-shared-slice-read-write-entry-line Inv-loop μ-loop
-shared-slice-read-write-entry-line c = search needs
-
-add-write-entry-line : tie.Need-add-write-entry-line Inv-loop μ-loop
-add-write-entry-line c = search needs
-
-mul-write-entry-line-2 : tie.Need-mul-write-entry-line-2 Inv-loop μ-loop
-mul-write-entry-line-2 c = search needs
-
 shared-slice-read-write-entry-line-2 :
     tie.Need-shared-slice-read-write-entry-line-2 Inv-loop μ-loop
 shared-slice-read-write-entry-line-2 c = search needs
-
-add-write-entry-line-2 : tie.Need-add-write-entry-line-2 Inv-loop μ-loop
-add-write-entry-line-2 c = search needs
-
-mul-write-entry-line-3 : tie.Need-mul-write-entry-line-3 Inv-loop μ-loop
-mul-write-entry-line-3 c = search needs
 
 shared-slice-read-write-entry-line-3 :
     tie.Need-shared-slice-read-write-entry-line-3 Inv-loop μ-loop
@@ -51,12 +30,6 @@ write-entry-line-requires c κs =
     let at-start = at-loop .before .before .before in
     entry-listing-room (at-loop .loop .inv) (at-start .pre) (at-loop-test .loop-test .taken)
 
-add-i : tie.Need-add-i Inv-loop μ-loop
-add-i c = search needs
-
-loop-less : tie.Need-loop-less Inv-loop μ-loop
-loop-less c = search needs
-
 loop-again : tie.Need-loop-again Inv-loop μ-loop
 loop-again c =
     let at-write-entry-line = c .before .before in
@@ -66,15 +39,12 @@ loop-again c =
     let (written, write-entry-line-bound) = at-write-entry-line .write-entry-line .ensures in
     entry-listing-goes-on (at-loop .loop .inv) (at-start .pre) (at-loop-test .loop-test .taken) _ _ written write-entry-line-bound
 
-same-length : tie.Need-same-length Inv-loop μ-loop
-same-length c = search needs
-
 returns : tie.Need-returns Inv-loop μ-loop
 returns c = entry-listing-ends (c .before .loop .inv) (c .loop-test .left)
 
 pub write-entry-lines-spec : {M : Type 1} → statement M
 write-entry-lines-spec =
     tie.close
-    (tie.spec Inv-loop μ-loop loop-holds sub-loop mul-write-entry-line shared-slice-read-write-entry-line add-write-entry-line
-    mul-write-entry-line-2 shared-slice-read-write-entry-line-2 add-write-entry-line-2 mul-write-entry-line-3
-    shared-slice-read-write-entry-line-3 write-entry-line-requires add-i loop-less loop-again same-length returns)
+    (tie.spec Inv-loop μ-loop loop-holds (λ c. search needs) (λ c. search needs) (λ c. search needs) (λ c. search needs)
+    (λ c. search needs) shared-slice-read-write-entry-line-2 (λ c. search needs) (λ c. search needs) shared-slice-read-write-entry-line-3
+    write-entry-line-requires (λ c. search needs) (λ c. search needs) loop-again (λ c. search needs) returns)

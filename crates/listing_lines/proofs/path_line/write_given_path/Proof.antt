@@ -10,27 +10,6 @@ use native.Mathlib.Omega.{arith}
 use Rattle.listing_lines.proofs.path_line.write_given_path.Statement.{statement}
 use Rattle.listing_lines.proofs.path_line.write_given_path.Tie as tie
 
-slice-aggregate-write-word : tie.Need-slice-aggregate-write-word
-slice-aggregate-write-word c = search needs
-
-write-word-requires : tie.Need-write-word-requires
-write-word-requires c κs = search needs
-
-slice-aggregate-write-fields : tie.Need-slice-aggregate-write-fields
-slice-aggregate-write-fields c = search needs
-
-write-fields-requires : tie.Need-write-fields-requires
-write-fields-requires c κs = search needs
-
-write-fields-requires-2 : tie.Need-write-fields-requires-2
-write-fields-requires-2 c κs = search needs
-
-write-byte-requires : tie.Need-write-byte-requires
-write-byte-requires c κs = search needs
-
-same-length : tie.Need-same-length
-same-length c = search needs
-
 returns : tie.Need-returns
 returns c =
     let at-write-byte = c .before .before in
@@ -65,5 +44,5 @@ returns c =
 pub write-given-path-spec : {M : Type 1} → statement M
 write-given-path-spec =
     tie.close
-    (tie.spec slice-aggregate-write-word write-word-requires slice-aggregate-write-fields write-fields-requires write-fields-requires-2
-    write-byte-requires same-length returns)
+    (tie.spec (λ c. search needs) (λ c κs. search needs) (λ c. search needs) (λ c κs. search needs) (λ c κs. search needs)
+    (λ c κs. search needs) (λ c. search needs) returns)

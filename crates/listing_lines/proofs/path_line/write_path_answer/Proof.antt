@@ -12,12 +12,6 @@ use borrow.Author.Needs.{needs}
 use Rattle.listing_lines.proofs.path_line.write_path_answer.Statement.{statement}
 use Rattle.listing_lines.proofs.path_line.write_path_answer.Tie as tie
 
-enum-known-answer : tie.Need-enum-known-answer
-enum-known-answer c = search needs
-
-bridges-requires : tie.Need-bridges-requires
-bridges-requires c κs = search needs
-
 slice-aggregate-write-given-path : tie.Need-slice-aggregate-write-given-path
 slice-aggregate-write-given-path c =
     let at-answer = c .before .before .before in
@@ -39,15 +33,6 @@ write-given-path-requires c κs =
     (at-bridges .bridges .ensures) list-room in
     simp length-take (omega (arith, fits, list-length, out-room))
 
-enum-told : tie.Need-enum-told
-enum-told c = search needs
-
-write-none-requires : tie.Need-write-none-requires
-write-none-requires c κs = search needs
-
-same-length : tie.Need-same-length
-same-length c = search needs
-
 returns : tie.Need-returns
 returns c =
     let at-write-given-path = c .before .before in
@@ -61,9 +46,6 @@ returns c =
           (at-bridges .bridges .ensures))),
       write-given-path-bound,
     )
-
-same-length-2 : tie.Need-same-length-2
-same-length-2 c = search needs
 
 returns-2 : tie.Need-returns-2
 returns-2 c =
@@ -82,5 +64,5 @@ returns-2 c =
 pub write-path-answer-spec : {M : Type 1} → statement M
 write-path-answer-spec =
     tie.close
-    (tie.spec enum-known-answer bridges-requires slice-aggregate-write-given-path write-given-path-requires enum-told write-none-requires
-    same-length returns same-length-2 returns-2)
+    (tie.spec (λ c. search needs) (λ c κs. search needs) slice-aggregate-write-given-path write-given-path-requires (λ c. search needs)
+    (λ c κs. search needs) (λ c. search needs) returns (λ c. search needs) returns-2)

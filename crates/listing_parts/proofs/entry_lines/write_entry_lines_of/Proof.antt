@@ -7,9 +7,6 @@ use borrow.Author.Needs.{needs}
 use Rattle.listing_parts.proofs.entry_lines.write_entry_lines_of.Statement.{statement}
 use Rattle.listing_parts.proofs.entry_lines.write_entry_lines_of.Tie as tie
 
-list-in-network-requires : tie.Need-list-in-network-requires
-list-in-network-requires c κs = search needs
-
 slice-reshare-prefix-write-entry-lines : tie.Need-slice-reshare-prefix-write-entry-lines
 slice-reshare-prefix-write-entry-lines c =
     let at-list-in-network = c .before .before .before .before .before .before in
@@ -30,8 +27,7 @@ cast-write-entry-lines : tie.Need-cast-write-entry-lines
 cast-write-entry-lines c =
     let at-start =
     c .before .before .before .before .before .before .before .before .before .before .before .before .before .before .before .before .before in
-    let ((table-network, b-bound, _, _), _) = at-start .pre in
-    omega (arith, b-bound, few-bridges (table-network .checked))
+    let ((table-network, b-bound, _, _), _) = at-start .pre in omega (arith, b-bound, few-bridges (table-network .checked))
 
 write-entry-lines-requires : tie.Need-write-entry-lines-requires
 write-entry-lines-requires c κs =
@@ -40,18 +36,6 @@ write-entry-lines-requires c κs =
     let ((table-network, b-bound, _, out-room), _) = at-start .pre in
     let (appended, _) = at-list-in-network .list-in-network .ensures in
     omega (arith, few-bytes (table-network .checked) (at-start .args .b) b-bound appended, out-room)
-
-same-length : tie.Need-same-length
-same-length c = search needs
-
-same-length-2 : tie.Need-same-length-2
-same-length-2 c = search needs
-
-same-length-3 : tie.Need-same-length-3
-same-length-3 c = search needs
-
-same-length-4 : tie.Need-same-length-4
-same-length-4 c = search needs
 
 returns : tie.Need-returns
 returns c =
@@ -71,5 +55,5 @@ returns c =
 pub write-entry-lines-of-spec : {M : Type 1} → statement M
 write-entry-lines-of-spec =
     tie.close
-    (tie.spec list-in-network-requires slice-reshare-prefix-write-entry-lines slice-aggregate-write-entry-lines cast-write-entry-lines
-    write-entry-lines-requires same-length same-length-2 same-length-3 same-length-4 returns)
+    (tie.spec (λ c κs. search needs) slice-reshare-prefix-write-entry-lines slice-aggregate-write-entry-lines cast-write-entry-lines
+    write-entry-lines-requires (λ c. search needs) (λ c. search needs) (λ c. search needs) (λ c. search needs) returns)

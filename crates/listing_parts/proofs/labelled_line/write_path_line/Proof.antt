@@ -9,15 +9,6 @@ use borrow.Author.Needs.{needs}
 use Rattle.listing_parts.proofs.labelled_line.write_path_line.Statement.{statement}
 use Rattle.listing_parts.proofs.labelled_line.write_path_line.Tie as tie
 
-slice-aggregate-labelled-path : tie.Need-slice-aggregate-labelled-path
-slice-aggregate-labelled-path c = search needs
-
-labelled-path-requires : tie.Need-labelled-path-requires
-labelled-path-requires c κs = search needs
-
-slice-aggregate-write-path-answer : tie.Need-slice-aggregate-write-path-answer
-slice-aggregate-write-path-answer c = search needs
-
 write-path-answer-requires : tie.Need-write-path-answer-requires
 write-path-answer-requires c κs =
     let at-labelled-path = c .before .before .before in
@@ -26,9 +17,6 @@ write-path-answer-requires c κs =
     labels-answer (at-start .args .labels .now) (at-start .args .from) (at-start .pre .1) (replicate 64 0) _
     (length-replicate {A = ℕ} 64 0) _ (at-labelled-path .labelled-path .ensures) in
     (answer .0, search needs, at-start .pre .2)
-
-same-length : tie.Need-same-length
-same-length c = search needs
 
 returns : tie.Need-returns
 returns c =
@@ -47,5 +35,4 @@ returns c =
 pub write-path-line-spec : {M : Type 1} → statement M
 write-path-line-spec =
     tie.close
-    (tie.spec slice-aggregate-labelled-path labelled-path-requires slice-aggregate-write-path-answer write-path-answer-requires same-length
-    returns)
+    (tie.spec (λ c. search needs) (λ c κs. search needs) (λ c. search needs) write-path-answer-requires (λ c. search needs) returns)

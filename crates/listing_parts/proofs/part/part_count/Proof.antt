@@ -23,8 +23,5 @@ add-result-2 c =
     let (bridges-bound, vids-bound) = at-start .pre in
     omega (arith, few-pairs ((at-start .args .s .vids)) ((at-start .args .s .bridges)) vids-bound bridges-bound, bridges-bound)
 
-returns : tie.Need-returns
-returns c = search needs
-
 pub part-count-spec : {M : Type 1} → statement M
-part-count-spec = tie.close (tie.spec mul-result add-result add-result-2 returns)
+part-count-spec = tie.close (tie.spec mul-result add-result add-result-2 (λ c. search needs))

@@ -8,12 +8,6 @@ use borrow.Author.Needs.{needs}
 use Rattle.listing_parts.proofs.part.write_part.Statement.{statement}
 use Rattle.listing_parts.proofs.part.write_part.Tie as tie
 
-write-counts-requires : tie.Need-write-counts-requires
-write-counts-requires c κs = search needs
-
-same-length : tie.Need-same-length
-same-length c = search needs
-
 returns : tie.Need-returns
 returns c =
     let at-write-counts = c .before .before in
@@ -27,9 +21,6 @@ returns c =
         omega (arith, write-counts-bound),
       ),
     )
-
-sub-pair : tie.Need-sub-pair
-sub-pair c = search needs
 
 mul-pairs : tie.Need-mul-pairs
 mul-pairs c =
@@ -70,15 +61,6 @@ write-path-lines-requires c κs =
       (path-ids-room, trees-kept, omega (arith, few-bridges (table-network .checked), out-room)),
     )
 
-same-length-2 : tie.Need-same-length-2
-same-length-2 c = search needs
-
-same-length-3 : tie.Need-same-length-3
-same-length-3 c = search needs
-
-same-length-4 : tie.Need-same-length-4
-same-length-4 c = search needs
-
 returns-2 : tie.Need-returns-2
 returns-2 c =
     let at-write-path-lines = c .before .before .before .before .before .before in
@@ -111,18 +93,6 @@ write-entry-lines-of-requires c κs =
       (path-ids-room, trees-kept),
     )
 
-same-length-5 : tie.Need-same-length-5
-same-length-5 c = search needs
-
-same-length-6 : tie.Need-same-length-6
-same-length-6 c = search needs
-
-same-length-7 : tie.Need-same-length-7
-same-length-7 c = search needs
-
-same-length-8 : tie.Need-same-length-8
-same-length-8 c = search needs
-
 returns-3 : tie.Need-returns-3
 returns-3 c =
     let at-write-entry-lines-of = c .before .before .before .before .before .before .before .before in
@@ -141,6 +111,6 @@ returns-3 c =
 pub write-part-spec : {M : Type 1} → statement M
 write-part-spec =
     tie.close
-    (tie.spec write-counts-requires same-length returns sub-pair mul-pairs div-write-path-lines rem-write-path-lines
-    write-path-lines-requires same-length-2 same-length-3 same-length-4 returns-2 write-entry-lines-of-requires same-length-5 same-length-6
-    same-length-7 same-length-8 returns-3)
+    (tie.spec (λ c κs. search needs) (λ c. search needs) returns (λ c. search needs) mul-pairs div-write-path-lines rem-write-path-lines
+    write-path-lines-requires (λ c. search needs) (λ c. search needs) (λ c. search needs) returns-2 write-entry-lines-of-requires
+    (λ c. search needs) (λ c. search needs) (λ c. search needs) (λ c. search needs) returns-3)

@@ -28,20 +28,12 @@ abbrev μ-loop : tie.MeasureT-loop
 vid-requires : tie.Need-vid-requires Inv-loop μ-loop
 vid-requires c κs =
     let at-start = c .before .before .before .before .before in
-    let ((table-network, k-bound, _), _) = at-start .pre in
-    (table-network .checked .whole, k-bound)
+    let ((table-network, k-bound, _), _) = at-start .pre in (table-network .checked .whole, k-bound)
 
 loop-holds : tie.Need-loop-holds Inv-loop μ-loop
 loop-holds c =
     let at-start = c .before .before .before .before .before .before in
-    let (_, (_, trees-kept, _)) = at-start .pre in
-    (few-starts _ 764 _ _ 0, trees-kept, refl, refl)
-
-add-to : tie.Need-add-to Inv-loop μ-loop
-add-to c = search needs
-
-loop-less : tie.Need-loop-less Inv-loop μ-loop
-loop-less c = search needs
+    let (_, (_, trees-kept, _)) = at-start .pre in (few-starts _ 764 _ _ 0, trees-kept, refl, refl)
 
 loop-again : tie.Need-loop-again Inv-loop μ-loop
 loop-again c =
@@ -82,8 +74,7 @@ add-write-path-line c =
     let at-loop = at-kept-tree .before .before .before .before .before .before in
     let at-good = at-loop .before .before .before .before .before .before .before in
     let (_, (kept-tree-bound, _)) = at-kept-tree .kept-tree .ensures in
-    let (_, _, _, store-length) = at-loop .loop .inv in
-    omega (arith, kept-tree-bound, c .before .store .given, store-length, at-good .good)
+    let (_, _, _, store-length) = at-loop .loop .inv in omega (arith, kept-tree-bound, c .before .store .given, store-length, at-good .good)
 
 mul-write-path-line : tie.Need-mul-write-path-line Inv-loop μ-loop
 mul-write-path-line c =
@@ -91,31 +82,19 @@ mul-write-path-line c =
     let at-loop = at-kept-tree .before .before .before .before .before .before in
     let at-good = at-loop .before .before .before .before .before .before .before in
     let (_, (kept-tree-bound, _)) = at-kept-tree .kept-tree .ensures in
-    let (_, _, _, store-length) = at-loop .loop .inv in
-    omega (arith, kept-tree-bound, c .before .store .given, store-length, at-good .good)
-
-sub-write-path-line : tie.Need-sub-write-path-line Inv-loop μ-loop
-sub-write-path-line c = search needs
-
-part-write-path-line-start : tie.Need-part-write-path-line-start Inv-loop μ-loop
-part-write-path-line-start c = search needs
-
-part-write-path-line-end : tie.Need-part-write-path-line-end Inv-loop μ-loop
-part-write-path-line-end c = search needs
+    let (_, _, _, store-length) = at-loop .loop .inv in omega (arith, kept-tree-bound, c .before .store .given, store-length, at-good .good)
 
 cast-write-path-line : tie.Need-cast-write-path-line Inv-loop μ-loop
 cast-write-path-line c =
     let at-start =
     c .before .before .before .before .before .before .before .before .before .before .before .before .before .before .before .before .before .before .before in
-    let ((table-network, _, from-bound), _) = at-start .pre in
-    omega (arith, from-bound, few-bridges (table-network .checked))
+    let ((table-network, _, from-bound), _) = at-start .pre in omega (arith, from-bound, few-bridges (table-network .checked))
 
 cast-write-path-line-2 : tie.Need-cast-write-path-line-2 Inv-loop μ-loop
 cast-write-path-line-2 c =
     let at-if1 = c .before .before .before .before .before .before .before .before .before .before in
     let at-start = at-if1 .before .before .before .before .before .before .before .before .before in
-    let ((table-network, _, _), _) = at-start .pre in
-    omega (arith, at-if1 .if1 .taken, few-bridges (table-network .checked))
+    let ((table-network, _, _), _) = at-start .pre in omega (arith, at-if1 .if1 .taken, few-bridges (table-network .checked))
 
 write-path-line-requires : tie.Need-write-path-line-requires Inv-loop μ-loop
 write-path-line-requires c κs =
@@ -132,12 +111,6 @@ write-path-line-requires c κs =
           from-bound (at-if1 .if1 .taken) (lent-tree _ (at-kept-tree .kept-tree .result) tree-in),
       few-room appending-few (omega (arith, out-room)) (at-if1 .if1 .taken),
     )
-
-add-to-2 : tie.Need-add-to-2 Inv-loop μ-loop
-add-to-2 c = search needs
-
-loop-less-2 : tie.Need-loop-less-2 Inv-loop μ-loop
-loop-less-2 c = search needs
 
 loop-again-2 : tie.Need-loop-again-2 Inv-loop μ-loop
 loop-again-2 c = (
@@ -162,17 +135,10 @@ loop-again-2 c = (
   search needs,
 )
 
-same-length : tie.Need-same-length Inv-loop μ-loop
-same-length c = search needs
-
-same-length-2 : tie.Need-same-length-2 Inv-loop μ-loop
-same-length-2 c = search needs
-
 same-length-3 : tie.Need-same-length-3 Inv-loop μ-loop
 same-length-3 c =
     let at-loop = c .before .before in
-    let (appending-few, _, _, _) = at-loop .loop .inv in
-    appending-few .same-length
+    let (appending-few, _, _, _) = at-loop .loop .inv in appending-few .same-length
 
 returns : tie.Need-returns Inv-loop μ-loop
 returns c =
@@ -188,6 +154,7 @@ returns c =
 pub write-path-lines-spec : {M : Type 1} → statement M
 write-path-lines-spec =
     tie.close
-    (tie.spec Inv-loop μ-loop vid-requires loop-holds add-to loop-less loop-again kept-tree-requires add-write-path-line mul-write-path-line
-    sub-write-path-line part-write-path-line-start part-write-path-line-end cast-write-path-line cast-write-path-line-2
-    write-path-line-requires add-to-2 loop-less-2 loop-again-2 same-length same-length-2 same-length-3 returns)
+    (tie.spec Inv-loop μ-loop vid-requires loop-holds (λ c. search needs) (λ c. search needs) loop-again kept-tree-requires
+    add-write-path-line mul-write-path-line (λ c. search needs) (λ c. search needs) (λ c. search needs) cast-write-path-line
+    cast-write-path-line-2 write-path-line-requires (λ c. search needs) (λ c. search needs) loop-again-2 (λ c. search needs)
+    (λ c. search needs) same-length-3 returns)

@@ -6,17 +6,8 @@ use borrow.Author.Needs.{needs}
 use Rattle.listing_parts.proofs.progress.begin_listing.Statement.{statement}
 use Rattle.listing_parts.proofs.progress.begin_listing.Tie as tie
 
-slice-aggregate-examine : tie.Need-slice-aggregate-examine
-slice-aggregate-examine c = search needs
-
 examine-requires : tie.Need-examine-requires
 examine-requires c κs = no-keys-yet
-
-enum-known-examined : tie.Need-enum-known-examined
-enum-known-examined c = search needs
-
-slice-aggregate-make-network : tie.Need-slice-aggregate-make-network
-slice-aggregate-make-network c = search needs
 
 make-network-requires : tie.Need-make-network-requires
 make-network-requires c κs =
@@ -27,21 +18,11 @@ make-network-requires c κs =
     let (network-length, _, _) = at-start .pre in
     let passed = the-passed _ (at-examined .examined .given .1) in (passed .0, passed .1, network-length)
 
-slice-aggregate-counts : tie.Need-slice-aggregate-counts
-slice-aggregate-counts c = search needs
-
 counts-requires : tie.Need-counts-requires
 counts-requires c κs =
     let at-examined = c .before .before .before .before .before .before .before in
     let at-examine = at-examined .before .before .before in
-    let (_, passed) = at-examine .examine .ensures in
-    passed _ (at-examined .examined .given .1)
-
-enum-known-examined-2 : tie.Need-enum-known-examined-2
-enum-known-examined-2 c = search needs
-
-same-length : tie.Need-same-length
-same-length c = search needs
+    let (_, passed) = at-examine .examine .ensures in passed _ (at-examined .examined .given .1)
 
 returns : tie.Need-returns
 returns c =
@@ -64,5 +45,5 @@ returns-2 c =
 pub begin-listing-spec : {M : Type 1} → statement M
 begin-listing-spec =
     tie.close
-    (tie.spec slice-aggregate-examine examine-requires enum-known-examined slice-aggregate-make-network make-network-requires
-    slice-aggregate-counts counts-requires enum-known-examined-2 same-length returns returns-2)
+    (tie.spec (λ c. search needs) examine-requires (λ c. search needs) (λ c. search needs) make-network-requires (λ c. search needs)
+    counts-requires (λ c. search needs) (λ c. search needs) returns returns-2)

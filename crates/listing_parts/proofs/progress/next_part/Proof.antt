@@ -9,9 +9,6 @@ use borrow.Author.Needs.{needs}
 use Rattle.listing_parts.proofs.progress.next_part.Statement.{statement}
 use Rattle.listing_parts.proofs.progress.next_part.Tie as tie
 
-enum-known-examined : tie.Need-enum-known-examined
-enum-known-examined c = search needs
-
 part-count-requires : tie.Need-part-count-requires
 part-count-requires c κs =
     let at-start = c .before .before .before .before .before .before .before .before .before .before in
@@ -74,9 +71,6 @@ part-given-requires c κs =
       few-bridges (accepted _ (at-examined .examined .given .1) .table-network .checked),
     )
 
-enum-known-examined-2 : tie.Need-enum-known-examined-2
-enum-known-examined-2 c = search needs
-
 returns-2 : tie.Need-returns-2
 returns-2 c =
     let at-examined2 = c .before .before in
@@ -86,21 +80,6 @@ returns-2 c =
           (c .if2 .taken),
       tt,
     )
-
-write-refused-requires : tie.Need-write-refused-requires
-write-refused-requires c κs = search needs
-
-part-given-requires-2 : tie.Need-part-given-requires-2
-part-given-requires-2 c κs = search needs
-
-same-length : tie.Need-same-length
-same-length c = search needs
-
-same-length-2 : tie.Need-same-length-2
-same-length-2 c = search needs
-
-same-length-3 : tie.Need-same-length-3
-same-length-3 c = search needs
 
 same-length-4 : tie.Need-same-length-4
 same-length-4 c = search needs
@@ -140,5 +119,6 @@ returns-4 c =
 pub next-part-spec : {M : Type 1} → statement M
 next-part-spec =
     tie.close
-    (tie.spec enum-known-examined part-count-requires returns write-part-requires part-given-requires enum-known-examined-2 returns-2
-    write-refused-requires part-given-requires-2 same-length same-length-2 same-length-3 same-length-4 returns-3 same-length-5 returns-4)
+    (tie.spec (λ c. search needs) part-count-requires returns write-part-requires part-given-requires (λ c. search needs) returns-2
+    (λ c κs. search needs) (λ c κs. search needs) (λ c. search needs) (λ c. search needs) (λ c. search needs) same-length-4 returns-3
+    same-length-5 returns-4)

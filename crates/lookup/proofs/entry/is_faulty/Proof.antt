@@ -9,15 +9,6 @@ use borrow.Author.Needs.{needs}
 use Rattle.lookup.proofs.entry.is_faulty.Statement.{statement}
 use Rattle.lookup.proofs.entry.is_faulty.Tie as tie
 
-vid-of-requires : tie.Need-vid-of-requires
-vid-of-requires c κs = search needs
-
-cast-within : tie.Need-cast-within
-cast-within c = search needs
-
-within-requires : tie.Need-within-requires
-within-requires c κs = search needs
-
 returns : tie.Need-returns
 returns c =
     let at-vid-of = c .before .before in
@@ -26,15 +17,6 @@ returns c =
     sym
     (vid-outside (entryOf (at-start .args .first) (at-start .args .upper) (at-start .args .lower)) (bits (at-start .args .upper) 31 16)
     (c .before .within .result) (at-vid-of .vid-of .result) (c .before .within .ensures) vid-of-is (not-true _ (c .if1 .taken)))
-
-port-of-requires : tie.Need-port-of-requires
-port-of-requires c κs = search needs
-
-cast-within-2 : tie.Need-cast-within-2
-cast-within-2 c = search needs
-
-within-requires-2 : tie.Need-within-requires-2
-within-requires-2 c κs = search needs
 
 returns-2 : tie.Need-returns-2
 returns-2 c =
@@ -45,27 +27,12 @@ returns-2 c =
     (port-outside (entryOf (at-start .args .first) (at-start .args .upper) (at-start .args .lower)) (bits (at-start .args .upper) 31 16)
     (c .before .within2 .result) (at-port-of .port-of .result) (c .before .within2 .ensures) port-of-is (not-true _ (c .if2 .taken)))
 
-zero-bits-of-requires : tie.Need-zero-bits-of-requires
-zero-bits-of-requires c = search needs
-
 returns-3 : tie.Need-returns-3
 returns-3 c =
     let at-start = c .before .before .before .before .before .before .before .before in
     sym
     (zero-bit-set (entryOf (at-start .args .first) (at-start .args .upper) (at-start .args .lower)) (bits (at-start .args .upper) 31 16)
     (λ e. c .if3 .taken (omega arith)))
-
-address-of-requires : tie.Need-address-of-requires
-address-of-requires c κs = search needs
-
-group-bit-requires : tie.Need-group-bit-requires
-group-bit-requires c = search needs
-
-add-result : tie.Need-add-result
-add-result c = search needs
-
-kind-of-requires : tie.Need-kind-of-requires
-kind-of-requires c κs = search needs
 
 returns-4 : tie.Need-returns-4
 returns-4 c =
@@ -89,5 +56,6 @@ returns-4 c =
 pub is-faulty-spec : {M : Type 1} → statement M
 is-faulty-spec =
     tie.close
-    (tie.spec vid-of-requires cast-within within-requires returns port-of-requires cast-within-2 within-requires-2 returns-2
-    zero-bits-of-requires returns-3 address-of-requires group-bit-requires add-result kind-of-requires returns-4)
+    (tie.spec (λ c κs. search needs) (λ c. search needs) (λ c κs. search needs) returns (λ c κs. search needs) (λ c. search needs)
+    (λ c κs. search needs) returns-2 (λ c. search needs) returns-3 (λ c κs. search needs) (λ c. search needs) (λ c. search needs)
+    (λ c κs. search needs) returns-4)

@@ -4,20 +4,13 @@ use borrow.Author.Needs.{needs}
 use Rattle.lookup.proofs.entry.is_match.Statement.{statement}
 use Rattle.lookup.proofs.entry.is_match.Tie as tie
 
-vid-of-requires : tie.Need-vid-of-requires
-vid-of-requires c κs = search needs
-
 returns : tie.Need-returns
 returns c = simp (← (c .before .vid-of .ensures .0), ne-eqb _ _ (c .if1 .taken))
-
-address-of-requires : tie.Need-address-of-requires
-address-of-requires c κs = search needs
 
 returns-2 : tie.Need-returns-2
 returns-2 c =
     let at-vid-of = c .before .before in
-    let (vid-of-is, _) = at-vid-of .vid-of .ensures in
-    simp (← vid-of-is, eq-eqb _ _ (c .before .if1 .left), c .address-of .ensures)
+    let (vid-of-is, _) = at-vid-of .vid-of .ensures in simp (← vid-of-is, eq-eqb _ _ (c .before .if1 .left), c .address-of .ensures)
 
 pub is-match-spec : {M : Type 1} → statement M
-is-match-spec = tie.close (tie.spec vid-of-requires returns address-of-requires returns-2)
+is-match-spec = tie.close (tie.spec (λ c κs. search needs) returns (λ c κs. search needs) returns-2)

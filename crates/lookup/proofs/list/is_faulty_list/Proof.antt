@@ -16,47 +16,11 @@ abbrev μ-loop : tie.MeasureT-loop
 loop-holds : tie.Need-loop-holds Inv-loop μ-loop
 loop-holds c = testing-starts _
 
-sub-loop : tie.Need-sub-loop Inv-loop μ-loop
-sub-loop c = search needs
-
-mul-is-faulty : tie.Need-mul-is-faulty Inv-loop μ-loop
-mul-is-faulty c = search needs
-
-shared-slice-read-is-faulty : tie.Need-shared-slice-read-is-faulty Inv-loop μ-loop
-shared-slice-read-is-faulty c = search needs
-
-add-is-faulty : tie.Need-add-is-faulty Inv-loop μ-loop
-add-is-faulty c = search needs
-
-mul-is-faulty-2 : tie.Need-mul-is-faulty-2 Inv-loop μ-loop
-mul-is-faulty-2 c = search needs
-
-shared-slice-read-is-faulty-2 : tie.Need-shared-slice-read-is-faulty-2 Inv-loop μ-loop
-shared-slice-read-is-faulty-2 c = search needs
-
-add-is-faulty-2 : tie.Need-add-is-faulty-2 Inv-loop μ-loop
-add-is-faulty-2 c = search needs
-
-mul-is-faulty-3 : tie.Need-mul-is-faulty-3 Inv-loop μ-loop
-mul-is-faulty-3 c = search needs
-
-shared-slice-read-is-faulty-3 : tie.Need-shared-slice-read-is-faulty-3 Inv-loop μ-loop
-shared-slice-read-is-faulty-3 c = search needs
-
-is-faulty-requires : tie.Need-is-faulty-requires Inv-loop μ-loop
-is-faulty-requires c κs = search needs
-
 returns : tie.Need-returns Inv-loop μ-loop
 returns c =
     let at-loop-test = c .before .before .before .before .before in
     let at-loop = at-loop-test .before in
     sym (testing-finds (at-loop .loop .inv) (at-loop-test .loop-test .taken) (sym (c .before .is-faulty .ensures) ∙ c .if1 .taken))
-
-add-at : tie.Need-add-at Inv-loop μ-loop
-add-at c = search needs
-
-loop-less : tie.Need-loop-less Inv-loop μ-loop
-loop-less c = search needs
 
 loop-again : tie.Need-loop-again Inv-loop μ-loop
 loop-again c =
@@ -70,6 +34,6 @@ returns-2 c = sym (testing-ends (c .before .loop .inv) (c .loop-test .left))
 pub is-faulty-list-spec : {M : Type 1} → statement M
 is-faulty-list-spec =
     tie.close
-    (tie.spec Inv-loop μ-loop loop-holds sub-loop mul-is-faulty shared-slice-read-is-faulty add-is-faulty mul-is-faulty-2
-    shared-slice-read-is-faulty-2 add-is-faulty-2 mul-is-faulty-3 shared-slice-read-is-faulty-3 is-faulty-requires returns add-at loop-less
-    loop-again returns-2)
+    (tie.spec Inv-loop μ-loop loop-holds (λ c. search needs) (λ c. search needs) (λ c. search needs) (λ c. search needs)
+    (λ c. search needs) (λ c. search needs) (λ c. search needs) (λ c. search needs) (λ c. search needs) (λ c κs. search needs) returns
+    (λ c. search needs) (λ c. search needs) loop-again returns-2)

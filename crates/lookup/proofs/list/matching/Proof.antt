@@ -20,50 +20,11 @@ abbrev μ-loop : tie.MeasureT-loop
 loop-holds : tie.Need-loop-holds Inv-loop μ-loop
 loop-holds c = looking-starts _ _ _ _
 
-sub-loop : tie.Need-sub-loop Inv-loop μ-loop
-sub-loop c = search needs
-
-mul-first : tie.Need-mul-first Inv-loop μ-loop
-mul-first c = search needs
-
-shared-slice-read-first : tie.Need-shared-slice-read-first Inv-loop μ-loop
-shared-slice-read-first c = search needs
-
-add-is-match : tie.Need-add-is-match Inv-loop μ-loop
-add-is-match c = search needs
-
-mul-is-match : tie.Need-mul-is-match Inv-loop μ-loop
-mul-is-match c = search needs
-
-shared-slice-read-is-match : tie.Need-shared-slice-read-is-match Inv-loop μ-loop
-shared-slice-read-is-match c = search needs
-
-add-is-match-2 : tie.Need-add-is-match-2 Inv-loop μ-loop
-add-is-match-2 c = search needs
-
-mul-is-match-2 : tie.Need-mul-is-match-2 Inv-loop μ-loop
-mul-is-match-2 c = search needs
-
-shared-slice-read-is-match-2 : tie.Need-shared-slice-read-is-match-2 Inv-loop μ-loop
-shared-slice-read-is-match-2 c = search needs
-
-is-match-requires : tie.Need-is-match-requires Inv-loop μ-loop
-is-match-requires c κs = search needs
-
-add-at : tie.Need-add-at Inv-loop μ-loop
-add-at c = search needs
-
-loop-less : tie.Need-loop-less Inv-loop μ-loop
-loop-less c = search needs
-
 loop-again : tie.Need-loop-again Inv-loop μ-loop
 loop-again c =
     let at-loop-test = c .before .before .before .before .before in
     let at-loop = at-loop-test .before in
     looking-passes (at-loop .loop .inv) (at-loop-test .loop-test .taken) (sym (c .before .is-match .ensures) ∙ not-true _ (c .if1 .taken))
-
-port-of-requires : tie.Need-port-of-requires Inv-loop μ-loop
-port-of-requires c κs = search needs
 
 returns : tie.Need-returns Inv-loop μ-loop
 returns c =
@@ -77,15 +38,6 @@ returns c =
     (sym
     (looking-finds (at-loop .loop .inv) (at-loop-test .loop-test .taken)
     (sym (at-is-match .is-match .ensures) ∙ not-false _ (at-if1 .if1 .left)) (c .before .if2 .taken)))
-
-sub-left : tie.Need-sub-left Inv-loop μ-loop
-sub-left c = search needs
-
-add-at-2 : tie.Need-add-at-2 Inv-loop μ-loop
-add-at-2 c = search needs
-
-loop-less-2 : tie.Need-loop-less-2 Inv-loop μ-loop
-loop-less-2 c = search needs
 
 loop-again-2 : tie.Need-loop-again-2 Inv-loop μ-loop
 loop-again-2 c =
@@ -101,6 +53,7 @@ returns-2 c = ap answered (sym (looking-ends (c .before .loop .inv) (c .loop-tes
 pub matching-spec : {M : Type 1} → statement M
 matching-spec =
     tie.close
-    (tie.spec Inv-loop μ-loop loop-holds sub-loop mul-first shared-slice-read-first add-is-match mul-is-match shared-slice-read-is-match
-    add-is-match-2 mul-is-match-2 shared-slice-read-is-match-2 is-match-requires add-at loop-less loop-again port-of-requires returns
-    sub-left add-at-2 loop-less-2 loop-again-2 returns-2)
+    (tie.spec Inv-loop μ-loop loop-holds (λ c. search needs) (λ c. search needs) (λ c. search needs) (λ c. search needs)
+    (λ c. search needs) (λ c. search needs) (λ c. search needs) (λ c. search needs) (λ c. search needs) (λ c κs. search needs)
+    (λ c. search needs) (λ c. search needs) loop-again (λ c κs. search needs) returns (λ c. search needs) (λ c. search needs)
+    (λ c. search needs) loop-again-2 returns-2)

@@ -4,15 +4,9 @@ use borrow.Author.Needs.{needs}
 use Rattle.lookup.proofs.list.port_in_list.Statement.{statement}
 use Rattle.lookup.proofs.list.port_in_list.Tie as tie
 
-is-faulty-list-requires : tie.Need-is-faulty-list-requires
-is-faulty-list-requires c κs = search needs
-
 returns : tie.Need-returns
 unfolding lookupOutcome
 returns c = simp (← (c .before .is-faulty-list .ensures), c .if1 .taken)
-
-matching-requires : tie.Need-matching-requires
-matching-requires c κs = search needs
 
 returns-2 : tie.Need-returns-2
 unfolding lookupOutcome
@@ -21,4 +15,4 @@ returns-2 c =
     simp (← (at-is-faulty-list .is-faulty-list .ensures), c .before .if1 .left, c .matching .ensures)
 
 pub port-in-list-spec : {M : Type 1} → statement M
-port-in-list-spec = tie.close (tie.spec is-faulty-list-requires returns matching-requires returns-2)
+port-in-list-spec = tie.close (tie.spec (λ c κs. search needs) returns (λ c κs. search needs) returns-2)

@@ -14,41 +14,16 @@ Inv-loop pairs n u from network₀ end k₀ at₀ network k at = Row pairs netwo
 abbrev μ-loop : tie.MeasureT-loop
 μ-loop pairs n u from network₀ end k₀ at₀ network k at = 64 * u + 64 - k
 
-mul-end : tie.Need-mul-end Inv-loop μ-loop
-mul-end c = search needs
-
-add-end : tie.Need-add-end Inv-loop μ-loop
-add-end c = search needs
-
-mul-k : tie.Need-mul-k Inv-loop μ-loop
-mul-k c = search needs
-
 loop-holds : tie.Need-loop-holds Inv-loop μ-loop
 loop-holds c =
     let at-start = c .before .before in
-    let (_, _, listed, _) = at-start .pre in
-    row-starts listed (64 * at-start .args .u + 64) (omega arith)
-
-mul-hop : tie.Need-mul-hop Inv-loop μ-loop
-mul-hop c = search needs
-
-shared-slice-read-hop : tie.Need-shared-slice-read-hop Inv-loop μ-loop
-shared-slice-read-hop c = search needs
-
-add-k : tie.Need-add-k Inv-loop μ-loop
-add-k c = search needs
-
-loop-less : tie.Need-loop-less Inv-loop μ-loop
-loop-less c = search needs
+    let (_, _, listed, _) = at-start .pre in row-starts listed (64 * at-start .args .u + 64) (omega arith)
 
 loop-again : tie.Need-loop-again Inv-loop μ-loop
 loop-again c =
     let at-loop-test = c .before .before in
     let at-loop = at-loop-test .before in
     row-passes (at-loop .loop .inv) (at-loop-test .loop-test .taken) (c .if1 .taken)
-
-cast-network : tie.Need-cast-network Inv-loop μ-loop
-cast-network c = search needs
 
 add-network : tie.Need-add-network Inv-loop μ-loop
 add-network c =
@@ -123,9 +98,6 @@ slice-write-network-2 c =
       network-room,
     ))
 
-port-of-hop-requires : tie.Need-port-of-hop-requires Inv-loop μ-loop
-port-of-hop-requires c κs = search needs
-
 add-network-3 : tie.Need-add-network-3 Inv-loop μ-loop
 add-network-3 c =
     let at-if1 = c .before .before in
@@ -171,12 +143,6 @@ add-at c =
     omega
     (arith, room-for-hop (at-loop .loop .inv .listed) (at-if1 .if1 .left) room (omega (arith, at-loop-test .loop-test .taken, u-bound)))
 
-add-k-2 : tie.Need-add-k-2 Inv-loop μ-loop
-add-k-2 c = search needs
-
-loop-less-2 : tie.Need-loop-less-2 Inv-loop μ-loop
-loop-less-2 c = search needs
-
 loop-again-2 : tie.Need-loop-again-2 Inv-loop μ-loop
 loop-again-2 c =
     let at-if1 = c .before .before in
@@ -188,15 +154,13 @@ loop-again-2 c =
     (room-for-hop (at-loop .loop .inv .listed) (at-if1 .if1 .left) room (omega (arith, at-loop-test .loop-test .taken, u-bound)))
     network-room _ _ (c .before .cost-of-hop .ensures) (c .port-of-hop .ensures)
 
-same-length : tie.Need-same-length Inv-loop μ-loop
-same-length c = search needs
-
 returns : tie.Need-returns Inv-loop μ-loop
 returns c = row-ends (c .before .loop .inv) (c .loop-test .left)
 
 pub list-hops-spec : {M : Type 1} → statement M
 list-hops-spec =
     tie.close
-    (tie.spec Inv-loop μ-loop mul-end add-end mul-k loop-holds mul-hop shared-slice-read-hop add-k loop-less loop-again cast-network
-    add-network mul-network slice-write-network cost-of-hop-requires add-network-2 mul-network-2 slice-write-network-2 port-of-hop-requires
-    add-network-3 mul-network-3 slice-write-network-3 add-at add-k-2 loop-less-2 loop-again-2 same-length returns)
+    (tie.spec Inv-loop μ-loop (λ c. search needs) (λ c. search needs) (λ c. search needs) loop-holds (λ c. search needs)
+    (λ c. search needs) (λ c. search needs) (λ c. search needs) loop-again (λ c. search needs) add-network mul-network slice-write-network
+    cost-of-hop-requires add-network-2 mul-network-2 slice-write-network-2 (λ c κs. search needs) add-network-3 mul-network-3
+    slice-write-network-3 add-at (λ c. search needs) (λ c. search needs) loop-again-2 (λ c. search needs) returns)

@@ -14,9 +14,6 @@ Inv-loop pairs n network₀ at₀ u₀ network at u = Filling pairs n network₀
 abbrev μ-loop : tie.MeasureT-loop
 μ-loop pairs n network₀ at₀ u₀ network at u = n - u
 
-slice-write-network : tie.Need-slice-write-network Inv-loop μ-loop
-slice-write-network c = search needs
-
 loop-holds : tie.Need-loop-holds Inv-loop μ-loop
 loop-holds c =
     let at-start = c .before .before in
@@ -34,9 +31,6 @@ list-hops-requires c κs =
       omega (arith, at-loop .loop .inv .same-length, length-set (at-start .args .network .now) 1 0, network-room),
     )
 
-add-u : tie.Need-add-u Inv-loop μ-loop
-add-u c = search needs
-
 cast-network : tie.Need-cast-network Inv-loop μ-loop
 cast-network c =
     let at-list-hops = c .before .before in
@@ -45,12 +39,6 @@ cast-network c =
     let at-start = at-loop .before .before .before in
     let (room, _) = at-start .pre in
     omega (arith, filling-room (at-loop .loop .inv) (at-list-hops .list-hops .ensures) room (at-loop-test .loop-test .taken))
-
-add-network : tie.Need-add-network Inv-loop μ-loop
-add-network c = search needs
-
-mul-network : tie.Need-mul-network Inv-loop μ-loop
-mul-network c = search needs
 
 slice-write-network-2 : tie.Need-slice-write-network-2 Inv-loop μ-loop
 slice-write-network-2 c =
@@ -68,9 +56,6 @@ slice-write-network-2 c =
       room .most,
       network-room,
     )
-
-loop-less : tie.Need-loop-less Inv-loop μ-loop
-loop-less c = search needs
 
 loop-again : tie.Need-loop-again Inv-loop μ-loop
 loop-again c =
@@ -97,5 +82,5 @@ returns c =
 pub list-neighbours-spec : {M : Type 1} → statement M
 list-neighbours-spec =
     tie.close
-    (tie.spec Inv-loop μ-loop slice-write-network loop-holds list-hops-requires add-u cast-network add-network mul-network
-    slice-write-network-2 loop-less loop-again same-length returns)
+    (tie.spec Inv-loop μ-loop (λ c. search needs) loop-holds list-hops-requires (λ c. search needs) cast-network (λ c. search needs)
+    (λ c. search needs) slice-write-network-2 (λ c. search needs) loop-again same-length returns)

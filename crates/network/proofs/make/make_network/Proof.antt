@@ -11,9 +11,6 @@ use borrow.Author.Needs.{needs}
 use Rattle.network.proofs.make.make_network.Statement.{statement}
 use Rattle.network.proofs.make.make_network.Tie as tie
 
-slice-aggregate-lowest-hops : tie.Need-slice-aggregate-lowest-hops
-slice-aggregate-lowest-hops c = search needs
-
 lowest-hops-requires : tie.Need-lowest-hops-requires
 lowest-hops-requires c κs =
     let at-start = c .before .before .before .before in
@@ -26,24 +23,12 @@ lowest-hops-requires c κs =
       link-index,
     )
 
-slice-aggregate-list-neighbours : tie.Need-slice-aggregate-list-neighbours
-slice-aggregate-list-neighbours c = search needs
-
 list-neighbours-requires : tie.Need-list-neighbours-requires
 list-neighbours-requires c κs =
     let at-lowest-hops = c .before .before .before in
     let at-start = at-lowest-hops .before .before .before .before .before in
     let (checked, link-index, network-length) = at-start .pre in
     (room checked (link-index .indexed .few) (at-lowest-hops .lowest-hops .ensures), omega (arith, network-length))
-
-sub-write-identifiers : tie.Need-sub-write-identifiers
-sub-write-identifiers c = search needs
-
-part-write-identifiers-start : tie.Need-part-write-identifiers-start
-part-write-identifiers-start c = search needs
-
-part-write-identifiers-end : tie.Need-part-write-identifiers-end
-part-write-identifiers-end c = search needs
 
 write-identifiers-requires : tie.Need-write-identifiers-requires
 write-identifiers-requires c κs =
@@ -52,12 +37,6 @@ write-identifiers-requires c κs =
     let (checked, _, network-length) = at-start .pre in
     let (_, the-network-length) = at-list-neighbours .list-neighbours .ensures in
     (checked .whole, simp (length-take, length-drop) (omega (arith, the-network-length, network-length, few-bridges checked)))
-
-cast-network : tie.Need-cast-network
-cast-network c = search needs
-
-slice-write-network : tie.Need-slice-write-network
-slice-write-network c = search needs
 
 same-length : tie.Need-same-length
 same-length c =
@@ -91,6 +70,5 @@ returns c =
 pub make-network-spec : {M : Type 1} → statement M
 make-network-spec =
     tie.close
-    (tie.spec slice-aggregate-lowest-hops lowest-hops-requires slice-aggregate-list-neighbours list-neighbours-requires
-    sub-write-identifiers part-write-identifiers-start part-write-identifiers-end write-identifiers-requires cast-network
-    slice-write-network same-length returns)
+    (tie.spec (λ c. search needs) lowest-hops-requires (λ c. search needs) list-neighbours-requires (λ c. search needs) (λ c. search needs)
+    (λ c. search needs) write-identifiers-requires (λ c. search needs) (λ c. search needs) same-length returns)

@@ -7,18 +7,6 @@ use borrow.Author.Needs.{needs}
 use Rattle.network.proofs.parts.first_hop.Statement.{statement}
 use Rattle.network.proofs.parts.first_hop.Tie as tie
 
-add-wide : tie.Need-add-wide
-add-wide c = search needs
-
-mul-wide : tie.Need-mul-wide
-mul-wide c = search needs
-
-shared-slice-read-wide : tie.Need-shared-slice-read-wide
-shared-slice-read-wide c = search needs
-
-wide-requires : tie.Need-wide-requires
-wide-requires c κs = search needs
-
 returns : tie.Need-returns
 returns c =
     let at-start = c .before .before .before in
@@ -26,4 +14,5 @@ returns c =
 
 pub first-hop-spec : {M : Type 1} → statement M
 first-hop-spec =
-    tie.close (tie.spec add-wide mul-wide shared-slice-read-wide wide-requires returns)
+    tie.close
+    (tie.spec (λ c. search needs) (λ c. search needs) (λ c. search needs) (λ c κs. search needs) returns)

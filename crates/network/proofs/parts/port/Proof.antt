@@ -7,17 +7,8 @@ use borrow.Author.Needs.{needs}
 use Rattle.network.proofs.parts.port.Statement.{statement}
 use Rattle.network.proofs.parts.port.Tie as tie
 
-add-result : tie.Need-add-result
-add-result c = search needs
-
-mul-result : tie.Need-mul-result
-mul-result c = search needs
-
-shared-slice-read-result : tie.Need-shared-slice-read-result
-shared-slice-read-result c = search needs
-
 returns : tie.Need-returns
 returns c = sym (part-at (c .before .args .network .now) portsAt 512 (c .before .args .i) (omega arith))
 
 pub port-spec : {M : Type 1} → statement M
-port-spec = tie.close (tie.spec add-result mul-result shared-slice-read-result returns)
+port-spec = tie.close (tie.spec (λ c. search needs) (λ c. search needs) (λ c. search needs) returns)

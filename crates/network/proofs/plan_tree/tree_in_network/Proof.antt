@@ -5,48 +5,6 @@ use borrow.Author.Needs.{needs}
 use Rattle.network.proofs.plan_tree.tree_in_network.Statement.{statement}
 use Rattle.network.proofs.plan_tree.tree_in_network.Tie as tie
 
-mask-of-requires : tie.Need-mask-of-requires
-mask-of-requires c κs = search needs
-
-slice-aggregate-write-keys : tie.Need-slice-aggregate-write-keys
-slice-aggregate-write-keys c = search needs
-
-write-keys-requires : tie.Need-write-keys-requires
-write-keys-requires c κs = search needs
-
-bridges-requires : tie.Need-bridges-requires
-bridges-requires c κs = search needs
-
-sub-tree : tie.Need-sub-tree
-sub-tree c = search needs
-
-part-tree-start : tie.Need-part-tree-start
-part-tree-start c = search needs
-
-part-tree-end : tie.Need-part-tree-end
-part-tree-end c = search needs
-
-sub-tree-2 : tie.Need-sub-tree-2
-sub-tree-2 c = search needs
-
-part-tree-start-2 : tie.Need-part-tree-start-2
-part-tree-start-2 c = search needs
-
-part-tree-end-2 : tie.Need-part-tree-end-2
-part-tree-end-2 c = search needs
-
-sub-tree-3 : tie.Need-sub-tree-3
-sub-tree-3 c = search needs
-
-part-tree-start-3 : tie.Need-part-tree-start-3
-part-tree-start-3 c = search needs
-
-part-tree-end-3 : tie.Need-part-tree-end-3
-part-tree-end-3 c = search needs
-
-slice-aggregate-tree : tie.Need-slice-aggregate-tree
-slice-aggregate-tree c = search needs
-
 tree-requires : tie.Need-tree-requires
 tree-requires c κs =
     let at-bridges = c .before .before .before .before .before .before in
@@ -61,12 +19,6 @@ tree-requires c κs =
       omega (arith, path-ids-room),
     )
 
-same-length : tie.Need-same-length
-same-length c = search needs
-
-same-length-2 : tie.Need-same-length-2
-same-length-2 c = search needs
-
 returns : tie.Need-returns
 returns c =
     let at-tree = c .before .before .before .before in
@@ -80,6 +32,6 @@ returns c =
 pub tree-in-network-spec : {M : Type 1} → statement M
 tree-in-network-spec =
     tie.close
-    (tie.spec mask-of-requires slice-aggregate-write-keys write-keys-requires bridges-requires sub-tree part-tree-start part-tree-end
-    sub-tree-2 part-tree-start-2 part-tree-end-2 sub-tree-3 part-tree-start-3 part-tree-end-3 slice-aggregate-tree tree-requires same-length
-    same-length-2 returns)
+    (tie.spec (λ c κs. search needs) (λ c. search needs) (λ c κs. search needs) (λ c κs. search needs) (λ c. search needs)
+    (λ c. search needs) (λ c. search needs) (λ c. search needs) (λ c. search needs) (λ c. search needs) (λ c. search needs)
+    (λ c. search needs) (λ c. search needs) (λ c. search needs) tree-requires (λ c. search needs) (λ c. search needs) returns)

@@ -5,18 +5,6 @@ use borrow.Author.Needs.{needs}
 use Rattle.network.proofs.plan_tree.tree_of_table.Statement.{statement}
 use Rattle.network.proofs.plan_tree.tree_of_table.Tie as tie
 
-slice-aggregate-make-network : tie.Need-slice-aggregate-make-network
-slice-aggregate-make-network c = search needs
-
-make-network-requires : tie.Need-make-network-requires
-make-network-requires c κs = search needs
-
-slice-aggregate-tree-in-network : tie.Need-slice-aggregate-tree-in-network
-slice-aggregate-tree-in-network c = search needs
-
-slice-aggregate-tree-in-network-2 : tie.Need-slice-aggregate-tree-in-network-2
-slice-aggregate-tree-in-network-2 c = search needs
-
 tree-in-network-requires : tie.Need-tree-in-network-requires
 tree-in-network-requires c κs = (
   let at-make-network = c .before .before .before .before in is-network (at-make-network .make-network .ensures),
@@ -33,9 +21,6 @@ tree-in-network-requires c κs = (
   search needs,
 )
 
-same-length : tie.Need-same-length
-same-length c = search needs
-
 returns : tie.Need-returns
 returns c =
     let at-tree-in-network = c .before .before .before in
@@ -45,5 +30,5 @@ returns c =
 pub tree-of-table-spec : {M : Type 1} → statement M
 tree-of-table-spec =
     tie.close
-    (tie.spec slice-aggregate-make-network make-network-requires slice-aggregate-tree-in-network slice-aggregate-tree-in-network-2
-    tree-in-network-requires same-length returns)
+    (tie.spec (λ c. search needs) (λ c κs. search needs) (λ c. search needs) (λ c. search needs) tree-in-network-requires
+    (λ c. search needs) returns)

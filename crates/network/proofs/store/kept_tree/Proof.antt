@@ -5,36 +5,6 @@ use borrow.Author.Needs.{needs}
 use Rattle.network.proofs.store.kept_tree.Statement.{statement}
 use Rattle.network.proofs.store.kept_tree.Tie as tie
 
-sub-slot : tie.Need-sub-slot
-sub-slot c = search needs
-
-mul-slot : tie.Need-mul-slot
-mul-slot c = search needs
-
-add-slot : tie.Need-add-slot
-add-slot c = search needs
-
-line-of-requires : tie.Need-line-of-requires
-line-of-requires c κs = search needs
-
-mul-at : tie.Need-mul-at
-mul-at c = search needs
-
-add-place : tie.Need-add-place
-add-place c = search needs
-
-mul-if1 : tie.Need-mul-if1
-mul-if1 c = search needs
-
-slice-read-if1 : tie.Need-slice-read-if1
-slice-read-if1 c = search needs
-
-cast-if1 : tie.Need-cast-if1
-cast-if1 c = search needs
-
-add-if1 : tie.Need-add-if1
-add-if1 c = search needs
-
 returns : tie.Need-returns
 returns c =
     let at-line-of = c .before .before in
@@ -48,42 +18,6 @@ returns c =
             (at-line-of .line-of .result) line-of-is (c .if1 .taken),
       ),
     )
-
-add-tree-in-network : tie.Need-add-tree-in-network
-add-tree-in-network c = search needs
-
-mul-tree-in-network : tie.Need-mul-tree-in-network
-mul-tree-in-network c = search needs
-
-sub-tree-in-network : tie.Need-sub-tree-in-network
-sub-tree-in-network c = search needs
-
-part-tree-in-network-start : tie.Need-part-tree-in-network-start
-part-tree-in-network-start c = search needs
-
-part-tree-in-network-end : tie.Need-part-tree-in-network-end
-part-tree-in-network-end c = search needs
-
-tree-in-network-requires : tie.Need-tree-in-network-requires
-tree-in-network-requires c κs = search needs
-
-cast-store : tie.Need-cast-store
-cast-store c = search needs
-
-add-store : tie.Need-add-store
-add-store c = search needs
-
-mul-store : tie.Need-mul-store
-mul-store c = search needs
-
-slice-write-store : tie.Need-slice-write-store
-slice-write-store c = search needs
-
-same-length : tie.Need-same-length
-same-length c = search needs
-
-same-length-2 : tie.Need-same-length-2
-same-length-2 c = search needs
 
 returns-2 : tie.Need-returns-2
 returns-2 c =
@@ -125,6 +59,7 @@ returns-2 c =
 pub kept-tree-spec : {M : Type 1} → statement M
 kept-tree-spec =
     tie.close
-    (tie.spec sub-slot mul-slot add-slot line-of-requires mul-at add-place mul-if1 slice-read-if1 cast-if1 add-if1 returns
-    add-tree-in-network mul-tree-in-network sub-tree-in-network part-tree-in-network-start part-tree-in-network-end tree-in-network-requires
-    cast-store add-store mul-store slice-write-store same-length same-length-2 returns-2)
+    (tie.spec (λ c. search needs) (λ c. search needs) (λ c. search needs) (λ c κs. search needs) (λ c. search needs) (λ c. search needs)
+    (λ c. search needs) (λ c. search needs) (λ c. search needs) (λ c. search needs) returns (λ c. search needs) (λ c. search needs)
+    (λ c. search needs) (λ c. search needs) (λ c. search needs) (λ c κs. search needs) (λ c. search needs) (λ c. search needs)
+    (λ c. search needs) (λ c. search needs) (λ c. search needs) (λ c. search needs) returns-2)

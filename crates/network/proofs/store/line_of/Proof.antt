@@ -5,11 +5,8 @@ use mathlib.Core.Path.{refl}
 use Rattle.network.proofs.store.line_of.Statement.{statement}
 use Rattle.network.proofs.store.line_of.Tie as tie
 
-rem-result : tie.Need-rem-result
-rem-result c = search needs
-
 returns : tie.Need-returns
 returns c = (refl, mod-lt (c .args .slot) (c .pre))
 
 pub line-of-spec : {M : Type 1} → statement M
-line-of-spec = tie.close (tie.spec rem-result returns)
+line-of-spec = tie.close (tie.spec (λ c. search needs) returns)

@@ -25,9 +25,6 @@ returns-2 c =
     (no-root (planAt (wordsOf (at-start .args .table .now)) (at-start .args .s)) (at-start .args .vid) (at-start .args .from)
     (at-start .args .root) (omega (arith, bridges-counted checked, (c .if2 .taken))))
 
-index-of-requires : tie.Need-index-of-requires
-index-of-requires c κs = search needs
-
 returns-3 : tie.Need-returns-3
 returns-3 c =
     let at-if2 = c .before .before in
@@ -55,9 +52,6 @@ tree-of-table-requires c κs =
       link-index,
     )
 
-same-length : tie.Need-same-length
-same-length c = search needs
-
 returns-4 : tie.Need-returns-4
 returns-4 c =
     let at-tree-of-table = c .before .before in
@@ -72,4 +66,4 @@ returns-4 c =
 pub named-tree-spec : {M : Type 1} → statement M
 named-tree-spec =
     tie.close
-    (tie.spec returns returns-2 index-of-requires returns-3 tree-of-table-requires same-length returns-4)
+    (tie.spec returns returns-2 (λ c κs. search needs) returns-3 tree-of-table-requires (λ c. search needs) returns-4)

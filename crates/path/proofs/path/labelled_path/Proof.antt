@@ -6,15 +6,6 @@ use borrow.Author.Needs.{needs}
 use Rattle.path.proofs.path.labelled_path.Statement.{statement}
 use Rattle.path.proofs.path.labelled_path.Tie as tie
 
-cost-at-requires : tie.Need-cost-at-requires
-cost-at-requires c κs = search needs
-
-is-no-path-requires : tie.Need-is-no-path-requires
-is-no-path-requires c κs = search needs
-
-refused-requires : tie.Need-refused-requires
-refused-requires c κs = search needs
-
 returns : tie.Need-returns
 returns c =
     let at-is-no-path = c .before .before in
@@ -22,15 +13,6 @@ returns c =
     let at-start = at-cost-at .before .before .before in
     no-path-labelled (at-start .args .labels .now) (at-start .args .from) (at-start .args .list .now) _ (c .refused .ensures)
     (no-path (at-cost-at .cost-at .ensures) (at-is-no-path .is-no-path .ensures) (c .before .if1 .taken))
-
-hops-at-requires : tie.Need-hops-at-requires
-hops-at-requires c κs = search needs
-
-bridges-requires : tie.Need-bridges-requires
-bridges-requires c κs = search needs
-
-refused-requires-2 : tie.Need-refused-requires-2
-refused-requires-2 c κs = search needs
 
 returns-2 : tie.Need-returns-2
 returns-2 c =
@@ -60,9 +42,6 @@ write-path-requires c κs =
       omega (arith, c .before .if2 .left),
     )
 
-same-length : tie.Need-same-length
-same-length c = search needs
-
 returns-3 : tie.Need-returns-3
 returns-3 c =
     let at-write-path = c .before .before in
@@ -80,5 +59,5 @@ returns-3 c =
 pub labelled-path-spec : {M : Type 1} → statement M
 labelled-path-spec =
     tie.close
-    (tie.spec cost-at-requires is-no-path-requires refused-requires returns hops-at-requires bridges-requires refused-requires-2 returns-2
-    write-path-requires same-length returns-3)
+    (tie.spec (λ c κs. search needs) (λ c κs. search needs) (λ c κs. search needs) returns (λ c κs. search needs) (λ c κs. search needs)
+    (λ c κs. search needs) returns-2 write-path-requires (λ c. search needs) returns-3)

@@ -9,15 +9,6 @@ use borrow.Author.Needs.{needs}
 use Rattle.path.proofs.path.path_cost_in_table.Statement.{statement}
 use Rattle.path.proofs.path.path_cost_in_table.Tie as tie
 
-slice-aggregate-named-tree : tie.Need-slice-aggregate-named-tree
-slice-aggregate-named-tree c = search needs
-
-named-tree-requires : tie.Need-named-tree-requires
-named-tree-requires c κs = search needs
-
-add-result : tie.Need-add-result
-add-result c = search needs
-
 returns : tie.Need-returns
 returns c =
     let at-named-tree = c .before .before in
@@ -25,9 +16,6 @@ returns c =
     let (checked, _) = at-start .pre in
     nothing-named-number (planAt (wordsOf (at-start .args .table .now)) (at-start .args .s)) (checked .laws) (at-start .args .vid)
     (at-start .args .from) (at-start .args .to) (at-named-tree .named-tree .ensures) (c .if1 .taken)
-
-slice-aggregate-cost-at : tie.Need-slice-aggregate-cost-at
-slice-aggregate-cost-at c = search needs
 
 cost-at-requires : tie.Need-cost-at-requires
 cost-at-requires c κs =
@@ -39,12 +27,6 @@ cost-at-requires c κs =
     (at-start .args .from) (at-start .args .to) (at-named-tree .named-tree .ensures) (c .before .if1 .left) in
     omega (arith, walk .place)
 
-is-no-path-requires : tie.Need-is-no-path-requires
-is-no-path-requires c κs = search needs
-
-add-result-2 : tie.Need-add-result-2
-add-result-2 c = search needs
-
 returns-2 : tie.Need-returns-2
 returns-2 c =
     let at-cost-at = c .before .before in
@@ -55,9 +37,6 @@ returns-2 c =
     no-path-number (planAt (wordsOf (at-start .args .table .now)) (at-start .args .s)) (checked .laws) (at-start .args .vid)
     (at-start .args .from) (at-start .args .to) (at-named-tree .named-tree .ensures) (at-if1 .if1 .left)
     (no-path (at-cost-at .cost-at .ensures) (c .before .is-no-path .ensures) (c .if2 .taken))
-
-exported-requires : tie.Need-exported-requires
-exported-requires c κs = search needs
 
 returns-3 : tie.Need-returns-3
 returns-3 c =
@@ -76,5 +55,5 @@ returns-3 c =
 pub path-cost-in-table-spec : {M : Type 1} → statement M
 path-cost-in-table-spec =
     tie.close
-    (tie.spec slice-aggregate-named-tree named-tree-requires add-result returns slice-aggregate-cost-at cost-at-requires is-no-path-requires
-    add-result-2 returns-2 exported-requires returns-3)
+    (tie.spec (λ c. search needs) (λ c κs. search needs) (λ c. search needs) returns (λ c. search needs) cost-at-requires
+    (λ c κs. search needs) (λ c. search needs) returns-2 (λ c κs. search needs) returns-3)

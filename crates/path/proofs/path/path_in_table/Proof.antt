@@ -9,15 +9,6 @@ use Rattle.path.specs.laws.PlanCalls.{nothing-named, named-followable, n
 use Rattle.path.proofs.path.path_in_table.Statement.{statement}
 use Rattle.path.proofs.path.path_in_table.Tie as tie
 
-slice-aggregate-named-tree : tie.Need-slice-aggregate-named-tree
-slice-aggregate-named-tree c = search needs
-
-named-tree-requires : tie.Need-named-tree-requires
-named-tree-requires c κs = search needs
-
-refused-requires : tie.Need-refused-requires
-refused-requires c κs = search needs
-
 returns : tie.Need-returns
 returns c =
     let at-named-tree = c .before .before .before in
@@ -26,9 +17,6 @@ returns c =
     nothing-named (planAt (wordsOf (at-start .args .table .now)) (at-start .args .s)) (checked .laws) (at-start .args .vid)
     (at-start .args .from) (at-start .args .to) (at-named-tree .named-tree .ensures) _ (c .refused .ensures) (at-start .args .list .now)
     (c .before .if1 .taken)
-
-slice-aggregate-labelled-path : tie.Need-slice-aggregate-labelled-path
-slice-aggregate-labelled-path c = search needs
 
 labelled-path-requires : tie.Need-labelled-path-requires
 labelled-path-requires c κs =
@@ -40,9 +28,6 @@ labelled-path-requires c κs =
       named-followable (planAt (wordsOf (at-start .args .table .now)) (at-start .args .s)) (checked .laws) (at-start .args .vid)
           (at-start .args .from) (at-start .args .to) (at-named-tree .named-tree .ensures) (at-if1 .if1 .left),
     )
-
-same-length : tie.Need-same-length
-same-length c = search needs
 
 returns-2 : tie.Need-returns-2
 returns-2 c =
@@ -59,5 +44,5 @@ returns-2 c =
 pub path-in-table-spec : {M : Type 1} → statement M
 path-in-table-spec =
     tie.close
-    (tie.spec slice-aggregate-named-tree named-tree-requires refused-requires returns slice-aggregate-labelled-path labelled-path-requires
-    same-length returns-2)
+    (tie.spec (λ c. search needs) (λ c κs. search needs) (λ c κs. search needs) returns (λ c. search needs) labelled-path-requires
+    (λ c. search needs) returns-2)

@@ -15,32 +15,21 @@ abbrev μ-loop : tie.MeasureT-loop
 loop-holds : tie.Need-loop-holds Inv-loop μ-loop
 loop-holds c = following-starts _ _ _ _
 
-mul-list : tie.Need-mul-list Inv-loop μ-loop
-mul-list c = search needs
-
 slice-write-list : tie.Need-slice-write-list Inv-loop μ-loop
 slice-write-list c =
     let at-start = c .before .before .before .before in
-    let (_, _, list-room) = at-start .pre in
-    omega (arith, list-room, c .before .loop .inv .same-length, c .loop-test .taken)
+    let (_, _, list-room) = at-start .pre in omega (arith, list-room, c .before .loop .inv .same-length, c .loop-test .taken)
 
 cast-next-number : tie.Need-cast-next-number Inv-loop μ-loop
 cast-next-number c =
     let at-start = c .before .before .before .before in
-    let (_, inside, _) = at-start .pre in
-    omega (arith, following-inside (c .before .loop .inv) inside (c .loop-test .taken))
+    let (_, inside, _) = at-start .pre in omega (arith, following-inside (c .before .loop .inv) inside (c .loop-test .taken))
 
 next-number-requires : tie.Need-next-number-requires Inv-loop μ-loop
 next-number-requires c κs =
     let at-start = c .before .before .before .before in
     let (labels-room, inside, _) = at-start .pre in
     omega (arith, labels-room, following-inside (c .before .loop .inv) inside (c .loop-test .taken))
-
-add-i : tie.Need-add-i Inv-loop μ-loop
-add-i c = search needs
-
-loop-less : tie.Need-loop-less Inv-loop μ-loop
-loop-less c = search needs
 
 loop-again : tie.Need-loop-again Inv-loop μ-loop
 loop-again c =
@@ -49,14 +38,11 @@ loop-again c =
     let (_, _, list-room) = at-start .pre in
     following-on (at-loop .loop .inv) _ list-room (c .before .loop-test .taken) (c .next-number .ensures)
 
-same-length : tie.Need-same-length Inv-loop μ-loop
-same-length c = search needs
-
 returns : tie.Need-returns Inv-loop μ-loop
 returns c = following-ends (c .before .loop .inv) (c .loop-test .left)
 
 pub write-path-spec : {M : Type 1} → statement M
 write-path-spec =
     tie.close
-    (tie.spec Inv-loop μ-loop loop-holds mul-list slice-write-list cast-next-number next-number-requires add-i loop-less loop-again
-    same-length returns)
+    (tie.spec Inv-loop μ-loop loop-holds (λ c. search needs) slice-write-list cast-next-number next-number-requires (λ c. search needs)
+    (λ c. search needs) loop-again (λ c. search needs) returns)

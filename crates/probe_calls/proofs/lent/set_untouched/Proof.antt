@@ -19,30 +19,9 @@ abbrev μ-loop : tie.MeasureT-loop
 loop-holds : tie.Need-loop-holds Inv-loop μ-loop
 loop-holds c = filling-starts _ _ _
 
-cast-list : tie.Need-cast-list Inv-loop μ-loop
-cast-list c = search needs
-
-add-list : tie.Need-add-list Inv-loop μ-loop
-add-list c = search needs
-
-mul-list : tie.Need-mul-list Inv-loop μ-loop
-mul-list c = search needs
-
-slice-write-list : tie.Need-slice-write-list Inv-loop μ-loop
-slice-write-list c = search needs
-
-add-i : tie.Need-add-i Inv-loop μ-loop
-add-i c = search needs
-
-loop-less : tie.Need-loop-less Inv-loop μ-loop
-loop-less c = search needs
-
 loop-again : tie.Need-loop-again Inv-loop μ-loop
 loop-again c =
     filling-on ((c .before .loop .inv)) _ (omega arith) (omega (arith, (c .loop-test .taken), (c .before .loop .inv .same-length))) refl
-
-same-length : tie.Need-same-length Inv-loop μ-loop
-same-length c = search needs
 
 returns : tie.Need-returns Inv-loop μ-loop
 returns c = all-untouched ((c .before .loop .inv)) (omega (arith, (c .loop-test .left), (c .before .loop .inv .same-length)))
@@ -50,4 +29,5 @@ returns c = all-untouched ((c .before .loop .inv)) (omega (arith, (c .loop-test 
 pub set-untouched-spec : {M : Type 1} → statement M
 set-untouched-spec =
     tie.close
-    (tie.spec Inv-loop μ-loop loop-holds cast-list add-list mul-list slice-write-list add-i loop-less loop-again same-length returns)
+    (tie.spec Inv-loop μ-loop loop-holds (λ c. search needs) (λ c. search needs) (λ c. search needs) (λ c. search needs)
+    (λ c. search needs) (λ c. search needs) loop-again (λ c. search needs) returns)

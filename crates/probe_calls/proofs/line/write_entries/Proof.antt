@@ -10,24 +10,6 @@ use native.Mathlib.Omega.{arith}
 use Rattle.probe_calls.proofs.line.write_entries.Statement.{statement}
 use Rattle.probe_calls.proofs.line.write_entries.Tie as tie
 
-entries-requires : tie.Need-entries-requires
-entries-requires c κs = search needs
-
-write-entries-answer-requires : tie.Need-write-entries-answer-requires
-write-entries-answer-requires c κs = search needs
-
-write-fields-requires : tie.Need-write-fields-requires
-write-fields-requires c κs = search needs
-
-write-byte-requires : tie.Need-write-byte-requires
-write-byte-requires c κs = search needs
-
-same-length : tie.Need-same-length
-same-length c = search needs
-
-same-length-2 : tie.Need-same-length-2
-same-length-2 c = search needs
-
 returns : tie.Need-returns
 returns c =
     let at-write-byte = c .before .before in
@@ -49,4 +31,5 @@ returns c =
 pub write-entries-spec : {M : Type 1} → statement M
 write-entries-spec =
     tie.close
-    (tie.spec entries-requires write-entries-answer-requires write-fields-requires write-byte-requires same-length same-length-2 returns)
+    (tie.spec (λ c κs. search needs) (λ c κs. search needs) (λ c κs. search needs) (λ c κs. search needs) (λ c. search needs)
+    (λ c. search needs) returns)

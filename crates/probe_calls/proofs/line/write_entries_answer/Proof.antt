@@ -8,21 +8,6 @@ use Rattle.probe_calls.specs.AnswerText.{entriesAnswerText}
 use Rattle.probe_calls.proofs.line.write_entries_answer.Statement.{statement}
 use Rattle.probe_calls.proofs.line.write_entries_answer.Tie as tie
 
-enum-known-answer : tie.Need-enum-known-answer
-enum-known-answer c = search needs
-
-write-given-entries-requires : tie.Need-write-given-entries-requires
-write-given-entries-requires c κs = search needs
-
-enum-known-answer-2 : tie.Need-enum-known-answer-2
-enum-known-answer-2 c = search needs
-
-write-refusal-requires : tie.Need-write-refusal-requires
-write-refusal-requires c κs = search needs
-
-same-length : tie.Need-same-length
-same-length c = search needs
-
 returns : tie.Need-returns
 returns c =
     let at-write-given-entries = c .before .before in
@@ -31,9 +16,6 @@ returns c =
       written-as written _ (sym (ap (λ (a : EntriesAnswer). entriesAnswerText (entriesValues a)) ((at-answer .answer .given .1)))),
       write-given-entries-bound,
     )
-
-same-length-2 : tie.Need-same-length-2
-same-length-2 c = search needs
 
 returns-2 : tie.Need-returns-2
 returns-2 c =
@@ -47,5 +29,5 @@ returns-2 c =
 pub write-entries-answer-spec : {M : Type 1} → statement M
 write-entries-answer-spec =
     tie.close
-    (tie.spec enum-known-answer write-given-entries-requires enum-known-answer-2 write-refusal-requires same-length returns same-length-2
-    returns-2)
+    (tie.spec (λ c. search needs) (λ c κs. search needs) (λ c. search needs) (λ c κs. search needs) (λ c. search needs) returns
+    (λ c. search needs) returns-2)

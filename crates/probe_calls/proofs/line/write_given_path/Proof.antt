@@ -5,21 +5,6 @@ use native.Mathlib.Omega.{arith}
 use Rattle.probe_calls.proofs.line.write_given_path.Statement.{statement}
 use Rattle.probe_calls.proofs.line.write_given_path.Tie as tie
 
-slice-aggregate-write-word : tie.Need-slice-aggregate-write-word
-slice-aggregate-write-word c = search needs
-
-write-word-requires : tie.Need-write-word-requires
-write-word-requires c κs = search needs
-
-write-field-requires : tie.Need-write-field-requires
-write-field-requires c κs = search needs
-
-write-field-requires-2 : tie.Need-write-field-requires-2
-write-field-requires-2 c κs = search needs
-
-same-length : tie.Need-same-length
-same-length c = search needs
-
 returns : tie.Need-returns
 returns c =
     let at-write-field2 = c .before .before in
@@ -38,4 +23,4 @@ returns c =
 pub write-given-path-spec : {M : Type 1} → statement M
 write-given-path-spec =
     tie.close
-    (tie.spec slice-aggregate-write-word write-word-requires write-field-requires write-field-requires-2 same-length returns)
+    (tie.spec (λ c. search needs) (λ c κs. search needs) (λ c κs. search needs) (λ c κs. search needs) (λ c. search needs) returns)

@@ -5,18 +5,6 @@ use native.Mathlib.Omega.{arith}
 use Rattle.probe_calls.proofs.line.write_given_tree.Statement.{statement}
 use Rattle.probe_calls.proofs.line.write_given_tree.Tie as tie
 
-slice-aggregate-write-word : tie.Need-slice-aggregate-write-word
-slice-aggregate-write-word c = search needs
-
-write-word-requires : tie.Need-write-word-requires
-write-word-requires c κs = search needs
-
-write-field-requires : tie.Need-write-field-requires
-write-field-requires c κs = search needs
-
-same-length : tie.Need-same-length
-same-length c = search needs
-
 returns : tie.Need-returns
 returns c =
     let at-write-field = c .before .before in
@@ -31,4 +19,4 @@ returns c =
 pub write-given-tree-spec : {M : Type 1} → statement M
 write-given-tree-spec =
     tie.close
-    (tie.spec slice-aggregate-write-word write-word-requires write-field-requires same-length returns)
+    (tie.spec (λ c. search needs) (λ c κs. search needs) (λ c κs. search needs) (λ c. search needs) returns)

@@ -11,24 +11,6 @@ use native.Mathlib.Omega.{arith}
 use Rattle.probe_calls.proofs.line.write_path.Statement.{statement}
 use Rattle.probe_calls.proofs.line.write_path.Tie as tie
 
-path-requires : tie.Need-path-requires
-path-requires c κs = search needs
-
-write-path-answer-requires : tie.Need-write-path-answer-requires
-write-path-answer-requires c κs = search needs
-
-write-fields-requires : tie.Need-write-fields-requires
-write-fields-requires c κs = search needs
-
-write-byte-requires : tie.Need-write-byte-requires
-write-byte-requires c κs = search needs
-
-same-length : tie.Need-same-length
-same-length c = search needs
-
-same-length-2 : tie.Need-same-length-2
-same-length-2 c = search needs
-
 returns : tie.Need-returns
 returns c =
     let at-write-byte = c .before .before in
@@ -50,4 +32,5 @@ returns c =
 pub write-path-spec : {M : Type 1} → statement M
 write-path-spec =
     tie.close
-    (tie.spec path-requires write-path-answer-requires write-fields-requires write-byte-requires same-length same-length-2 returns)
+    (tie.spec (λ c κs. search needs) (λ c κs. search needs) (λ c κs. search needs) (λ c κs. search needs) (λ c. search needs)
+    (λ c. search needs) returns)

@@ -8,21 +8,6 @@ use Rattle.probe_calls.specs.AnswerText.{pathAnswerText}
 use Rattle.probe_calls.proofs.line.write_path_answer.Statement.{statement}
 use Rattle.probe_calls.proofs.line.write_path_answer.Tie as tie
 
-enum-known-answer : tie.Need-enum-known-answer
-enum-known-answer c = search needs
-
-write-given-path-requires : tie.Need-write-given-path-requires
-write-given-path-requires c κs = search needs
-
-enum-known-answer-2 : tie.Need-enum-known-answer-2
-enum-known-answer-2 c = search needs
-
-write-refusal-requires : tie.Need-write-refusal-requires
-write-refusal-requires c κs = search needs
-
-same-length : tie.Need-same-length
-same-length c = search needs
-
 returns : tie.Need-returns
 returns c =
     let at-write-given-path = c .before .before in
@@ -31,9 +16,6 @@ returns c =
       written-as written _ (sym (ap (λ (a : PathAnswer). pathAnswerText (pathValues a)) ((at-answer .answer .given .1)))),
       write-given-path-bound,
     )
-
-same-length-2 : tie.Need-same-length-2
-same-length-2 c = search needs
 
 returns-2 : tie.Need-returns-2
 returns-2 c =
@@ -47,5 +29,5 @@ returns-2 c =
 pub write-path-answer-spec : {M : Type 1} → statement M
 write-path-answer-spec =
     tie.close
-    (tie.spec enum-known-answer write-given-path-requires enum-known-answer-2 write-refusal-requires same-length returns same-length-2
-    returns-2)
+    (tie.spec (λ c. search needs) (λ c κs. search needs) (λ c. search needs) (λ c κs. search needs) (λ c. search needs) returns
+    (λ c. search needs) returns-2)

@@ -10,36 +10,6 @@ use native.Mathlib.Omega.{arith}
 use Rattle.probe_calls.proofs.line.write_tree.Statement.{statement}
 use Rattle.probe_calls.proofs.line.write_tree.Tie as tie
 
-tree-requires : tie.Need-tree-requires
-tree-requires c κs = search needs
-
-write-tree-answer-requires : tie.Need-write-tree-answer-requires
-write-tree-answer-requires c κs = search needs
-
-write-fields-requires : tie.Need-write-fields-requires
-write-fields-requires c κs = search needs
-
-write-fields-requires-2 : tie.Need-write-fields-requires-2
-write-fields-requires-2 c κs = search needs
-
-write-fields-requires-3 : tie.Need-write-fields-requires-3
-write-fields-requires-3 c κs = search needs
-
-write-byte-requires : tie.Need-write-byte-requires
-write-byte-requires c κs = search needs
-
-same-length : tie.Need-same-length
-same-length c = search needs
-
-same-length-2 : tie.Need-same-length-2
-same-length-2 c = search needs
-
-same-length-3 : tie.Need-same-length-3
-same-length-3 c = search needs
-
-same-length-4 : tie.Need-same-length-4
-same-length-4 c = search needs
-
 returns : tie.Need-returns
 returns c =
     let at-write-byte = c .before .before in
@@ -77,5 +47,5 @@ returns c =
 pub write-tree-spec : {M : Type 1} → statement M
 write-tree-spec =
     tie.close
-    (tie.spec tree-requires write-tree-answer-requires write-fields-requires write-fields-requires-2 write-fields-requires-3
-    write-byte-requires same-length same-length-2 same-length-3 same-length-4 returns)
+    (tie.spec (λ c κs. search needs) (λ c κs. search needs) (λ c κs. search needs) (λ c κs. search needs) (λ c κs. search needs)
+    (λ c κs. search needs) (λ c. search needs) (λ c. search needs) (λ c. search needs) (λ c. search needs) returns)

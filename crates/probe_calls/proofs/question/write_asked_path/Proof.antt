@@ -12,29 +12,15 @@ use Rattle.probe_calls.specs.laws.UntouchedLaws.{front-untouched}
 use Rattle.probe_calls.proofs.question.write_asked_path.Statement.{statement}
 use Rattle.probe_calls.proofs.question.write_asked_path.Tie as tie
 
-slice-aggregate-set-untouched : tie.Need-slice-aggregate-set-untouched
-slice-aggregate-set-untouched c = search needs
-
-set-untouched-requires : tie.Need-set-untouched-requires
-set-untouched-requires c κs = search needs
-
-array-borrow-prefix-list : tie.Need-array-borrow-prefix-list
-array-borrow-prefix-list c = search needs
-
 slice-aggregate-write-path : tie.Need-slice-aggregate-write-path
 slice-aggregate-write-path c =
     let at-start = c .before .before .before .before .before .before in
-    let (places-bound, _) = at-start .pre in
-    simp length-take (omega (arith, places-bound))
+    let (places-bound, _) = at-start .pre in simp length-take (omega (arith, places-bound))
 
 write-path-requires : tie.Need-write-path-requires
 write-path-requires c κs =
     let at-start = c .before .before .before .before .before .before .before in
-    let (places-bound, out-room) = at-start .pre in
-    simp length-take (omega (arith, places-bound, out-room))
-
-same-length : tie.Need-same-length
-same-length c = search needs
+    let (places-bound, out-room) = at-start .pre in simp length-take (omega (arith, places-bound, out-room))
 
 returns : tie.Need-returns
 returns c =
@@ -55,5 +41,5 @@ returns c =
 pub write-asked-path-spec : {M : Type 1} → statement M
 write-asked-path-spec =
     tie.close
-    (tie.spec slice-aggregate-set-untouched set-untouched-requires array-borrow-prefix-list slice-aggregate-write-path write-path-requires
-    same-length returns)
+    (tie.spec (λ c. search needs) (λ c κs. search needs) (λ c. search needs) slice-aggregate-write-path write-path-requires
+    (λ c. search needs) returns)

@@ -8,15 +8,6 @@ use borrow.Author.Needs.{needs}
 use Rattle.probe_check.proofs.answer.write_answer.Statement.{statement}
 use Rattle.probe_check.proofs.answer.write_answer.Tie as tie
 
-check-requires : tie.Need-check-requires
-check-requires c κs = search needs
-
-write-check-requires : tie.Need-write-check-requires
-write-check-requires c κs = search needs
-
-same-length : tie.Need-same-length
-same-length c = search needs
-
 returns : tie.Need-returns
 returns c =
     let at-write-check = c .before .before in
@@ -25,4 +16,4 @@ returns c =
     (written-as written _ (ap (λ (o : Outcome Counts). checkText o) ((at-check .check .ensures))), write-check-bound)
 
 pub write-answer-spec : {M : Type 1} → statement M
-write-answer-spec = tie.close (tie.spec check-requires write-check-requires same-length returns)
+write-answer-spec = tie.close (tie.spec (λ c κs. search needs) (λ c κs. search needs) (λ c. search needs) returns)

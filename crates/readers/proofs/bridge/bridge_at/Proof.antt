@@ -8,21 +8,6 @@ use borrow.Author.Needs.{needs}
 use Rattle.readers.proofs.bridge.bridge_at.Statement.{statement}
 use Rattle.readers.proofs.bridge.bridge_at.Tie as tie
 
-mul-at : tie.Need-mul-at
-mul-at c = search needs
-
-sub-bridge-of : tie.Need-sub-bridge-of
-sub-bridge-of c = search needs
-
-part-bridge-of-start : tie.Need-part-bridge-of-start
-part-bridge-of-start c = search needs
-
-part-bridge-of-end : tie.Need-part-bridge-of-end
-part-bridge-of-end c = search needs
-
-bridge-of-requires : tie.Need-bridge-of-requires
-bridge-of-requires c κs = search needs
-
 returns : tie.Need-returns
 returns c =
     let at-start = c .before .before .before in
@@ -31,4 +16,4 @@ returns c =
 pub bridge-at-spec : {M : Type 1} → statement M
 bridge-at-spec =
     tie.close
-    (tie.spec mul-at sub-bridge-of part-bridge-of-start part-bridge-of-end bridge-of-requires returns)
+    (tie.spec (λ c. search needs) (λ c. search needs) (λ c. search needs) (λ c. search needs) (λ c κs. search needs) returns)

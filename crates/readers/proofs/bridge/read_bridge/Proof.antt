@@ -16,24 +16,12 @@ returns c =
     let at-start = c .before .before in
     sym (read-cut bridgeLayout (wordsOf (at-start .args .part .now)) (omega (arith, count-of-words (at-start .args .part .now))))
 
-word-at-requires : tie.Need-word-at-requires
-word-at-requires c κs = search needs
-
 returns-2 : tie.Need-returns-2
 returns-2 c =
     let at-start = c .before .before .before .before in
     sym
     (read-zero-bit bridgeLayout (wordsOf (at-start .args .part .now)) (omega (arith, count-of-words (at-start .args .part .now)))
     (λ e. c .if2 .taken (omega arith)))
-
-bridge-of-requires : tie.Need-bridge-of-requires
-bridge-of-requires c κs = search needs
-
-cast-within : tie.Need-cast-within
-cast-within c = search needs
-
-within-requires : tie.Need-within-requires
-within-requires c κs = search needs
 
 returns-3 : tie.Need-returns-3
 returns-3 c =
@@ -44,9 +32,6 @@ returns-3 c =
     (read-outside bridgeLayout (wordsOf part) (omega (arith, count-of-words part)) (omega arith)
     (outside-here _ _ (wordsOf part) (c .before .within .result) _ (c .before .within .ensures)
     (ap (λ (x : Bridge). x .spSourceId) (at-bridge-of .bridge-of .ensures)) (not-true _ (c .if3 .taken))))
-
-within-requires-2 : tie.Need-within-requires-2
-within-requires-2 c κs = search needs
 
 returns-4 : tie.Need-returns-4
 returns-4 c =
@@ -62,9 +47,6 @@ returns-4 c =
     (ap (λ (x : Bridge). x .spSourceId) (at-bridge-of .bridge-of .ensures)) (not-false _ (at-if3 .if3 .left))
     ∙ outside-here _ _ words (c .before .within2 .result) _ (c .before .within2 .ensures)
     (ap (λ (x : Bridge). address x) (at-bridge-of .bridge-of .ensures)) (not-true _ (c .if4 .taken))))
-
-within-requires-3 : tie.Need-within-requires-3
-within-requires-3 c κs = search needs
 
 returns-5 : tie.Need-returns-5
 returns-5 c =
@@ -111,5 +93,5 @@ returns-6 c =
 pub read-bridge-spec : {M : Type 1} → statement M
 read-bridge-spec =
     tie.close
-    (tie.spec returns word-at-requires returns-2 bridge-of-requires cast-within within-requires returns-3 within-requires-2 returns-4
-    within-requires-3 returns-5 returns-6)
+    (tie.spec returns (λ c κs. search needs) returns-2 (λ c κs. search needs) (λ c. search needs) (λ c κs. search needs) returns-3
+    (λ c κs. search needs) returns-4 (λ c κs. search needs) returns-5 returns-6)

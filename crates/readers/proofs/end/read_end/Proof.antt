@@ -15,9 +15,6 @@ returns c =
     let at-start = c .before .before in
     sym (read-cut endLayout (wordsOf (at-start .args .part .now)) (omega (arith, count-of-words (at-start .args .part .now))))
 
-word-at-requires : tie.Need-word-at-requires
-word-at-requires c κs = search needs
-
 returns-2 : tie.Need-returns-2
 returns-2 c =
     let at-start = c .before .before .before in
@@ -26,4 +23,4 @@ returns-2 c =
     ∙ sym (read-whole endLayout (wordsOf part) (omega (arith, count-of-words part)) refl (inside-all (wordsOf part)))
 
 pub read-end-spec : {M : Type 1} → statement M
-read-end-spec = tie.close (tie.spec returns word-at-requires returns-2)
+read-end-spec = tie.close (tie.spec returns (λ c κs. search needs) returns-2)

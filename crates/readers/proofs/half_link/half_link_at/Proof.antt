@@ -8,21 +8,6 @@ use borrow.Author.Needs.{needs}
 use Rattle.readers.proofs.half_link.half_link_at.Statement.{statement}
 use Rattle.readers.proofs.half_link.half_link_at.Tie as tie
 
-mul-at : tie.Need-mul-at
-mul-at c = search needs
-
-sub-half-link-of : tie.Need-sub-half-link-of
-sub-half-link-of c = search needs
-
-part-half-link-of-start : tie.Need-part-half-link-of-start
-part-half-link-of-start c = search needs
-
-part-half-link-of-end : tie.Need-part-half-link-of-end
-part-half-link-of-end c = search needs
-
-half-link-of-requires : tie.Need-half-link-of-requires
-half-link-of-requires c κs = search needs
-
 returns : tie.Need-returns
 returns c =
     let at-start = c .before .before .before in
@@ -31,4 +16,4 @@ returns c =
 pub half-link-at-spec : {M : Type 1} → statement M
 half-link-at-spec =
     tie.close
-    (tie.spec mul-at sub-half-link-of part-half-link-of-start part-half-link-of-end half-link-of-requires returns)
+    (tie.spec (λ c. search needs) (λ c. search needs) (λ c. search needs) (λ c. search needs) (λ c κs. search needs) returns)

@@ -5,18 +5,9 @@ use borrow.Author.Needs.{needs}
 use Rattle.readers.proofs.half_link.half_link_of.Statement.{statement}
 use Rattle.readers.proofs.half_link.half_link_of.Tie as tie
 
-word-at-requires : tie.Need-word-at-requires
-word-at-requires c κs = search needs
-
-word-at-requires-2 : tie.Need-word-at-requires-2
-word-at-requires-2 c κs = search needs
-
-word-at-requires-3 : tie.Need-word-at-requires-3
-word-at-requires-3 c κs = search needs
-
 returns : tie.Need-returns
 returns c = same-half-link (omega arith) (omega arith) (omega arith) (omega arith) (omega arith)
 
 pub half-link-of-spec : {M : Type 1} → statement M
 half-link-of-spec =
-    tie.close (tie.spec word-at-requires word-at-requires-2 word-at-requires-3 returns)
+    tie.close (tie.spec (λ c κs. search needs) (λ c κs. search needs) (λ c κs. search needs) returns)

@@ -16,21 +16,12 @@ returns c =
     let at-start = c .before .before in
     sym (read-cut halfLinkLayout (wordsOf (at-start .args .part .now)) (omega (arith, count-of-words (at-start .args .part .now))))
 
-word-at-requires : tie.Need-word-at-requires
-word-at-requires c κs = search needs
-
 returns-2 : tie.Need-returns-2
 returns-2 c =
     let at-start = c .before .before .before .before in
     sym
     (read-zero-bit halfLinkLayout (wordsOf (at-start .args .part .now)) (omega (arith, count-of-words (at-start .args .part .now)))
     (λ e. c .if2 .taken (omega arith)))
-
-half-link-of-requires : tie.Need-half-link-of-requires
-half-link-of-requires c κs = search needs
-
-is-in-range-requires : tie.Need-is-in-range-requires
-is-in-range-requires c κs = search needs
 
 returns-3 : tie.Need-returns-3
 returns-3 c =
@@ -41,12 +32,6 @@ returns-3 c =
     (read-outside halfLinkLayout (wordsOf part) (omega (arith, count-of-words part)) (omega arith)
     (outside-here _ _ (wordsOf part) (c .before .is-in-range .result) _ (c .before .is-in-range .ensures)
     (ap (λ (x : HalfLink). x .metric) (at-half-link-of .half-link-of .ensures)) (not-true _ (c .if3 .taken))))
-
-cast-within : tie.Need-cast-within
-cast-within c = search needs
-
-within-requires : tie.Need-within-requires
-within-requires c κs = search needs
 
 returns-4 : tie.Need-returns-4
 returns-4 c =
@@ -62,12 +47,6 @@ returns-4 c =
     (ap (λ (x : HalfLink). x .metric) (at-half-link-of .half-link-of .ensures)) (not-false _ (at-if3 .if3 .left))
     ∙ outside-here _ _ words (c .before .within .result) _ (c .before .within .ensures)
     (ap (λ (x : HalfLink). x .port) (at-half-link-of .half-link-of .ensures)) (not-true _ (c .if4 .taken))))
-
-cast-within-2 : tie.Need-cast-within-2
-cast-within-2 c = search needs
-
-within-requires-2 : tie.Need-within-requires-2
-within-requires-2 c κs = search needs
 
 returns-5 : tie.Need-returns-5
 returns-5 c =
@@ -114,5 +93,5 @@ returns-6 c =
 pub read-half-link-spec : {M : Type 1} → statement M
 read-half-link-spec =
     tie.close
-    (tie.spec returns word-at-requires returns-2 half-link-of-requires is-in-range-requires returns-3 cast-within within-requires returns-4
-    cast-within-2 within-requires-2 returns-5 returns-6)
+    (tie.spec returns (λ c κs. search needs) returns-2 (λ c κs. search needs) (λ c κs. search needs) returns-3 (λ c. search needs)
+    (λ c κs. search needs) returns-4 (λ c. search needs) (λ c κs. search needs) returns-5 returns-6)

@@ -8,21 +8,6 @@ use borrow.Author.Needs.{needs}
 use Rattle.readers.proofs.member.member_at.Statement.{statement}
 use Rattle.readers.proofs.member.member_at.Tie as tie
 
-mul-at : tie.Need-mul-at
-mul-at c = search needs
-
-sub-member-of : tie.Need-sub-member-of
-sub-member-of c = search needs
-
-part-member-of-start : tie.Need-part-member-of-start
-part-member-of-start c = search needs
-
-part-member-of-end : tie.Need-part-member-of-end
-part-member-of-end c = search needs
-
-member-of-requires : tie.Need-member-of-requires
-member-of-requires c κs = search needs
-
 returns : tie.Need-returns
 returns c =
     let at-start = c .before .before .before in
@@ -31,4 +16,4 @@ returns c =
 pub member-at-spec : {M : Type 1} → statement M
 member-at-spec =
     tie.close
-    (tie.spec mul-at sub-member-of part-member-of-start part-member-of-end member-of-requires returns)
+    (tie.spec (λ c. search needs) (λ c. search needs) (λ c. search needs) (λ c. search needs) (λ c κs. search needs) returns)

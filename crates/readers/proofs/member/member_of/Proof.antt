@@ -5,14 +5,8 @@ use borrow.Author.Needs.{needs}
 use Rattle.readers.proofs.member.member_of.Statement.{statement}
 use Rattle.readers.proofs.member.member_of.Tie as tie
 
-word-at-requires : tie.Need-word-at-requires
-word-at-requires c κs = search needs
-
-word-at-requires-2 : tie.Need-word-at-requires-2
-word-at-requires-2 c κs = search needs
-
 returns : tie.Need-returns
 returns c = same-member (cc) (cc) (omega arith) (omega arith) (omega arith)
 
 pub member-of-spec : {M : Type 1} → statement M
-member-of-spec = tie.close (tie.spec word-at-requires word-at-requires-2 returns)
+member-of-spec = tie.close (tie.spec (λ c κs. search needs) (λ c κs. search needs) returns)

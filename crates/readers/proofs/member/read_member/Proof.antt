@@ -16,24 +16,12 @@ returns c =
     let at-start = c .before .before in
     sym (read-cut memberLayout (wordsOf (at-start .args .part .now)) (omega (arith, count-of-words (at-start .args .part .now))))
 
-word-at-requires : tie.Need-word-at-requires
-word-at-requires c κs = search needs
-
 returns-2 : tie.Need-returns-2
 returns-2 c =
     let at-start = c .before .before .before .before in
     sym
     (read-zero-bit memberLayout (wordsOf (at-start .args .part .now)) (omega (arith, count-of-words (at-start .args .part .now)))
     (λ e. c .if2 .taken (omega arith)))
-
-member-of-requires : tie.Need-member-of-requires
-member-of-requires c κs = search needs
-
-cast-within : tie.Need-cast-within
-cast-within c = search needs
-
-within-requires : tie.Need-within-requires
-within-requires c κs = search needs
 
 returns-3 : tie.Need-returns-3
 returns-3 c =
@@ -44,12 +32,6 @@ returns-3 c =
     (read-outside memberLayout (wordsOf part) (omega (arith, count-of-words part)) (omega arith)
     (outside-here _ _ (wordsOf part) (c .before .within .result) _ (c .before .within .ensures)
     (ap (λ (x : Member). x .isid) (at-member-of .member-of .ensures)) (not-true _ (c .if3 .taken))))
-
-cast-within-2 : tie.Need-cast-within-2
-cast-within-2 c = search needs
-
-within-requires-2 : tie.Need-within-requires-2
-within-requires-2 c κs = search needs
 
 returns-4 : tie.Need-returns-4
 returns-4 c =
@@ -87,5 +69,5 @@ returns-5 c =
 pub read-member-spec : {M : Type 1} → statement M
 read-member-spec =
     tie.close
-    (tie.spec returns word-at-requires returns-2 member-of-requires cast-within within-requires returns-3 cast-within-2 within-requires-2
-    returns-4 returns-5)
+    (tie.spec returns (λ c κs. search needs) returns-2 (λ c κs. search needs) (λ c. search needs) (λ c κs. search needs) returns-3
+    (λ c. search needs) (λ c κs. search needs) returns-4 returns-5)

@@ -16,15 +16,6 @@ returns c =
     let at-start = c .before .before in
     sym (read-cut vidLayout (wordsOf (at-start .args .part .now)) (omega (arith, count-of-words (at-start .args .part .now))))
 
-vid-of-requires : tie.Need-vid-of-requires
-vid-of-requires c κs = search needs
-
-cast-within : tie.Need-cast-within
-cast-within c = search needs
-
-within-requires : tie.Need-within-requires
-within-requires c κs = search needs
-
 returns-2 : tie.Need-returns-2
 returns-2 c =
     let at-vid-of = c .before .before .before in
@@ -34,12 +25,6 @@ returns-2 c =
     (read-outside vidLayout (wordsOf part) (omega (arith, count-of-words part)) refl
     (outside-here _ _ (wordsOf part) (c .before .within .result) _ (c .before .within .ensures)
     (ap (λ (x : Vid). x .vid) (at-vid-of .vid-of .ensures)) (not-true _ (c .if2 .taken))))
-
-cast-within-2 : tie.Need-cast-within-2
-cast-within-2 c = search needs
-
-within-requires-2 : tie.Need-within-requires-2
-within-requires-2 c κs = search needs
 
 returns-3 : tie.Need-returns-3
 returns-3 c =
@@ -77,4 +62,5 @@ returns-4 c =
 pub read-vid-spec : {M : Type 1} → statement M
 read-vid-spec =
     tie.close
-    (tie.spec returns vid-of-requires cast-within within-requires returns-2 cast-within-2 within-requires-2 returns-3 returns-4)
+    (tie.spec returns (λ c κs. search needs) (λ c. search needs) (λ c κs. search needs) returns-2 (λ c. search needs)
+    (λ c κs. search needs) returns-3 returns-4)

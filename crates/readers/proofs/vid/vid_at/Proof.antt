@@ -8,21 +8,6 @@ use borrow.Author.Needs.{needs}
 use Rattle.readers.proofs.vid.vid_at.Statement.{statement}
 use Rattle.readers.proofs.vid.vid_at.Tie as tie
 
-mul-at : tie.Need-mul-at
-mul-at c = search needs
-
-sub-vid-of : tie.Need-sub-vid-of
-sub-vid-of c = search needs
-
-part-vid-of-start : tie.Need-part-vid-of-start
-part-vid-of-start c = search needs
-
-part-vid-of-end : tie.Need-part-vid-of-end
-part-vid-of-end c = search needs
-
-vid-of-requires : tie.Need-vid-of-requires
-vid-of-requires c κs = search needs
-
 returns : tie.Need-returns
 returns c =
     let at-start = c .before .before .before in
@@ -31,4 +16,4 @@ returns c =
 pub vid-at-spec : {M : Type 1} → statement M
 vid-at-spec =
     tie.close
-    (tie.spec mul-at sub-vid-of part-vid-of-start part-vid-of-end vid-of-requires returns)
+    (tie.spec (λ c. search needs) (λ c. search needs) (λ c. search needs) (λ c. search needs) (λ c κs. search needs) returns)

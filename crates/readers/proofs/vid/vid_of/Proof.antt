@@ -5,11 +5,8 @@ use borrow.Author.Needs.{needs}
 use Rattle.readers.proofs.vid.vid_of.Statement.{statement}
 use Rattle.readers.proofs.vid.vid_of.Tie as tie
 
-word-at-requires : tie.Need-word-at-requires
-word-at-requires c κs = search needs
-
 returns : tie.Need-returns
 returns c = same-vid (omega arith) (omega arith)
 
 pub vid-of-spec : {M : Type 1} → statement M
-vid-of-spec = tie.close (tie.spec word-at-requires returns)
+vid-of-spec = tie.close (tie.spec (λ c κs. search needs) returns)

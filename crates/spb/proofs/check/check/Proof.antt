@@ -5,27 +5,14 @@ use borrow.Author.Needs.{needs}
 use Rattle.spb.proofs.check.check.Statement.{statement}
 use Rattle.spb.proofs.check.check.Tie as tie
 
-slice-aggregate-examine : tie.Need-slice-aggregate-examine
-slice-aggregate-examine c = search needs
-
 examine-requires : tie.Need-examine-requires
 examine-requires c κs = no-keys-yet
-
-enum-known-examined : tie.Need-enum-known-examined
-enum-known-examined c = search needs
-
-slice-aggregate-counts : tie.Need-slice-aggregate-counts
-slice-aggregate-counts c = search needs
 
 counts-requires : tie.Need-counts-requires
 counts-requires c κs =
     let at-examined = c .before .before in
     let at-examine = at-examined .before .before .before in
-    let (_, passed) = at-examine .examine .ensures in
-    passed _ (at-examined .examined .given .1)
-
-enum-known-examined-2 : tie.Need-enum-known-examined-2
-enum-known-examined-2 c = search needs
+    let (_, passed) = at-examine .examine .ensures in passed _ (at-examined .examined .given .1)
 
 returns : tie.Need-returns
 returns c =
@@ -46,5 +33,5 @@ returns-2 c =
 pub check-spec : {M : Type 1} → statement M
 check-spec =
     tie.close
-    (tie.spec slice-aggregate-examine examine-requires enum-known-examined slice-aggregate-counts counts-requires enum-known-examined-2
-    returns returns-2)
+    (tie.spec (λ c. search needs) examine-requires (λ c. search needs) (λ c. search needs) counts-requires (λ c. search needs) returns
+    returns-2)

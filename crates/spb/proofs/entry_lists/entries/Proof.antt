@@ -5,30 +5,14 @@ use Rattle.spb.specs.laws.CallLaws.{entries-accepted, entries-refused}
 use Rattle.spb.proofs.entry_lists.entries.Statement.{statement}
 use Rattle.spb.proofs.entry_lists.entries.Tie as tie
 
-slice-aggregate-examine : tie.Need-slice-aggregate-examine
-slice-aggregate-examine c = search needs
-
 examine-requires : tie.Need-examine-requires
 examine-requires c κs = no-keys-yet
-
-enum-known-examined : tie.Need-enum-known-examined
-enum-known-examined c = search needs
-
-slice-aggregate-entries-in-table : tie.Need-slice-aggregate-entries-in-table
-slice-aggregate-entries-in-table c = search needs
 
 entries-in-table-requires : tie.Need-entries-in-table-requires
 entries-in-table-requires c κs =
     let at-examined = c .before .before .before in
     let at-examine = at-examined .before .before .before in
-    let (_, passed) = at-examine .examine .ensures in
-    passed _ (at-examined .examined .given .1)
-
-enum-known-examined-2 : tie.Need-enum-known-examined-2
-enum-known-examined-2 c = search needs
-
-same-length : tie.Need-same-length
-same-length c = search needs
+    let (_, passed) = at-examine .examine .ensures in passed _ (at-examined .examined .given .1)
 
 returns : tie.Need-returns
 returns c =
@@ -51,5 +35,5 @@ returns-2 c =
 pub entries-spec : {M : Type 1} → statement M
 entries-spec =
     tie.close
-    (tie.spec slice-aggregate-examine examine-requires enum-known-examined slice-aggregate-entries-in-table entries-in-table-requires
-    enum-known-examined-2 same-length returns returns-2)
+    (tie.spec (λ c. search needs) examine-requires (λ c. search needs) (λ c. search needs) entries-in-table-requires (λ c. search needs)
+    (λ c. search needs) returns returns-2)

@@ -5,17 +5,8 @@ use borrow.Author.Needs.{needs}
 use Rattle.spb.proofs.exported.spb_check.Statement.{statement}
 use Rattle.spb.proofs.exported.spb_check.Tie as tie
 
-slice-aggregate-examine : tie.Need-slice-aggregate-examine
-slice-aggregate-examine c = search needs
-
 examine-requires : tie.Need-examine-requires
 examine-requires c κs = no-keys-yet
-
-enum-told : tie.Need-enum-told
-enum-told c = search needs
-
-enum-known-examined : tie.Need-enum-known-examined
-enum-known-examined c = search needs
 
 returns : tie.Need-returns
 returns c =
@@ -34,4 +25,4 @@ returns-2 c =
 pub spb-check-spec : {M : Type 1} → statement M
 spb-check-spec =
     tie.close
-    (tie.spec slice-aggregate-examine examine-requires enum-told enum-known-examined returns returns-2)
+    (tie.spec (λ c. search needs) examine-requires (λ c. search needs) (λ c. search needs) returns returns-2)

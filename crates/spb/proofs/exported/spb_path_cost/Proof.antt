@@ -5,33 +5,14 @@ use Rattle.spb.specs.laws.CallLaws.{cost-accepted, cost-refused}
 use Rattle.spb.proofs.exported.spb_path_cost.Statement.{statement}
 use Rattle.spb.proofs.exported.spb_path_cost.Tie as tie
 
-slice-aggregate-examine : tie.Need-slice-aggregate-examine
-slice-aggregate-examine c = search needs
-
 examine-requires : tie.Need-examine-requires
 examine-requires c κs = no-keys-yet
-
-enum-known-examined : tie.Need-enum-known-examined
-enum-known-examined c = search needs
-
-slice-aggregate-path-cost-in-table : tie.Need-slice-aggregate-path-cost-in-table
-slice-aggregate-path-cost-in-table c = search needs
 
 path-cost-in-table-requires : tie.Need-path-cost-in-table-requires
 path-cost-in-table-requires c κs =
     let at-examined = c .before .before in
     let at-examine = at-examined .before .before .before in
-    let (_, passed) = at-examine .examine .ensures in
-    passed _ (at-examined .examined .given .1)
-
-enum-known-examined-2 : tie.Need-enum-known-examined-2
-enum-known-examined-2 c = search needs
-
-cast-result : tie.Need-cast-result
-cast-result c = search needs
-
-add-result : tie.Need-add-result
-add-result c = search needs
+    let (_, passed) = at-examine .examine .ensures in passed _ (at-examined .examined .given .1)
 
 returns : tie.Need-returns
 returns c =
@@ -53,5 +34,5 @@ returns-2 c =
 pub spb-path-cost-spec : {M : Type 1} → statement M
 spb-path-cost-spec =
     tie.close
-    (tie.spec slice-aggregate-examine examine-requires enum-known-examined slice-aggregate-path-cost-in-table path-cost-in-table-requires
-    enum-known-examined-2 cast-result add-result returns returns-2)
+    (tie.spec (λ c. search needs) examine-requires (λ c. search needs) (λ c. search needs) path-cost-in-table-requires (λ c. search needs)
+    (λ c. search needs) (λ c. search needs) returns returns-2)

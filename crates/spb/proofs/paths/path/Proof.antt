@@ -5,30 +5,14 @@ use Rattle.spb.specs.laws.CallLaws.{path-accepted, path-refused}
 use Rattle.spb.proofs.paths.path.Statement.{statement}
 use Rattle.spb.proofs.paths.path.Tie as tie
 
-slice-aggregate-examine : tie.Need-slice-aggregate-examine
-slice-aggregate-examine c = search needs
-
 examine-requires : tie.Need-examine-requires
 examine-requires c κs = no-keys-yet
-
-enum-known-examined : tie.Need-enum-known-examined
-enum-known-examined c = search needs
-
-slice-aggregate-path-in-table : tie.Need-slice-aggregate-path-in-table
-slice-aggregate-path-in-table c = search needs
 
 path-in-table-requires : tie.Need-path-in-table-requires
 path-in-table-requires c κs =
     let at-examined = c .before .before .before in
     let at-examine = at-examined .before .before .before in
-    let (_, passed) = at-examine .examine .ensures in
-    passed _ (at-examined .examined .given .1)
-
-enum-known-examined-2 : tie.Need-enum-known-examined-2
-enum-known-examined-2 c = search needs
-
-same-length : tie.Need-same-length
-same-length c = search needs
+    let (_, passed) = at-examine .examine .ensures in passed _ (at-examined .examined .given .1)
 
 returns : tie.Need-returns
 returns c =
@@ -52,5 +36,5 @@ returns-2 c =
 pub path-spec : {M : Type 1} → statement M
 path-spec =
     tie.close
-    (tie.spec slice-aggregate-examine examine-requires enum-known-examined slice-aggregate-path-in-table path-in-table-requires
-    enum-known-examined-2 same-length returns returns-2)
+    (tie.spec (λ c. search needs) examine-requires (λ c. search needs) (λ c. search needs) path-in-table-requires (λ c. search needs)
+    (λ c. search needs) returns returns-2)

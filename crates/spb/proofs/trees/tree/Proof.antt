@@ -5,36 +5,14 @@ use Rattle.spb.specs.laws.CallLaws.{tree-accepted, tree-refused}
 use Rattle.spb.proofs.trees.tree.Statement.{statement}
 use Rattle.spb.proofs.trees.tree.Tie as tie
 
-slice-aggregate-examine : tie.Need-slice-aggregate-examine
-slice-aggregate-examine c = search needs
-
 examine-requires : tie.Need-examine-requires
 examine-requires c κs = no-keys-yet
-
-enum-known-examined : tie.Need-enum-known-examined
-enum-known-examined c = search needs
-
-slice-aggregate-tree-in-table : tie.Need-slice-aggregate-tree-in-table
-slice-aggregate-tree-in-table c = search needs
 
 tree-in-table-requires : tie.Need-tree-in-table-requires
 tree-in-table-requires c κs =
     let at-examined = c .before .before .before .before .before in
     let at-examine = at-examined .before .before .before in
-    let (_, passed) = at-examine .examine .ensures in
-    passed _ (at-examined .examined .given .1)
-
-enum-known-examined-2 : tie.Need-enum-known-examined-2
-enum-known-examined-2 c = search needs
-
-same-length : tie.Need-same-length
-same-length c = search needs
-
-same-length-2 : tie.Need-same-length-2
-same-length-2 c = search needs
-
-same-length-3 : tie.Need-same-length-3
-same-length-3 c = search needs
+    let (_, passed) = at-examine .examine .ensures in passed _ (at-examined .examined .given .1)
 
 returns : tie.Need-returns
 returns c =
@@ -58,5 +36,5 @@ returns-2 c =
 pub tree-spec : {M : Type 1} → statement M
 tree-spec =
     tie.close
-    (tie.spec slice-aggregate-examine examine-requires enum-known-examined slice-aggregate-tree-in-table tree-in-table-requires
-    enum-known-examined-2 same-length same-length-2 same-length-3 returns returns-2)
+    (tie.spec (λ c. search needs) examine-requires (λ c. search needs) (λ c. search needs) tree-in-table-requires (λ c. search needs)
+    (λ c. search needs) (λ c. search needs) (λ c. search needs) returns returns-2)

@@ -9,12 +9,6 @@ use borrow.Author.Needs.{needs}
 use Rattle.table.proofs.records.bridge.Statement.{statement}
 use Rattle.table.proofs.records.bridge.Tie as tie
 
-mul-bridge-at : tie.Need-mul-bridge-at
-mul-bridge-at c = search needs
-
-bridge-at-requires : tie.Need-bridge-at-requires
-bridge-at-requires c κs = search needs
-
 returns : tie.Need-returns
 returns c =
     let at-start = c .before .before in
@@ -22,4 +16,4 @@ returns c =
     (c .bridge-at .ensures) ∙ ap (λ (w : ℕ). bridgeOf (drop w (wordsOf ((at-start .args .table .now))))) e
 
 pub bridge-spec : {M : Type 1} → statement M
-bridge-spec = tie.close (tie.spec mul-bridge-at bridge-at-requires returns)
+bridge-spec = tie.close (tie.spec (λ c. search needs) (λ c κs. search needs) returns)

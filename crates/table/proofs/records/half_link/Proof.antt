@@ -8,18 +8,6 @@ use borrow.Author.Needs.{needs}
 use Rattle.table.proofs.records.half_link.Statement.{statement}
 use Rattle.table.proofs.records.half_link.Tie as tie
 
-half-links-from-requires : tie.Need-half-links-from-requires
-half-links-from-requires c κs = search needs
-
-mul-half-link-at : tie.Need-mul-half-link-at
-mul-half-link-at c = search needs
-
-add-half-link-at : tie.Need-add-half-link-at
-add-half-link-at c = search needs
-
-half-link-at-requires : tie.Need-half-link-at-requires
-half-link-at-requires c κs = search needs
-
 returns : tie.Need-returns
 returns c =
     let at-start = c .before .before .before in
@@ -30,4 +18,4 @@ returns c =
 pub half-link-spec : {M : Type 1} → statement M
 half-link-spec =
     tie.close
-    (tie.spec half-links-from-requires mul-half-link-at add-half-link-at half-link-at-requires returns)
+    (tie.spec (λ c κs. search needs) (λ c. search needs) (λ c. search needs) (λ c κs. search needs) returns)

@@ -43,12 +43,6 @@ returns c =
     vid-found (wordsOf (at-start .args .table .now)) (at-start .args .s) (at-start .args .vid) (at-loop .loop .k) (at-loop .loop .inv) _ _
     (at-if1 .if1 .taken) (at-vids-from .vids-from .ensures) (at-vid-at .vid-at .ensures) (c .if2 .taken)
 
-add-k : tie.Need-add-k Inv-loop μ-loop
-add-k c = search needs
-
-loop-less : tie.Need-loop-less Inv-loop μ-loop
-loop-less c = search needs
-
 loop-again : tie.Need-loop-again Inv-loop μ-loop
 loop-again c =
     let at-vid-at = c .before .before in
@@ -69,4 +63,5 @@ returns-2 c =
 pub index-of-spec : {M : Type 1} → statement M
 index-of-spec =
     tie.close
-    (tie.spec Inv-loop μ-loop vids-from-requires loop-holds add-vid-at vid-at-requires returns add-k loop-less loop-again returns-2)
+    (tie.spec Inv-loop μ-loop vids-from-requires loop-holds add-vid-at vid-at-requires returns (λ c. search needs) (λ c. search needs)
+    loop-again returns-2)

@@ -8,18 +8,6 @@ use borrow.Author.Needs.{needs}
 use Rattle.table.proofs.records.member.Statement.{statement}
 use Rattle.table.proofs.records.member.Tie as tie
 
-members-from-requires : tie.Need-members-from-requires
-members-from-requires c κs = search needs
-
-mul-member-at : tie.Need-mul-member-at
-mul-member-at c = search needs
-
-add-member-at : tie.Need-add-member-at
-add-member-at c = search needs
-
-member-at-requires : tie.Need-member-at-requires
-member-at-requires c κs = search needs
-
 returns : tie.Need-returns
 returns c =
     let at-start = c .before .before .before in
@@ -30,4 +18,4 @@ returns c =
 pub member-spec : {M : Type 1} → statement M
 member-spec =
     tie.close
-    (tie.spec members-from-requires mul-member-at add-member-at member-at-requires returns)
+    (tie.spec (λ c κs. search needs) (λ c. search needs) (λ c. search needs) (λ c κs. search needs) returns)

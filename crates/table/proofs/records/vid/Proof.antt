@@ -10,15 +10,6 @@ use borrow.Author.Needs.{needs}
 use Rattle.table.proofs.records.vid.Statement.{statement}
 use Rattle.table.proofs.records.vid.Tie as tie
 
-vids-from-requires : tie.Need-vids-from-requires
-vids-from-requires c κs = search needs
-
-add-vid-at : tie.Need-add-vid-at
-add-vid-at c = search needs
-
-vid-at-requires : tie.Need-vid-at-requires
-vid-at-requires c κs = search needs
-
 returns : tie.Need-returns
 returns c =
     let at-start = c .before .before .before in
@@ -27,4 +18,4 @@ returns c =
     (c .vid-at .ensures) ∙ ap (λ (w : ℕ). vidOf (drop w (wordsOf ((at-start .args .table .now))))) e
 
 pub vid-spec : {M : Type 1} → statement M
-vid-spec = tie.close (tie.spec vids-from-requires add-vid-at vid-at-requires returns)
+vid-spec = tie.close (tie.spec (λ c κs. search needs) (λ c. search needs) (λ c κs. search needs) returns)

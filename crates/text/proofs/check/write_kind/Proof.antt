@@ -9,48 +9,6 @@ use native.Mathlib.Omega.{arith}
 use Rattle.text.proofs.check.write_kind.Statement.{statement}
 use Rattle.text.proofs.check.write_kind.Tie as tie
 
-enum-told : tie.Need-enum-told
-enum-told c = search needs
-
-slice-aggregate-write-word : tie.Need-slice-aggregate-write-word
-slice-aggregate-write-word c = search needs
-
-write-word-requires : tie.Need-write-word-requires
-write-word-requires c κs = search needs
-
-enum-told-2 : tie.Need-enum-told-2
-enum-told-2 c = search needs
-
-write-field-requires : tie.Need-write-field-requires
-write-field-requires c κs = search needs
-
-enum-told-3 : tie.Need-enum-told-3
-enum-told-3 c = search needs
-
-write-field-requires-2 : tie.Need-write-field-requires-2
-write-field-requires-2 c κs = search needs
-
-enum-told-4 : tie.Need-enum-told-4
-enum-told-4 c = search needs
-
-write-field-requires-3 : tie.Need-write-field-requires-3
-write-field-requires-3 c κs = search needs
-
-enum-told-5 : tie.Need-enum-told-5
-enum-told-5 c = search needs
-
-write-field-requires-4 : tie.Need-write-field-requires-4
-write-field-requires-4 c κs = search needs
-
-enum-told-6 : tie.Need-enum-told-6
-enum-told-6 c = search needs
-
-write-field-requires-5 : tie.Need-write-field-requires-5
-write-field-requires-5 c κs = search needs
-
-same-length : tie.Need-same-length
-same-length c = search needs
-
 returns : tie.Need-returns
 returns c =
     let at-write-word = c .before .before in
@@ -59,9 +17,6 @@ returns c =
           (sym (ap (λ (k : RecordKind). kindField (kindNumber k)) ((at-enum-told .enum-told .given .1)))),
       omega (arith, (at-write-word .write-word .ensures .end-is)),
     )
-
-same-length-2 : tie.Need-same-length-2
-same-length-2 c = search needs
 
 returns-2 : tie.Need-returns-2
 returns-2 c =
@@ -72,9 +27,6 @@ returns-2 c =
       write-field-bound,
     )
 
-same-length-3 : tie.Need-same-length-3
-same-length-3 c = search needs
-
 returns-3 : tie.Need-returns-3
 returns-3 c =
     let at-write-field2 = c .before .before in
@@ -83,9 +35,6 @@ returns-3 c =
       written-as written _ (sym (ap (λ (k : RecordKind). kindField (kindNumber k)) ((at-enum-told3 .enum-told3 .given .1)))),
       write-field2-bound,
     )
-
-same-length-4 : tie.Need-same-length-4
-same-length-4 c = search needs
 
 returns-4 : tie.Need-returns-4
 returns-4 c =
@@ -96,9 +45,6 @@ returns-4 c =
       write-field3-bound,
     )
 
-same-length-5 : tie.Need-same-length-5
-same-length-5 c = search needs
-
 returns-5 : tie.Need-returns-5
 returns-5 c =
     let at-write-field4 = c .before .before in
@@ -107,9 +53,6 @@ returns-5 c =
       written-as written _ (sym (ap (λ (k : RecordKind). kindField (kindNumber k)) ((at-enum-told5 .enum-told5 .given .1)))),
       write-field4-bound,
     )
-
-same-length-6 : tie.Need-same-length-6
-same-length-6 c = search needs
 
 returns-6 : tie.Need-returns-6
 returns-6 c =
@@ -123,6 +66,7 @@ returns-6 c =
 pub write-kind-spec : {M : Type 1} → statement M
 write-kind-spec =
     tie.close
-    (tie.spec enum-told slice-aggregate-write-word write-word-requires enum-told-2 write-field-requires enum-told-3 write-field-requires-2
-    enum-told-4 write-field-requires-3 enum-told-5 write-field-requires-4 enum-told-6 write-field-requires-5 same-length returns
-    same-length-2 returns-2 same-length-3 returns-3 same-length-4 returns-4 same-length-5 returns-5 same-length-6 returns-6)
+    (tie.spec (λ c. search needs) (λ c. search needs) (λ c κs. search needs) (λ c. search needs) (λ c κs. search needs) (λ c. search needs)
+    (λ c κs. search needs) (λ c. search needs) (λ c κs. search needs) (λ c. search needs) (λ c κs. search needs) (λ c. search needs)
+    (λ c κs. search needs) (λ c. search needs) returns (λ c. search needs) returns-2 (λ c. search needs) returns-3 (λ c. search needs)
+    returns-4 (λ c. search needs) returns-5 (λ c. search needs) returns-6)

@@ -5,15 +5,6 @@ use native.Mathlib.Omega.{arith}
 use Rattle.text.proofs.check.write_refused.Statement.{statement}
 use Rattle.text.proofs.check.write_refused.Tie as tie
 
-write-refusal-requires : tie.Need-write-refusal-requires
-write-refusal-requires c κs = search needs
-
-write-byte-requires : tie.Need-write-byte-requires
-write-byte-requires c κs = search needs
-
-same-length : tie.Need-same-length
-same-length c = search needs
-
 returns : tie.Need-returns
 returns c =
     let at-write-byte = c .before .before in
@@ -26,4 +17,4 @@ returns c =
 
 pub write-refused-spec : {M : Type 1} → statement M
 write-refused-spec =
-    tie.close (tie.spec write-refusal-requires write-byte-requires same-length returns)
+    tie.close (tie.spec (λ c κs. search needs) (λ c κs. search needs) (λ c. search needs) returns)

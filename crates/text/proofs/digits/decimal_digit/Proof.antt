@@ -4,14 +4,8 @@ use borrow.Author.Needs.{needs}
 use Rattle.text.proofs.digits.decimal_digit.Statement.{statement}
 use Rattle.text.proofs.digits.decimal_digit.Tie as tie
 
-cast-result : tie.Need-cast-result
-cast-result c = search needs
-
-add-result : tie.Need-add-result
-add-result c = search needs
-
 returns : tie.Need-returns
 returns c = low-digit _ ((c .pre))
 
 pub decimal-digit-spec : {M : Type 1} → statement M
-decimal-digit-spec = tie.close (tie.spec cast-result add-result returns)
+decimal-digit-spec = tie.close (tie.spec (λ c. search needs) (λ c. search needs) returns)

@@ -19,12 +19,6 @@ returns c =
     let at-loop = c .before .before in
     (counting-finds ((at-loop .loop .inv)) ((c .if1 .taken)), (at-loop .loop .inv .most))
 
-add-count : tie.Need-add-count Inv-loop μ-loop
-add-count c = search needs
-
-loop-less : tie.Need-loop-less Inv-loop μ-loop
-loop-less c = search needs
-
 loop-again : tie.Need-loop-again Inv-loop μ-loop
 loop-again c =
     let at-loop = c .before .before in
@@ -36,4 +30,4 @@ returns-2 c = (counting-ends ((c .before .loop .inv)) ((c .loop-test .left)), (c
 pub decimal-places-spec : {M : Type 1} → statement M
 decimal-places-spec =
     tie.close
-    (tie.spec Inv-loop μ-loop loop-holds returns add-count loop-less loop-again returns-2)
+    (tie.spec Inv-loop μ-loop loop-holds returns (λ c. search needs) (λ c. search needs) loop-again returns-2)

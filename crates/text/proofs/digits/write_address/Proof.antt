@@ -16,29 +16,11 @@ abbrev μ-loop : tie.MeasureT-loop
 loop-holds : tie.Need-loop-holds Inv-loop μ-loop
 loop-holds c = spelling-starts _ _ _ _ _
 
-sub-left : tie.Need-sub-left Inv-loop μ-loop
-sub-left c = search needs
-
-hexadecimal-digit-requires : tie.Need-hexadecimal-digit-requires Inv-loop μ-loop
-hexadecimal-digit-requires c κs = search needs
-
-add-out : tie.Need-add-out Inv-loop μ-loop
-add-out c = search needs
-
-slice-write-out : tie.Need-slice-write-out Inv-loop μ-loop
-slice-write-out c = search needs
-
-loop-less : tie.Need-loop-less Inv-loop μ-loop
-loop-less c = search needs
-
 loop-again : tie.Need-loop-again Inv-loop μ-loop
 loop-again c =
     let at-loop = c .before .before in
     let at-start = at-loop .before .before in
     spelling-goes-on 16 _ _ _ _ ((at-start .pre)) ((at-loop .loop .inv)) _ _ _ (omega arith) ((c .hexadecimal-digit .ensures)) refl
-
-add-result : tie.Need-add-result Inv-loop μ-loop
-add-result c = search needs
 
 same-length : tie.Need-same-length Inv-loop μ-loop
 same-length c = (c .before .loop .inv .same-length)
@@ -49,5 +31,5 @@ returns c = address-written _ _ (spelling-ends 16 _ _ _ _ ((c .before .loop .inv
 pub write-address-spec : {M : Type 1} → statement M
 write-address-spec =
     tie.close
-    (tie.spec Inv-loop μ-loop loop-holds sub-left hexadecimal-digit-requires add-out slice-write-out loop-less loop-again add-result
-    same-length returns)
+    (tie.spec Inv-loop μ-loop loop-holds (λ c. search needs) (λ c κs. search needs) (λ c. search needs) (λ c. search needs)
+    (λ c. search needs) loop-again (λ c. search needs) same-length returns)

@@ -7,18 +7,6 @@ use Rattle.text.proofs.digits.write_decimal.Tie as tie
 use Rattle.text.proofs.digits.decimal_places.Reads as decimal-places-reads
 use Rattle.text.proofs.digits.write_last_digits.Reads as write-last-digits-reads
 
-decimal-places-requires : tie.Need-decimal-places-requires
-decimal-places-requires c κs = search needs
-
-write-last-digits-requires : tie.Need-write-last-digits-requires
-write-last-digits-requires c κs = search needs
-
-add-result : tie.Need-add-result
-add-result c = search needs
-
-same-length : tie.Need-same-length
-same-length c = search needs
-
 returns : tie.Need-returns
 returns c =
     let at-write-last-digits = c .before .before in
@@ -29,4 +17,4 @@ returns c =
 pub write-decimal-spec : {M : Type 1} → statement M
 write-decimal-spec =
     tie.close
-    (tie.spec decimal-places-requires write-last-digits-requires add-result same-length returns)
+    (tie.spec (λ c κs. search needs) (λ c κs. search needs) (λ c. search needs) (λ c. search needs) returns)

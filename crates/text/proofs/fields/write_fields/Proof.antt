@@ -16,24 +16,12 @@ abbrev μ-loop : tie.MeasureT-loop
 loop-holds : tie.Need-loop-holds Inv-loop μ-loop
 loop-holds c = fielding-starts _ _ _
 
-mul-write-field : tie.Need-mul-write-field Inv-loop μ-loop
-mul-write-field c = search needs
-
-shared-slice-read-write-field : tie.Need-shared-slice-read-write-field Inv-loop μ-loop
-shared-slice-read-write-field c = search needs
-
 write-field-requires : tie.Need-write-field-requires Inv-loop μ-loop
 write-field-requires c κs =
     let at-loop-test = c .before .before in
     let at-loop = at-loop-test .before in
     let at-start = at-loop .before .before .before in
     omega (arith, (at-loop .loop .inv .room), (at-loop .loop .inv .same-length), (at-start .pre), (at-loop-test .loop-test .taken))
-
-add-i : tie.Need-add-i Inv-loop μ-loop
-add-i c = search needs
-
-loop-less : tie.Need-loop-less Inv-loop μ-loop
-loop-less c = search needs
 
 loop-again : tie.Need-loop-again Inv-loop μ-loop
 loop-again c =
@@ -53,5 +41,5 @@ returns c = (fielding-ends ((c .before .loop .inv)) ((c .loop-test .left)), fiel
 pub write-fields-spec : {M : Type 1} → statement M
 write-fields-spec =
     tie.close
-    (tie.spec Inv-loop μ-loop loop-holds mul-write-field shared-slice-read-write-field write-field-requires add-i loop-less loop-again
-    same-length returns)
+    (tie.spec Inv-loop μ-loop loop-holds (λ c. search needs) (λ c. search needs) write-field-requires (λ c. search needs)
+    (λ c. search needs) loop-again same-length returns)

@@ -4,9 +4,6 @@ use borrow.Author.Needs.{needs}
 use Rattle.tree.proofs.search.advance.Statement.{statement}
 use Rattle.tree.proofs.search.advance.Tie as tie
 
-first-waiting-requires : tie.Need-first-waiting-requires
-first-waiting-requires c κs = search needs
-
 settle-requires : tie.Need-settle-requires
 settle-requires c κs =
     let at-first-waiting = c .before .before in
@@ -21,12 +18,6 @@ relax-all-requires c κs =
     search-relaxable-on _ _ _ _ _ _ (at-start .pre .0) (at-start .pre .1) (at-start .pre .2) (at-first-waiting .first-waiting .ensures)
     (at-settle .settle .ensures .0) (at-settle .settle .ensures .1)
 
-same-length : tie.Need-same-length
-same-length c = search needs
-
-same-length-2 : tie.Need-same-length-2
-same-length-2 c = search needs
-
 returns : tie.Need-returns
 returns c =
     let at-relax-all = c .before .before in
@@ -39,4 +30,4 @@ returns c =
 pub advance-spec : {M : Type 1} → statement M
 advance-spec =
     tie.close
-    (tie.spec first-waiting-requires settle-requires relax-all-requires same-length same-length-2 returns)
+    (tie.spec (λ c κs. search needs) settle-requires relax-all-requires (λ c. search needs) (λ c. search needs) returns)

@@ -18,18 +18,12 @@ Inv-loop starts neighbours costs keys labels₀ path-ids₀ n root least₀ labe
 abbrev μ-loop : tie.MeasureT-loop
 μ-loop starts neighbours costs keys labels₀ path-ids₀ n root least₀ labels path-ids least = openBridges n labels
 
-begin-requires : tie.Need-begin-requires Inv-loop μ-loop
-begin-requires c κs = search needs
-
 relax-all-requires : tie.Need-relax-all-requires Inv-loop μ-loop
 relax-all-requires c κs =
     let at-begin = c .before .before .before .before .before .before in
     let at-start = at-begin .before .before .before .before .before .before .before .before .before in
     search-relaxable _ _ _ _ _ _ (at-start .pre .0) _ _ _ _ (at-start .pre .1) (at-start .pre .2) (at-start .pre .3)
     (at-begin .begin .ensures)
-
-least-waiting-requires : tie.Need-least-waiting-requires Inv-loop μ-loop
-least-waiting-requires c κs = search needs
 
 loop-holds : tie.Need-loop-holds Inv-loop μ-loop
 loop-holds c =
@@ -43,9 +37,6 @@ loop-holds c =
       refl,
     )
 
-is-below-requires : tie.Need-is-below-requires Inv-loop μ-loop
-is-below-requires c κs = search needs
-
 advance-requires : tie.Need-advance-requires Inv-loop μ-loop
 advance-requires c κs =
     let at-if1 = c .before .before in
@@ -53,9 +44,6 @@ advance-requires c κs =
     let at-loop = at-is-below .before in
     let (underway, least-of, _, _) = at-loop .loop .inv in
     (underway, least-of, lt-of-lt-of-le (below (at-is-below .is-below .ensures) (at-if1 .if1 .taken)) (omega arith))
-
-least-waiting-requires-2 : tie.Need-least-waiting-requires-2 Inv-loop μ-loop
-least-waiting-requires-2 c κs = search needs
 
 loop-less : tie.Need-loop-less Inv-loop μ-loop
 loop-less c =
@@ -79,8 +67,7 @@ same-length-2 : tie.Need-same-length-2 Inv-loop μ-loop
 same-length-2 c =
     let at-loop = c .before .before in
     let at-begin = at-loop .before .before .before .before .before .before .before .before .before .before .before .before in
-    let (_, _, _, path-ids-length) = at-loop .loop .inv in
-    path-ids-length ∙ at-begin .begin .ensures .same-path-ids
+    let (_, _, _, path-ids-length) = at-loop .loop .inv in path-ids-length ∙ at-begin .begin .ensures .same-path-ids
 
 returns : tie.Need-returns Inv-loop μ-loop
 returns c =
@@ -92,5 +79,5 @@ returns c =
 pub tree-spec : {M : Type 1} → statement M
 tree-spec =
     tie.close
-    (tie.spec Inv-loop μ-loop begin-requires relax-all-requires least-waiting-requires loop-holds is-below-requires advance-requires
-    least-waiting-requires-2 loop-less loop-again same-length same-length-2 returns)
+    (tie.spec Inv-loop μ-loop (λ c κs. search needs) relax-all-requires (λ c κs. search needs) loop-holds (λ c κs. search needs)
+    advance-requires (λ c κs. search needs) loop-less loop-again same-length same-length-2 returns)

@@ -16,32 +16,13 @@ abbrev μ-loop : tie.MeasureT-loop
 loop-holds : tie.Need-loop-holds Inv-loop μ-loop
 loop-holds c = clearing-starts _ _
 
-mul-labels : tie.Need-mul-labels Inv-loop μ-loop
-mul-labels c = search needs
-
-slice-write-labels : tie.Need-slice-write-labels Inv-loop μ-loop
-slice-write-labels c = search needs
-
-add-labels : tie.Need-add-labels Inv-loop μ-loop
-add-labels c = search needs
-
-mul-labels-2 : tie.Need-mul-labels-2 Inv-loop μ-loop
-mul-labels-2 c = search needs
-
 slice-write-labels-2 : tie.Need-slice-write-labels-2 Inv-loop μ-loop
 slice-write-labels-2 c = simp length-set (omega (arith, c .before .loop .inv .so-far .same-length))
-
-add-u : tie.Need-add-u Inv-loop μ-loop
-add-u c = search needs
-
-loop-less : tie.Need-loop-less Inv-loop μ-loop
-loop-less c = search needs
 
 loop-again : tie.Need-loop-again Inv-loop μ-loop
 loop-again c =
     let at-start = c .before .before in
-    let (n-bound, labels-room) = at-start .pre in
-    clearing-goes-on (c .before .loop .inv) n-bound labels-room (c .loop-test .taken)
+    let (n-bound, labels-room) = at-start .pre in clearing-goes-on (c .before .loop .inv) n-bound labels-room (c .loop-test .taken)
 
 same-length : tie.Need-same-length Inv-loop μ-loop
 same-length c = c .before .loop .inv .so-far .same-length
@@ -52,5 +33,5 @@ returns c = clearing-ends (c .before .loop .inv) (c .loop-test .left)
 pub clear-spec : {M : Type 1} → statement M
 clear-spec =
     tie.close
-    (tie.spec Inv-loop μ-loop loop-holds mul-labels slice-write-labels add-labels mul-labels-2 slice-write-labels-2 add-u loop-less
-    loop-again same-length returns)
+    (tie.spec Inv-loop μ-loop loop-holds (λ c. search needs) (λ c. search needs) (λ c. search needs) (λ c. search needs)
+    slice-write-labels-2 (λ c. search needs) (λ c. search needs) loop-again same-length returns)

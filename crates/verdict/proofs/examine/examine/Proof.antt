@@ -16,9 +16,6 @@ Inv-loop table links₀ ports₀ words s₀ left₀ links ports s left = Examini
 abbrev μ-loop : tie.MeasureT-loop
 μ-loop table links₀ ports₀ words s₀ left₀ links ports s left = left
 
-has-bad-length-requires : tie.Need-has-bad-length-requires Inv-loop μ-loop
-has-bad-length-requires c κs = search needs
-
 returns : tie.Need-returns Inv-loop μ-loop
 returns c =
     let at-start = c .before .before .before .before in (
@@ -32,9 +29,6 @@ loop-holds c =
     examining-starts (wordsOf (at-start .args .table .now)) _ (at-start .args .link-index .now) _
     (sym (count-of-words (at-start .args .table .now))) no-keys-yet (at-start .pre)
 
-slice-aggregate-read-record : tie.Need-slice-aggregate-read-record Inv-loop μ-loop
-slice-aggregate-read-record c = search needs
-
 read-record-requires : tie.Need-read-record-requires Inv-loop μ-loop
 read-record-requires c κs =
     let at-loop = c .before .before .before in
@@ -47,15 +41,6 @@ read-record-requires c κs =
       },
       at-loop .loop .inv .indexes,
     )
-
-enum-known-read : tie.Need-enum-known-read Inv-loop μ-loop
-enum-known-read c = search needs
-
-enum-told : tie.Need-enum-told Inv-loop μ-loop
-enum-told c = search needs
-
-same-length : tie.Need-same-length Inv-loop μ-loop
-same-length c = search needs
 
 returns-2 : tie.Need-returns-2 Inv-loop μ-loop
 returns-2 c =
@@ -77,12 +62,6 @@ returns-2 c =
           (kept .at-end (c .enum-told .given .1) .by-number),
     )
 
-enum-known-read-2 : tie.Need-enum-known-read-2 Inv-loop μ-loop
-enum-known-read-2 c = search needs
-
-same-length-2 : tie.Need-same-length-2 Inv-loop μ-loop
-same-length-2 c = search needs
-
 returns-3 : tie.Need-returns-3 Inv-loop μ-loop
 returns-3 c =
     let at-read-record = c .before .before .before .before .before .before in
@@ -98,12 +77,6 @@ returns-3 c =
           (c .before .read2 .given .1)),
       refused-passes,
     )
-
-sub-left : tie.Need-sub-left Inv-loop μ-loop
-sub-left c = search needs
-
-loop-less : tie.Need-loop-less Inv-loop μ-loop
-loop-less c = search needs
 
 loop-again : tie.Need-loop-again Inv-loop μ-loop
 loop-again c =
@@ -125,9 +98,6 @@ cast-t21 c =
           (at-has-bad-length .has-bad-length .ensures) (at-if1 .if1 .left),
     )
 
-same-length-3 : tie.Need-same-length-3 Inv-loop μ-loop
-same-length-3 c = search needs
-
 returns-4 : tie.Need-returns-4 Inv-loop μ-loop
 returns-4 c =
     let at-if1 = c .before .before in
@@ -141,5 +111,6 @@ returns-4 c =
 pub examine-spec : {M : Type 1} → statement M
 examine-spec =
     tie.close
-    (tie.spec Inv-loop μ-loop has-bad-length-requires returns loop-holds slice-aggregate-read-record read-record-requires enum-known-read
-    enum-told same-length returns-2 enum-known-read-2 same-length-2 returns-3 sub-left loop-less loop-again cast-t21 same-length-3 returns-4)
+    (tie.spec Inv-loop μ-loop (λ c κs. search needs) returns loop-holds (λ c. search needs) read-record-requires (λ c. search needs)
+    (λ c. search needs) (λ c. search needs) returns-2 (λ c. search needs) (λ c. search needs) returns-3 (λ c. search needs)
+    (λ c. search needs) loop-again cast-t21 (λ c. search needs) returns-4)

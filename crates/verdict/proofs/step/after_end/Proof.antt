@@ -9,15 +9,6 @@ use borrow.Author.Needs.{needs}
 use Rattle.verdict.proofs.step.after_end.Statement.{statement}
 use Rattle.verdict.proofs.step.after_end.Tie as tie
 
-end-fault-requires : tie.Need-end-fault-requires
-end-fault-requires c κs = search needs
-
-words-read-requires : tie.Need-words-read-requires
-words-read-requires c κs = search needs
-
-refusal-requires : tie.Need-refusal-requires
-refusal-requires c κs = search needs
-
 returns : tie.Need-returns
 returns c =
     let at-if1 = c .before .before in
@@ -39,4 +30,4 @@ returns-2 c =
 
 pub after-end-spec : {M : Type 1} → statement M
 after-end-spec =
-    tie.close (tie.spec end-fault-requires words-read-requires refusal-requires returns returns-2)
+    tie.close (tie.spec (λ c κs. search needs) (λ c κs. search needs) (λ c κs. search needs) returns returns-2)

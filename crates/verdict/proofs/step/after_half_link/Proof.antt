@@ -13,21 +13,6 @@ use borrow.Author.Needs.{needs}
 use Rattle.verdict.proofs.step.after_half_link.Statement.{statement}
 use Rattle.verdict.proofs.step.after_half_link.Tie as tie
 
-half-link-fault-requires : tie.Need-half-link-fault-requires
-half-link-fault-requires c κs = search needs
-
-words-read-requires : tie.Need-words-read-requires
-words-read-requires c κs = search needs
-
-refusal-requires : tie.Need-refusal-requires
-refusal-requires c κs = search needs
-
-same-length : tie.Need-same-length
-same-length c = search needs
-
-same-length-2 : tie.Need-same-length-2
-same-length-2 c = search needs
-
 returns : tie.Need-returns
 returns c =
     let at-words-read = c .before .before in
@@ -79,15 +64,6 @@ enter-requires-2 c κs =
           (ap numbered (sym (at-if1 .if1 .left)) ∙ at-half-link-fault .half-link-fault .ensures),
     )
 
-add-t20 : tie.Need-add-t20
-add-t20 c = search needs
-
-same-length-3 : tie.Need-same-length-3
-same-length-3 c = search needs
-
-same-length-4 : tie.Need-same-length-4
-same-length-4 c = search needs
-
 returns-2 : tie.Need-returns-2
 returns-2 c =
     let at-enter2 = c .before .before .before in
@@ -113,5 +89,6 @@ returns-2 c =
 pub after-half-link-spec : {M : Type 1} → statement M
 after-half-link-spec =
     tie.close
-    (tie.spec half-link-fault-requires words-read-requires refusal-requires same-length same-length-2 returns half-link-at-requires
-    port-key-requires enter-requires enter-requires-2 add-t20 same-length-3 same-length-4 returns-2)
+    (tie.spec (λ c κs. search needs) (λ c κs. search needs) (λ c κs. search needs) (λ c. search needs) (λ c. search needs) returns
+    half-link-at-requires port-key-requires enter-requires enter-requires-2 (λ c. search needs) (λ c. search needs) (λ c. search needs)
+    returns-2)

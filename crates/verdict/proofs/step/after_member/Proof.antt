@@ -9,15 +9,6 @@ use borrow.Author.Needs.{needs}
 use Rattle.verdict.proofs.step.after_member.Statement.{statement}
 use Rattle.verdict.proofs.step.after_member.Tie as tie
 
-member-fault-requires : tie.Need-member-fault-requires
-member-fault-requires c κs = search needs
-
-words-read-requires : tie.Need-words-read-requires
-words-read-requires c κs = search needs
-
-refusal-requires : tie.Need-refusal-requires
-refusal-requires c κs = search needs
-
 returns : tie.Need-returns
 returns c =
     let at-if1 = c .before .before in
@@ -28,9 +19,6 @@ returns c =
           (c .before .words-read .ensures) (c .refusal .ensures),
       refused-still (c .refusal .ensures),
     )
-
-add-t7 : tie.Need-add-t7
-add-t7 c = search needs
 
 returns-2 : tie.Need-returns-2
 returns-2 c =
@@ -44,4 +32,4 @@ returns-2 c =
 pub after-member-spec : {M : Type 1} → statement M
 after-member-spec =
     tie.close
-    (tie.spec member-fault-requires words-read-requires refusal-requires returns add-t7 returns-2)
+    (tie.spec (λ c κs. search needs) (λ c κs. search needs) (λ c κs. search needs) returns (λ c. search needs) returns-2)

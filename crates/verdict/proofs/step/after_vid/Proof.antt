@@ -9,15 +9,6 @@ use borrow.Author.Needs.{needs}
 use Rattle.verdict.proofs.step.after_vid.Statement.{statement}
 use Rattle.verdict.proofs.step.after_vid.Tie as tie
 
-vid-fault-requires : tie.Need-vid-fault-requires
-vid-fault-requires c κs = search needs
-
-words-read-requires : tie.Need-words-read-requires
-words-read-requires c κs = search needs
-
-refusal-requires : tie.Need-refusal-requires
-refusal-requires c κs = search needs
-
 returns : tie.Need-returns
 returns c =
     let at-if1 = c .before .before in
@@ -28,9 +19,6 @@ returns c =
           (c .refusal .ensures),
       refused-still (c .refusal .ensures),
     )
-
-add-t7 : tie.Need-add-t7
-add-t7 c = search needs
 
 returns-2 : tie.Need-returns-2
 returns-2 c =
@@ -44,4 +32,4 @@ returns-2 c =
 pub after-vid-spec : {M : Type 1} → statement M
 after-vid-spec =
     tie.close
-    (tie.spec vid-fault-requires words-read-requires refusal-requires returns add-t7 returns-2)
+    (tie.spec (λ c κs. search needs) (λ c κs. search needs) (λ c κs. search needs) returns (λ c. search needs) returns-2)

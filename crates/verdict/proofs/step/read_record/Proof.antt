@@ -8,12 +8,6 @@ use borrow.Author.Needs.{needs}
 use Rattle.verdict.proofs.step.read_record.Statement.{statement}
 use Rattle.verdict.proofs.step.read_record.Tie as tie
 
-words-read-requires : tie.Need-words-read-requires
-words-read-requires c κs = search needs
-
-cast-t11 : tie.Need-cast-t11
-cast-t11 c = search needs
-
 returns : tie.Need-returns
 returns c =
     let at-start = c .before .before .before .before .before in
@@ -22,12 +16,6 @@ returns c =
           (c .if1 .taken) (whole .within),
       refused-keeps refl,
     )
-
-word-at-requires : tie.Need-word-at-requires
-word-at-requires c κs = search needs
-
-after-bridge-requires : tie.Need-after-bridge-requires
-after-bridge-requires c κs = search needs
 
 returns-2 : tie.Need-returns-2
 returns-2 c =
@@ -42,15 +30,6 @@ returns-2 c =
           stepped,
       still-keeps indexes still,
     )
-
-after-half-link-requires : tie.Need-after-half-link-requires
-after-half-link-requires c κs = search needs
-
-same-length : tie.Need-same-length
-same-length c = search needs
-
-same-length-2 : tie.Need-same-length-2
-same-length-2 c = search needs
 
 returns-3 : tie.Need-returns-3
 returns-3 c =
@@ -67,9 +46,6 @@ returns-3 c =
       kept,
     )
 
-after-vid-requires : tie.Need-after-vid-requires
-after-vid-requires c κs = search needs
-
 returns-4 : tie.Need-returns-4
 returns-4 c =
     let at-word-at = c .before .before .before .before in
@@ -82,9 +58,6 @@ returns-4 c =
           (at-words-read .words-read .ensures) (omega arith) word-at-is word-at-bound 3 _ vidLayout (c .before .if4 .taken) vid-kind stepped,
       still-keeps indexes still,
     )
-
-after-member-requires : tie.Need-after-member-requires
-after-member-requires c κs = search needs
 
 returns-5 : tie.Need-returns-5
 returns-5 c =
@@ -100,9 +73,6 @@ returns-5 c =
       still-keeps indexes still,
     )
 
-after-end-requires : tie.Need-after-end-requires
-after-end-requires c κs = search needs
-
 returns-6 : tie.Need-returns-6
 returns-6 c =
     let at-word-at = c .before .before .before .before .before .before in
@@ -115,9 +85,6 @@ returns-6 c =
           (at-words-read .words-read .ensures) (omega arith) word-at-is word-at-bound 15 _ endLayout (c .before .if6 .taken) end-kind stepped,
       still-keeps indexes still,
     )
-
-cast-t12 : tie.Need-cast-t12
-cast-t12 c = search needs
 
 returns-7 : tie.Need-returns-7
 returns-7 c =
@@ -137,5 +104,6 @@ returns-7 c =
 pub read-record-spec : {M : Type 1} → statement M
 read-record-spec =
     tie.close
-    (tie.spec words-read-requires cast-t11 returns word-at-requires after-bridge-requires returns-2 after-half-link-requires same-length
-    same-length-2 returns-3 after-vid-requires returns-4 after-member-requires returns-5 after-end-requires returns-6 cast-t12 returns-7)
+    (tie.spec (λ c κs. search needs) (λ c. search needs) returns (λ c κs. search needs) (λ c κs. search needs) returns-2
+    (λ c κs. search needs) (λ c. search needs) (λ c. search needs) returns-3 (λ c κs. search needs) returns-4 (λ c κs. search needs)
+    returns-5 (λ c κs. search needs) returns-6 (λ c. search needs) returns-7)
