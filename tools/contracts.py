@@ -68,7 +68,7 @@ def leaves(parts, place=()):
         yield place, parts
 
 
-def parts_of(parts, place):
+def name_of(parts, place):
     """The name of the part at a place, or nothing."""
     if parts is None:
         return None
@@ -86,7 +86,6 @@ class Contracts:
     """The contracts of all functions."""
 
     def __init__(self):
-        self.invariants = {}
         self.found = {}
         for path in sorted(CRATES.glob("*/src/**/*.rt")):
             for match in FUNCTION.finditer(path.read_text()):
@@ -113,14 +112,14 @@ class Contracts:
         trees = {str(c[1][kind]): c[1][kind] for c in candidates}
         return next(iter(trees.values())) if len(trees) == 1 else None
 
-    def parts(self, function, path):
+    def parts(self, function, path, invariants):
         """The parts of what is read at a path: `at-start .pre`, `at-loop .loop .inv`, `at-kept-tree .kept-tree .ensures`."""
         crate, caller = function
         words = path.split()
         if words[-1] == ".pre" and len(words) == 2:
             clauses = self.clauses(crate, caller, caller, "requires")
         elif words[-1] == ".inv" and len(words) == 3:
-            text = self.invariants.get(words[1][1:])
+            text = invariants.get(words[1][1:])
             clauses = [text] if text else None
         elif words[-1] == ".ensures" and len(words) == 3:
             name = words[1][1:].replace("-", "_")
