@@ -25,6 +25,12 @@ def simple(items):
     return None
 
 
+def applied(items):
+    """Of a function of one variable, the variable; else the function."""
+    words = re.findall(r"[^\s(){}]+", flat(items))
+    return kebab(words[1] if len(words) == 2 else words[0]) if len(words) > 1 and re.match(r"^[«a-z]", words[0]) else None
+
+
 def stated(text):
     """A name for what a part states."""
     items = parsed(text)
@@ -37,7 +43,7 @@ def stated(text):
         left, right = sides
         if "r" in re.findall(r"[^\s(){}]+", flat(left)):
             return "result-is" if mark == "≡" else "result-bound"
-        about = simple(left)
+        about = simple(left) or applied(left)
         if "length" in flat(left) and about:
             return about + "-length"
         if mark == "≡":
@@ -115,7 +121,7 @@ class Contracts:
     def parts(self, function, path, invariants):
         """The parts of what is read at a path: `at-start .pre`, `at-loop .loop .inv`, `at-kept-tree .kept-tree .ensures`."""
         crate, caller = function
-        words = path.split()
+        words = [word for word in path.split() if word != ".before"]
         if words[-1] == ".pre" and len(words) == 2:
             clauses = self.clauses(crate, caller, caller, "requires")
         elif words[-1] == ".inv" and len(words) == 3:

@@ -43,7 +43,9 @@ loop-again c = (
 )
 
 returns : tie.Need-returns Inv-loop μ-loop
-returns c = all-trees _ _ _ _ _ (c .before .loop .inv .2) (c .loop-test .left) (c .before .loop .inv .3)
+returns c =
+    let (_, _, root-bound, last-tree) = c .before .loop .inv in
+    all-trees _ _ _ _ _ root-bound (c .loop-test .left) last-tree
 
 pub make-trees-spec : {M : Type 1} → statement M
 make-trees-spec =

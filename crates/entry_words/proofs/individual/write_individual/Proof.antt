@@ -8,7 +8,9 @@ use Rattle.entry_words.proofs.individual.write_individual.Statement.{st
 use Rattle.entry_words.proofs.individual.write_individual.Tie as tie
 
 returns : tie.Need-returns
-returns c = no-individual _ _ _ _ _ ((c .before .wide .ensures .0)) ((c .if1 .taken)) _ _
+returns c =
+    let (wide-is, _) = c .before .wide .ensures in
+    no-individual _ _ _ _ _ wide-is ((c .if1 .taken)) _ _
 
 write-entry-requires : tie.Need-write-entry-requires
 write-entry-requires c κs =

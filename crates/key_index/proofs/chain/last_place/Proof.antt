@@ -8,7 +8,8 @@ use Rattle.key_index.proofs.chain.last_place.Tie as tie
 last-in-chain-requires : tie.Need-last-in-chain-requires
 last-in-chain-requires c κs =
     let at-start = c .before .before .before in
-    (at-start .pre, begins (at-start .pre) (at-start .args .key) (c .before .chain-of .result) (c .before .chain-of .ensures .0) .0)
+    let (chain-of-is, _) = c .before .chain-of .ensures in
+    (at-start .pre, begins (at-start .pre) (at-start .args .key) (c .before .chain-of .result) chain-of-is .0)
 
 returns : tie.Need-returns
 returns c =

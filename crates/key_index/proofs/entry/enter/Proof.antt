@@ -15,8 +15,9 @@ slice-write-index-3 c = simp length-set (omega arith)
 returns : tie.Need-returns
 returns c =
     let at-start = c .before .before .before in
+    let (chain-of-is, _) = c .before .chain-of .ensures in
     let (indexed, count-bound) = at-start .pre in
-    entered-in indexed count-bound (at-start .args .key) (c .before .chain-of .result) (c .before .chain-of .ensures .0)
+    entered-in indexed count-bound (at-start .args .key) (c .before .chain-of .result) chain-of-is
 
 pub enter-spec : {M : Type 1} → statement M
 enter-spec =

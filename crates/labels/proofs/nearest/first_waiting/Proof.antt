@@ -13,7 +13,9 @@ abbrev μ-loop : tie.MeasureT-loop
 μ-loop labels n least u₀ u = n - u
 
 loop-holds : tie.Need-loop-holds Inv-loop μ-loop
-loop-holds c = finding-starts (c .before .pre .1) (c .before .pre .2)
+loop-holds c =
+    let (_, least-of, least-bound) = c .before .pre in
+    finding-starts least-of least-bound
 
 loop-again : tie.Need-loop-again Inv-loop μ-loop
 loop-again c =

@@ -10,17 +10,19 @@ use Rattle.links.proofs.usable.link_metric.Tie as tie
 returns : tie.Need-returns
 returns c =
     let at-start = c .before .before .before .before in
-    metric-alone (at-start .pre .0) (at-start .pre .3) (at-start .args .i) (at-start .pre .1) (halfLinkValues (at-start .args .h))
-    (at-start .pre .2) (c .before .other-place .result) (c .before .other-place .ensures) (c .if1 .taken)
+    let (checked, i-bound, h-is, link-index) = at-start .pre in
+    metric-alone checked link-index (at-start .args .i) i-bound (halfLinkValues (at-start .args .h)) h-is (c .before .other-place .result)
+    (c .before .other-place .ensures) (c .if1 .taken)
 
 half-link-requires : tie.Need-half-link-requires
 half-link-requires c κs =
-    let at-start = c .before .before .before .before in (
-      at-start .pre .0 .whole,
+    let at-start = c .before .before .before .before in
+    let (checked, i-bound, h-is, link-index) = at-start .pre in (
+      checked .whole,
       omega (
         arith,
-        mate-within (at-start .pre .0) (at-start .pre .3) (at-start .args .i) (at-start .pre .1) (halfLinkValues (at-start .args .h))
-            (at-start .pre .2) (c .before .other-place .result) (c .before .other-place .ensures),
+        mate-within checked link-index (at-start .args .i) i-bound (halfLinkValues (at-start .args .h)) h-is
+            (c .before .other-place .result) (c .before .other-place .ensures),
       ),
     )
 
@@ -29,9 +31,10 @@ returns-2 c =
     let at-if1 = c .before .before in
     let at-other-place = at-if1 .before in
     let at-start = at-other-place .before .before .before in
+    let (checked, i-bound, h-is, link-index) = at-start .pre in
     c .combined .ensures
-    ∙ metric-linked (at-start .pre .0) (at-start .pre .3) (at-start .args .i) (at-start .pre .1) (halfLinkValues (at-start .args .h))
-    (at-start .pre .2) (at-other-place .other-place .result) (at-other-place .other-place .ensures) (at-if1 .if1 .left)
+    ∙ metric-linked checked link-index (at-start .args .i) i-bound (halfLinkValues (at-start .args .h)) h-is
+    (at-other-place .other-place .result) (at-other-place .other-place .ensures) (at-if1 .if1 .left)
     (halfLinkValues (c .before .half-link .result)) (c .before .half-link .ensures)
 
 pub link-metric-spec : {M : Type 1} → statement M

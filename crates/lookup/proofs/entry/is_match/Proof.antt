@@ -5,7 +5,9 @@ use Rattle.lookup.proofs.entry.is_match.Statement.{statement}
 use Rattle.lookup.proofs.entry.is_match.Tie as tie
 
 returns : tie.Need-returns
-returns c = simp (← (c .before .vid-of .ensures .0), ne-eqb _ _ (c .if1 .taken))
+returns c =
+    let (vid-of-is, _) = c .before .vid-of .ensures in
+    simp (← vid-of-is, ne-eqb _ _ (c .if1 .taken))
 
 returns-2 : tie.Need-returns-2
 returns-2 c =

@@ -8,15 +8,17 @@ settle-requires : tie.Need-settle-requires
 settle-requires c κs =
     let at-first-waiting = c .before .before in
     let at-start = at-first-waiting .before .before .before .before .before .before .before .before in
-    search-settleable _ _ _ _ _ _ (at-start .pre .0) (at-start .pre .1) (at-start .pre .2) (at-first-waiting .first-waiting .ensures)
+    let (underway, least-of, least-bound) = at-start .pre in
+    search-settleable _ _ _ _ _ _ underway least-of least-bound (at-first-waiting .first-waiting .ensures)
 
 relax-all-requires : tie.Need-relax-all-requires
 relax-all-requires c κs =
     let at-settle = c .before .before .before .before .before .before in
     let at-first-waiting = at-settle .before .before .before in
     let at-start = at-first-waiting .before .before .before .before .before .before .before .before in
-    search-relaxable-on _ _ _ _ _ _ (at-start .pre .0) (at-start .pre .1) (at-start .pre .2) (at-first-waiting .first-waiting .ensures)
-    (at-settle .settle .ensures .0) (at-settle .settle .ensures .1)
+    let (underway, least-of, least-bound) = at-start .pre in
+    let (labels-is, path-ids-is) = at-settle .settle .ensures in
+    search-relaxable-on _ _ _ _ _ _ underway least-of least-bound (at-first-waiting .first-waiting .ensures) labels-is path-ids-is
 
 returns : tie.Need-returns
 returns c =
@@ -24,8 +26,10 @@ returns c =
     let at-settle = at-relax-all .before .before .before .before .before .before .before in
     let at-first-waiting = at-settle .before .before .before in
     let at-start = at-first-waiting .before .before .before .before .before .before .before .before in
-    search-goes-on _ _ _ _ _ _ (at-start .pre .0) (at-start .pre .1) (at-start .pre .2) (at-first-waiting .first-waiting .ensures)
-    (at-settle .settle .ensures .0) (at-settle .settle .ensures .1) (at-relax-all .relax-all .ensures)
+    let (underway, least-of, least-bound) = at-start .pre in
+    let (labels-is, path-ids-is) = at-settle .settle .ensures in
+    search-goes-on _ _ _ _ _ _ underway least-of least-bound (at-first-waiting .first-waiting .ensures) labels-is path-ids-is
+    (at-relax-all .relax-all .ensures)
 
 pub advance-spec : {M : Type 1} → statement M
 advance-spec =

@@ -22,16 +22,17 @@ relax-all-requires : tie.Need-relax-all-requires Inv-loop μ-loop
 relax-all-requires c κs =
     let at-begin = c .before .before .before .before .before .before in
     let at-start = at-begin .before .before .before .before .before .before .before .before .before in
-    search-relaxable _ _ _ _ _ _ (at-start .pre .0) _ _ _ _ (at-start .pre .1) (at-start .pre .2) (at-start .pre .3)
-    (at-begin .begin .ensures)
+    let (represented, root-bound, labels-room, path-ids-room) = at-start .pre in
+    search-relaxable _ _ _ _ _ _ represented _ _ _ _ root-bound labels-room path-ids-room (at-begin .begin .ensures)
 
 loop-holds : tie.Need-loop-holds Inv-loop μ-loop
 loop-holds c =
     let at-relax-all = c .before .before .before .before in
     let at-begin = at-relax-all .before .before .before .before .before .before .before in
-    let at-start = at-begin .before .before .before .before .before .before .before .before .before in (
-      search-starts _ _ _ _ _ _ (at-start .pre .0) _ _ _ _ (at-start .pre .1) (at-start .pre .2) (at-start .pre .3)
-          (at-begin .begin .ensures) _ (at-relax-all .relax-all .ensures),
+    let at-start = at-begin .before .before .before .before .before .before .before .before .before in
+    let (represented, root-bound, labels-room, path-ids-room) = at-start .pre in (
+      search-starts _ _ _ _ _ _ represented _ _ _ _ root-bound labels-room path-ids-room (at-begin .begin .ensures) _
+          (at-relax-all .relax-all .ensures),
       c .least-waiting .ensures,
       refl,
       refl,
@@ -48,7 +49,8 @@ advance-requires c κs =
 loop-less : tie.Need-loop-less Inv-loop μ-loop
 loop-less c =
     let at-advance = c .before .before .before .before .before .before in
-    at-advance .advance .ensures .1
+    let (_, open-bridges-bound) = at-advance .advance .ensures in
+    open-bridges-bound
 
 loop-again : tie.Need-loop-again Inv-loop μ-loop
 loop-again c =
@@ -71,10 +73,9 @@ same-length-2 c =
 
 returns : tie.Need-returns Inv-loop μ-loop
 returns c =
-    let at-is-below = c .before in
-    let at-loop = at-is-below .before in
-    search-ends _ _ _ _ _ _ (at-loop .loop .inv .0) (at-loop .loop .inv .1)
-    (le-trans (omega arith) (not-below (at-is-below .is-below .ensures) (c .if1 .left)))
+    let at-loop = c .before .before in
+    let (underway, least-of, _, _) = at-loop .loop .inv in
+    search-ends _ _ _ _ _ _ underway least-of (le-trans (omega arith) (not-below (c .before .is-below .ensures) (c .if1 .left)))
 
 pub tree-spec : {M : Type 1} → statement M
 tree-spec =
