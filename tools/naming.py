@@ -81,6 +81,11 @@ class Answer:
     def bind(self, name, value):
         self.lets.append(f"let {name} = {value} in")
 
+    def bound_within(self):
+        """The names that the answer itself binds: what speaks of them cannot stand before it."""
+        heads = re.findall(r"(?<![\w-])let (.*?) [:=] |λ (.*?)\. ", self.body)
+        return {word for head in heads for word in re.findall(r"[^\s(),]+", " ".join(head))}
+
     def name_moments(self):
         read = {}
         for match in CHAIN.finditer(self.body):
@@ -133,15 +138,17 @@ class Answer:
             for end in range(1, len(words) + 1):
                 path = " ".join([match.group(1), *words[:end]])
                 counts[path] = counts.get(path, 0) + 1
-        often = [path for path, count in counts.items() if count >= OFTEN and len(path) >= SHORT and value_name(path)]
-        return max(often, key=len, default=None)
+        within = self.bound_within()
+        often = [path for path, count in counts.items() if count >= OFTEN and len(path) >= SHORT and path.split()[0] not in within]
+        return max((path for path in often if value_name(path)), key=len, default=None)
 
     def name_terms(self):
         while True:
             counts = {}
             for match in TERM.finditer(self.body):
                 counts[match.group(0)] = counts.get(match.group(0), 0) + 1
-            often = [term for term, count in counts.items() if count >= OFTEN]
+            within = self.bound_within()
+            often = [term for term, count in counts.items() if count >= OFTEN and not within & set(re.findall(r"[^\s()]+", term))]
             if not often:
                 return
             term = min(often, key=len)

@@ -56,10 +56,14 @@ def parsed(text):
 
 
 def bare(items):
-    """Takes the brackets off the last item where it is one word. A tactic takes what follows for its list, so it keeps them."""
+    """Takes the brackets off the last item where it is one word or one group. A tactic takes what follows for its list, so it keeps them."""
     group = items[-1]
-    word = group.items[0] if len(group.items) == 1 else None
-    if group.opening == "(" and isinstance(word, str) and re.match(r"^[\w«]", word) and word not in TACTICS:
+    inner = group.items[0] if len(group.items) == 1 else None
+    if group.opening != "(" or inner is None:
+        return
+    if isinstance(inner, Group) and inner.opening == "(" and not inner.tail:
+        items[-1] = inner
+    elif isinstance(inner, str) and re.match(r"^[\w«]", inner) and inner not in TACTICS:
         items[-1:] = group.items
 
 
@@ -115,11 +119,11 @@ def arguments(items):
 
 def laid_out(items, indent, room=0):
     """The lines of a term at an indentation; `room` is what stands before its first and after its last line."""
+    if items and items[0] == "let":
+        return _let(items, indent)
     line = flat(items)
     if indent + room + len(line) <= WIDTH:
         return [" " * indent + line]
-    if items and items[0] == "let":
-        return _let(items, indent)
     if items and items[0] == "λ":
         return _function(items, indent)
     parts = split_at(items, "∙")

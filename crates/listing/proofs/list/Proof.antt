@@ -12,7 +12,8 @@ begin-listing-requires c κs = (omega arith, omega arith, λ i l. getD-replicate
 print-parts-requires : tie.Need-print-parts-requires
 print-parts-requires c κs =
     let at-begin-listing = c .before .before .before .before .before .before in
-    let (_, underway) = at-begin-listing .begin-listing .ensures in (underway, (omega arith, omega arith, omega arith))
+    let (_, underway) = at-begin-listing .begin-listing .ensures in
+    (underway, (omega arith, omega arith, omega arith))
 
 pub list-spec : {M : Type 1} → statement M
 list-spec =

@@ -19,7 +19,8 @@ abbrev μ-loop : tie.MeasureT-loop
 loop-holds : tie.Need-loop-holds Inv-loop μ-loop
 loop-holds c =
     let at-start = c .before .before .before .before .before .before in
-    let (underway, _) = at-start .pre in (underway, refl, refl, refl, refl)
+    let (underway, _) = at-start .pre in
+    (underway, refl, refl, refl, refl)
 
 next-part-requires : tie.Need-next-part-requires Inv-loop μ-loop
 next-part-requires c κs =

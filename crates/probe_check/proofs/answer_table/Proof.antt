@@ -8,7 +8,8 @@ use Rattle.probe_check.proofs.answer_table.Tie as tie
 slice-aggregate-write-all : tie.Need-slice-aggregate-write-all
 slice-aggregate-write-all c =
     let at-write-answer = c .before .before in
-    let (_, write-answer-bound) = at-write-answer .write-answer .ensures in simp length-take (omega (arith, write-answer-bound))
+    let (_, write-answer-bound) = at-write-answer .write-answer .ensures in
+    simp length-take (omega (arith, write-answer-bound))
 
 pub answer-table-spec : {M : Type 1} → statement M
 answer-table-spec =

@@ -27,7 +27,8 @@ trees-of-table-requires c κs =
     let at-examined = c .before .before .before .before in
     let at-examine = at-examined .before .before .before in
     let (_, the-passed) = at-examine .examine .ensures in
-    let passed = the-passed _ (at-examined .examined .given .1) in (passed .0, omega (arith, c .before .if1 .left), passed .1)
+    let passed = the-passed _ (at-examined .examined .given .1) in
+    (passed .0, omega (arith, c .before .if1 .left), passed .1)
 
 returns-2 : tie.Need-returns-2
 returns-2 c =

@@ -38,8 +38,10 @@ loop-again : tie.Need-loop-again Inv-loop μ-loop
 loop-again c = (
   search needs,
   search needs,
-  let at-loop-test = c .before .before .before .before .before .before .before in omega (arith, at-loop-test .loop-test .taken),
-  let at-tree-in-network = c .before .before .before .before in next-tree _ _ _ _ (at-tree-in-network .tree-in-network .ensures),
+  let at-loop-test = c .before .before .before .before .before .before .before in
+      omega (arith, at-loop-test .loop-test .taken),
+  let at-tree-in-network = c .before .before .before .before in
+      next-tree _ _ _ _ (at-tree-in-network .tree-in-network .ensures),
 )
 
 returns : tie.Need-returns Inv-loop μ-loop

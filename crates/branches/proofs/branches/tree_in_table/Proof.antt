@@ -22,7 +22,8 @@ returns c =
 labelled-branches-requires : tie.Need-labelled-branches-requires
 labelled-branches-requires c κs =
     let at-start = c .before .before .before .before .before .before .before .before .before .before .before .before .before in
-    let (checked, _) = at-start .pre in (omega arith, few-bridges checked)
+    let (checked, _) = at-start .pre in
+    (omega arith, few-bridges checked)
 
 returns-2 : tie.Need-returns-2
 returns-2 c =

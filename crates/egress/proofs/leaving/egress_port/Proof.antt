@@ -16,7 +16,8 @@ abbrev μ-loop : tie.MeasureT-loop
 cost-at-requires : tie.Need-cost-at-requires Inv-loop μ-loop
 cost-at-requires c κs =
     let at-start = c .before .before in
-    let (walkable-from, labels-room, _) = at-start .pre in omega (arith, walkable-from .inside, walkable-from .walkable .most, labels-room)
+    let (walkable-from, labels-room, _) = at-start .pre in
+    omega (arith, walkable-from .inside, walkable-from .walkable .most, labels-room)
 
 returns : tie.Need-returns Inv-loop μ-loop
 returns c =
@@ -33,13 +34,15 @@ loop-holds c =
 hops-at-requires : tie.Need-hops-at-requires Inv-loop μ-loop
 hops-at-requires c κs =
     let at-start = c .before .before .before .before .before .before in
-    let (_, labels-room, _) = at-start .pre in omega (arith, walking-inside (c .loop .inv), labels-room)
+    let (_, labels-room, _) = at-start .pre in
+    omega (arith, walking-inside (c .loop .inv), labels-room)
 
 next-number-requires : tie.Need-next-number-requires Inv-loop μ-loop
 next-number-requires c κs =
     let at-loop = c .before .before .before in
     let at-start = at-loop .before .before .before .before .before .before in
-    let (_, labels-room, _) = at-start .pre in omega (arith, walking-inside (at-loop .loop .inv), labels-room)
+    let (_, labels-room, _) = at-start .pre in
+    omega (arith, walking-inside (at-loop .loop .inv), labels-room)
 
 mul-result : tie.Need-mul-result Inv-loop μ-loop
 mul-result c =
@@ -50,7 +53,8 @@ shared-slice-read-result : tie.Need-shared-slice-read-result Inv-loop μ-loop
 shared-slice-read-result c =
     let at-loop = c .before .before .before .before .before .before in
     let at-start = at-loop .before .before .before .before .before .before in
-    let (_, _, hops-room) = at-start .pre in omega (arith, walking-inside (at-loop .loop .inv), hops-room)
+    let (_, _, hops-room) = at-start .pre in
+    omega (arith, walking-inside (at-loop .loop .inv), hops-room)
 
 returns-2 : tie.Need-returns-2 Inv-loop μ-loop
 returns-2 c =

@@ -14,7 +14,8 @@ abbrev μ-loop : tie.MeasureT-loop
 loop-holds : tie.Need-loop-holds Inv-loop μ-loop
 loop-holds c =
     let at-start = c .before .before .before in
-    let (_, _, _, egress-rows-room) = at-start .pre in rowing-starts _ _ _ _ _ _ egress-rows-room
+    let (_, _, _, egress-rows-room) = at-start .pre in
+    rowing-starts _ _ _ _ _ _ egress-rows-room
 
 egress-port-requires : tie.Need-egress-port-requires Inv-loop μ-loop
 egress-port-requires c κs =
@@ -25,18 +26,18 @@ egress-port-requires c κs =
 slice-write-egress-rows : tie.Need-slice-write-egress-rows Inv-loop μ-loop
 slice-write-egress-rows c =
     let at-loop = c .before .before in
-    rowing-room ((at-loop .loop .inv)) ((c .before .loop-test .taken))
+    rowing-room (at-loop .loop .inv) (c .before .loop-test .taken)
 
 loop-again : tie.Need-loop-again Inv-loop μ-loop
 loop-again c =
     let at-loop = c .before .before in
-    rowing-goes-on ((at-loop .loop .inv)) ((c .before .loop-test .taken)) ((c .egress-port .ensures))
+    rowing-goes-on (at-loop .loop .inv) (c .before .loop-test .taken) (c .egress-port .ensures)
 
 same-length : tie.Need-same-length Inv-loop μ-loop
-same-length c = rowing-length ((c .before .loop .inv))
+same-length c = rowing-length (c .before .loop .inv)
 
 returns : tie.Need-returns Inv-loop μ-loop
-returns c = rowing-ends ((c .before .loop .inv)) ((c .loop-test .left))
+returns c = rowing-ends (c .before .loop .inv) (c .loop-test .left)
 
 pub write-egress-row-spec : {M : Type 1} → statement M
 write-egress-row-spec =

@@ -38,7 +38,8 @@ bridges-requires : tie.Need-bridges-requires
 bridges-requires c κs =
     let at-start =
     c .before .before .before .before .before .before .before .before .before .before .before .before .before .before .before .before in
-    let ((is-network, _, _, _), _) = at-start .pre in is-network .network .size
+    let ((is-network, _, _, _), _) = at-start .pre in
+    is-network .network .size
 
 write-egress-row-requires : tie.Need-write-egress-row-requires
 write-egress-row-requires c κs =
@@ -58,7 +59,8 @@ add-result : tie.Need-add-result
 add-result c =
     let at-start =
     c .before .before .before .before .before .before .before .before .before .before .before .before .before .before .before .before .before .before .before .before .before in
-    let (_, (_, _, _, count-bound, _)) = at-start .pre in omega (arith, count-bound)
+    let (_, (_, _, _, count-bound, _)) = at-start .pre in
+    omega (arith, count-bound)
 
 same-length-3 : tie.Need-same-length-3
 same-length-3 c =

@@ -13,23 +13,23 @@ abbrev μ-loop : tie.MeasureT-loop
 μ-loop words list₀ i₀ list i = length words - i
 
 loop-holds : tie.Need-loop-holds Inv-loop μ-loop
-loop-holds c = copying-starts _ _ ((c .pre))
+loop-holds c = copying-starts _ _ (c .pre)
 
 slice-write-list : tie.Need-slice-write-list Inv-loop μ-loop
 slice-write-list c =
     let at-loop = c .before .before in
-    copying-room ((at-loop .loop .inv)) ((c .before .loop-test .taken))
+    copying-room (at-loop .loop .inv) (c .before .loop-test .taken)
 
 loop-again : tie.Need-loop-again Inv-loop μ-loop
 loop-again c =
     let at-loop = c .before .before in
-    copying-goes-on ((at-loop .loop .inv)) ((c .before .loop-test .taken))
+    copying-goes-on (at-loop .loop .inv) (c .before .loop-test .taken)
 
 same-length : tie.Need-same-length Inv-loop μ-loop
-same-length c = copying-length ((c .before .loop .inv))
+same-length c = copying-length (c .before .loop .inv)
 
 returns : tie.Need-returns Inv-loop μ-loop
-returns c = copying-ends ((c .before .loop .inv)) ((c .loop-test .left))
+returns c = copying-ends (c .before .loop .inv) (c .loop-test .left)
 
 pub copy-spec : {M : Type 1} → statement M
 copy-spec =

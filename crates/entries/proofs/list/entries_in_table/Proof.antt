@@ -12,14 +12,15 @@ use Rattle.entries.proofs.list.entries_in_table.Tie as tie
 returns : tie.Need-returns
 returns c =
     let at-start = c .before .before .before .before .before in
-    let (checked, _) = at-start .pre in lacks-bridge checked ((at-start .args .bridge)) ((c .if1 .taken)) ((at-start .args .list .now))
+    let (checked, _) = at-start .pre in
+    lacks-bridge checked (at-start .args .bridge) (c .if1 .taken) (at-start .args .list .now)
 
 array-share-prefix-words : tie.Need-array-share-prefix-words
 array-share-prefix-words c =
     let at-if1 = c .before .before .before in
     let at-start = at-if1 .before .before .before .before .before in
     let (checked, _) = at-start .pre in
-    omega (arith, few-made checked ((at-start .args .bridge)) ((at-if1 .if1 .left)) ((c .before .list-of-table .ensures)))
+    omega (arith, few-made checked (at-start .args .bridge) (at-if1 .if1 .left) (c .before .list-of-table .ensures))
 
 slice-aggregate-fitted : tie.Need-slice-aggregate-fitted
 slice-aggregate-fitted c =
@@ -28,7 +29,7 @@ slice-aggregate-fitted c =
     let at-start = at-if1 .before .before .before .before .before in
     let (checked, _) = at-start .pre in
     simp length-take
-    (omega (arith, few-made checked ((at-start .args .bridge)) ((at-if1 .if1 .left)) ((at-list-of-table .list-of-table .ensures))))
+    (omega (arith, few-made checked (at-start .args .bridge) (at-if1 .if1 .left) (at-list-of-table .list-of-table .ensures)))
 
 fitted-requires : tie.Need-fitted-requires
 fitted-requires c κs =
@@ -37,7 +38,7 @@ fitted-requires c κs =
     let at-start = at-if1 .before .before .before .before .before in
     let (checked, _) = at-start .pre in
     simp length-take
-    (omega (arith, few-made checked ((at-start .args .bridge)) ((at-if1 .if1 .left)) ((at-list-of-table .list-of-table .ensures))))
+    (omega (arith, few-made checked (at-start .args .bridge) (at-if1 .if1 .left) (at-list-of-table .list-of-table .ensures)))
 
 returns-2 : tie.Need-returns-2
 returns-2 c =
@@ -47,8 +48,8 @@ returns-2 c =
     let at-start = at-if1 .before .before .before .before .before in
     let (checked, _) = at-start .pre in
     (at-fitted .fitted .ensures)
-    ∙ ap (λ (o : Outcome (Written ℕ)). lentTo ((at-start .args .list .now)) o)
-    (answer-made checked ((at-start .args .bridge)) ((at-if1 .if1 .left)) ((at-list-of-table .list-of-table .ensures)))
+    ∙ ap (λ (o : Outcome (Written ℕ)). lentTo (at-start .args .list .now) o)
+    (answer-made checked (at-start .args .bridge) (at-if1 .if1 .left) (at-list-of-table .list-of-table .ensures))
 
 pub entries-in-table-spec : {M : Type 1} → statement M
 entries-in-table-spec =

@@ -46,7 +46,8 @@ keep-egress-rows-requires c κs =
 slice-aggregate-whole-list-2 : tie.Need-slice-aggregate-whole-list-2
 slice-aggregate-whole-list-2 c =
     let at-rising-ports = c .before .before .before .before .before .before .before .before .before .before .before .before .before in
-    let (_, rising-ports-bound) = at-rising-ports .rising-ports .ensures in simp length-take (omega (arith, rising-ports-bound))
+    let (_, rising-ports-bound) = at-rising-ports .rising-ports .ensures in
+    simp length-take (omega (arith, rising-ports-bound))
 
 whole-list-requires : tie.Need-whole-list-requires
 whole-list-requires c κs =

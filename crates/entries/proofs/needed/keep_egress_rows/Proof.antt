@@ -39,13 +39,15 @@ member-requires : tie.Need-member-requires Inv-loop μ-loop
 member-requires c κs =
     let at-start =
     c .before .before .before .before .before .before .before .before .before .before .before .before .before .before .before .before .before .before .before in
-    let (hops-ready, _, _, _) = at-start .pre in (hops-ready .table-network .checked .whole, c .if1 .taken)
+    let (hops-ready, _, _, _) = at-start .pre in
+    (hops-ready .table-network .checked .whole, c .if1 .taken)
 
 transmitter-index-requires : tie.Need-transmitter-index-requires Inv-loop μ-loop
 transmitter-index-requires c κs =
     let at-start =
     c .before .before .before .before .before .before .before .before .before .before .before .before .before .before .before .before .before .before .before .before .before in
-    let (hops-ready, _, _, _) = at-start .pre in hops-ready .table-network .checked .whole
+    let (hops-ready, _, _, _) = at-start .pre in
+    hops-ready .table-network .checked .whole
 
 loop-again : tie.Need-loop-again Inv-loop μ-loop
 loop-again c =
@@ -70,7 +72,8 @@ cast-keep-egress-row : tie.Need-cast-keep-egress-row Inv-loop μ-loop
 cast-keep-egress-row c =
     let at-start =
     c .before .before .before .before .before .before .before .before .before .before .before .before .before .before .before .before .before .before .before .before .before .before .before in
-    let (hops-ready, _, _, _) = at-start .pre in omega (arith, hops-ready .known, few-bridges (hops-ready .table-network .checked))
+    let (hops-ready, _, _, _) = at-start .pre in
+    omega (arith, hops-ready .known, few-bridges (hops-ready .table-network .checked))
 
 keep-egress-row-requires : tie.Need-keep-egress-row-requires Inv-loop μ-loop
 keep-egress-row-requires c κs =
@@ -135,7 +138,8 @@ loop-again-2 c = (
   search needs,
   search needs,
   let at-keep-egress-row = c .before .before .before .before .before .before in
-      let (_, (_, trees-kept)) = at-keep-egress-row .keep-egress-row .ensures in trees-kept,
+      let (_, (_, trees-kept)) = at-keep-egress-row .keep-egress-row .ensures in
+      trees-kept,
 )
 
 same-length-3 : tie.Need-same-length-3 Inv-loop μ-loop
@@ -152,7 +156,8 @@ returns c =
     let at-start =
     at-loop .before .before .before .before .before .before .before .before .before .before .before .before .before .before .before .before .before in
     let (hops-ready, _, _, _) = at-start .pre in
-    let (keeping-members, _, _, trees-kept) = at-loop .loop .inv in (members-end hops-ready keeping-members (c .if1 .left), trees-kept)
+    let (keeping-members, _, _, trees-kept) = at-loop .loop .inv in
+    (members-end hops-ready keeping-members (c .if1 .left), trees-kept)
 
 pub keep-egress-rows-spec : {M : Type 1} → statement M
 keep-egress-rows-spec =

@@ -23,17 +23,20 @@ abbrev μ-loop : tie.MeasureT-loop
 loop-holds : tie.Need-loop-holds Inv-loop μ-loop
 loop-holds c =
     let at-start = c .before .before .before .before .before .before in
-    let (hops-ready, _, trees-kept, egress-rows-kept) = at-start .pre in (own-starts hops-ready egress-rows-kept, refl, refl, trees-kept)
+    let (hops-ready, _, trees-kept, egress-rows-kept) = at-start .pre in
+    (own-starts hops-ready egress-rows-kept, refl, refl, trees-kept)
 
 vid-requires : tie.Need-vid-requires Inv-loop μ-loop
 vid-requires c κs =
     let at-start = c .before .before .before .before .before .before .before .before .before in
-    let (hops-ready, _, _, _) = at-start .pre in (hops-ready .table-network .checked .whole, c .if1 .taken)
+    let (hops-ready, _, _, _) = at-start .pre in
+    (hops-ready .table-network .checked .whole, c .if1 .taken)
 
 cast-keep-egress-row : tie.Need-cast-keep-egress-row Inv-loop μ-loop
 cast-keep-egress-row c =
     let at-start = c .before .before .before .before .before .before .before .before .before .before in
-    let (hops-ready, _, _, _) = at-start .pre in omega (arith, hops-ready .known, few-bridges (hops-ready .table-network .checked))
+    let (hops-ready, _, _, _) = at-start .pre in
+    omega (arith, hops-ready .known, few-bridges (hops-ready .table-network .checked))
 
 keep-egress-row-requires : tie.Need-keep-egress-row-requires Inv-loop μ-loop
 keep-egress-row-requires c κs =
@@ -78,13 +81,15 @@ loop-again c = (
   search needs,
   search needs,
   let at-keep-egress-row = c .before .before .before .before .before .before in
-      let (_, (_, trees-kept)) = at-keep-egress-row .keep-egress-row .ensures in trees-kept,
+      let (_, (_, trees-kept)) = at-keep-egress-row .keep-egress-row .ensures in
+      trees-kept,
 )
 
 same-length-3 : tie.Need-same-length-3 Inv-loop μ-loop
 same-length-3 c =
     let at-loop = c .before .before in
-    let (keeping-own, _, _, _) = at-loop .loop .inv in keeping-own .kept .same-length
+    let (keeping-own, _, _, _) = at-loop .loop .inv in
+    keeping-own .kept .same-length
 
 returns : tie.Need-returns Inv-loop μ-loop
 returns c =

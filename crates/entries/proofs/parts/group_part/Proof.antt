@@ -18,7 +18,8 @@ loop-holds : tie.Need-loop-holds Inv-loop μ-loop
 unfolding groupPart
 loop-holds c =
     let at-start = c .before .before .before .before in
-    let (_, room) = at-start .pre in appending-starts _ _ _ _ room
+    let (_, room) = at-start .pre in
+    appending-starts _ _ _ _ room
 
 member-words-requires : tie.Need-member-words-requires Inv-loop μ-loop
 member-words-requires c κs =
@@ -26,7 +27,7 @@ member-words-requires c κs =
     let at-start = at-loop .before .before .before .before .before in
     let ((checked, egress-rows-inside, index-least, index-bound, vid-bound), _) = at-start .pre in (
       (checked, egress-rows-inside, index-least, index-bound, vid-bound, (c .before .if1 .taken)),
-      appending-room ((at-loop .loop .inv)) ((c .before .if1 .taken)),
+      appending-room (at-loop .loop .inv) (c .before .if1 .taken),
     )
 
 loop-again : tie.Need-loop-again Inv-loop μ-loop
@@ -34,18 +35,18 @@ loop-again c =
     let at-member-words = c .before .before in
     let at-if1 = at-member-words .before .before in
     let at-loop = at-if1 .before .before in
-    appending-goes-on ((at-loop .loop .inv)) ((at-if1 .if1 .taken)) ((at-member-words .member-words .ensures))
+    appending-goes-on (at-loop .loop .inv) (at-if1 .if1 .taken) (at-member-words .member-words .ensures)
 
 same-length : tie.Need-same-length Inv-loop μ-loop
 same-length c =
     let at-loop = c .before .before in
-    appending-length ((at-loop .loop .inv))
+    appending-length (at-loop .loop .inv)
 
 returns : tie.Need-returns Inv-loop μ-loop
 unfolding groupPart
 returns c =
     let at-loop = c .before .before in
-    appending-ends ((at-loop .loop .inv)) ((c .if1 .left))
+    appending-ends (at-loop .loop .inv) (c .if1 .left)
 
 pub group-part-spec : {M : Type 1} → statement M
 group-part-spec =

@@ -16,8 +16,7 @@ group-address-requires : tie.Need-group-address-requires
 group-address-requires c κs =
     let at-start = c .before .before .before .before .before .before in
     let ((checked, _, _, _, _, bridge-bound, isid-bound), _) = at-start .pre in (
-      omega
-          (arith, ap (λ (x : Bridge). x .spSourceId) ((c .bridge .ensures)), source-fits checked ((at-start .args .m .bridge)) bridge-bound),
+      omega (arith, ap (λ (x : Bridge). x .spSourceId) (c .bridge .ensures), source-fits checked (at-start .args .m .bridge) bridge-bound),
       isid-bound,
     )
 
@@ -34,7 +33,7 @@ mul-ports-behind c =
     omega (
       arith,
       (c .egress-row-at .ensures),
-      (egress-rows-inside .inside) ((at-start .args .v .index)) ((at-start .args .m .bridge)) index-least index-bound bridge-bound,
+      (egress-rows-inside .inside) (at-start .args .v .index) (at-start .args .m .bridge) index-least index-bound bridge-bound,
     )
 
 sub-ports-behind : tie.Need-sub-ports-behind
@@ -44,7 +43,7 @@ sub-ports-behind c =
     omega (
       arith,
       (c .egress-row-at .ensures),
-      (egress-rows-inside .inside) ((at-start .args .v .index)) ((at-start .args .m .bridge)) index-least index-bound bridge-bound,
+      (egress-rows-inside .inside) (at-start .args .v .index) (at-start .args .m .bridge) index-least index-bound bridge-bound,
     )
 
 part-ports-behind-start : tie.Need-part-ports-behind-start
@@ -54,7 +53,7 @@ part-ports-behind-start c =
     omega (
       arith,
       (c .egress-row-at .ensures),
-      (egress-rows-inside .inside) ((at-start .args .v .index)) ((at-start .args .m .bridge)) index-least index-bound bridge-bound,
+      (egress-rows-inside .inside) (at-start .args .v .index) (at-start .args .m .bridge) index-least index-bound bridge-bound,
     )
 
 ports-behind-requires : tie.Need-ports-behind-requires
@@ -63,11 +62,11 @@ ports-behind-requires c κs =
     let at-start = at-egress-row-at .before .before .before .before .before .before .before .before .before in
     let ((checked, egress-rows-inside, index-least, index-bound, _, bridge-bound, _), _) = at-start .pre in (
       checked,
-      row-lent ((at-start .args .egress-rows .now)) ((at-egress-row-at .egress-row-at .result)) ((at-start .args .s .bridges))
+      row-lent (at-start .args .egress-rows .now) (at-egress-row-at .egress-row-at .result) (at-start .args .s .bridges)
           (omega (
             arith,
             (at-egress-row-at .egress-row-at .ensures),
-            (egress-rows-inside .inside) ((at-start .args .v .index)) ((at-start .args .m .bridge)) index-least index-bound bridge-bound,
+            (egress-rows-inside .inside) (at-start .args .v .index) (at-start .args .m .bridge) index-least index-bound bridge-bound,
           ))
           (few-bridges checked),
       omega arith,
@@ -76,14 +75,15 @@ ports-behind-requires c κs =
 array-share-prefix-behind : tie.Need-array-share-prefix-behind
 array-share-prefix-behind c =
     let at-start = c .before .before .before .before .before .before .before .before .before .before .before .before .before in
-    let ((checked, _, _, _, _, _, _), _) = at-start .pre in omega (arith, behind-few checked _ _ ((c .before .ports-behind .ensures)))
+    let ((checked, _, _, _, _, _, _), _) = at-start .pre in
+    omega (arith, behind-few checked _ _ (c .before .ports-behind .ensures))
 
 slice-aggregate-group-words : tie.Need-slice-aggregate-group-words
 slice-aggregate-group-words c =
     let at-ports-behind = c .before .before in
     let at-start = at-ports-behind .before .before .before .before .before .before .before .before .before .before .before .before in
     let ((checked, _, _, _, _, _, _), _) = at-start .pre in
-    simp length-take (omega (arith, behind-few checked _ _ ((at-ports-behind .ports-behind .ensures))))
+    simp length-take (omega (arith, behind-few checked _ _ (at-ports-behind .ports-behind .ensures)))
 
 group-words-requires : tie.Need-group-words-requires
 group-words-requires c κs =
@@ -93,12 +93,12 @@ group-words-requires c κs =
     let at-bridge = at-group-address .before in
     let at-start = at-bridge .before .before .before .before .before .before in
     let ((_, _, _, _, vid-bound, _, _), room) = at-start .pre in (
-      transmitter-room (wordsOf ((at-start .args .table .now))) ((at-start .args .s)) ((at-start .args .egress-rows .now))
-          ((at-start .args .ports .now)) (vidValues ((at-start .args .v))) (memberValues ((at-start .args .m)))
-          ((at-egress-row-at .egress-row-at .result)) ((at-egress-row-at .egress-row-at .ensures)) _ _
-          ((at-ports-behind .ports-behind .result)) ((at-ports-behind .ports-behind .ensures)) ((at-bridge .bridge .result .«sp_source_id»))
-          (ap (λ (x : Bridge). x .spSourceId) ((at-bridge .bridge .ensures))) ((at-group-address .group-address .result))
-          ((at-group-address .group-address .ensures)) ((at-start .args .words .now)) ((at-start .args .at)) room,
+      transmitter-room (wordsOf (at-start .args .table .now)) (at-start .args .s) (at-start .args .egress-rows .now)
+          (at-start .args .ports .now) (vidValues (at-start .args .v)) (memberValues (at-start .args .m))
+          (at-egress-row-at .egress-row-at .result) (at-egress-row-at .egress-row-at .ensures) _ _ (at-ports-behind .ports-behind .result)
+          (at-ports-behind .ports-behind .ensures) (at-bridge .bridge .result .«sp_source_id»)
+          (ap (λ (x : Bridge). x .spSourceId) (at-bridge .bridge .ensures)) (at-group-address .group-address .result)
+          (at-group-address .group-address .ensures) (at-start .args .words .now) (at-start .args .at) room,
       vid-bound,
     )
 
@@ -110,12 +110,12 @@ returns c =
     let at-group-address = at-egress-row-at .before .before in
     let at-bridge = at-group-address .before in
     let at-start = at-bridge .before .before .before .before .before .before in
-    transmitter-written (wordsOf ((at-start .args .table .now))) ((at-start .args .s)) ((at-start .args .egress-rows .now))
-    ((at-start .args .ports .now)) (vidValues ((at-start .args .v))) (memberValues ((at-start .args .m)))
-    ((at-egress-row-at .egress-row-at .result)) ((at-egress-row-at .egress-row-at .ensures)) _ _ ((at-ports-behind .ports-behind .result))
-    ((at-ports-behind .ports-behind .ensures)) ((at-bridge .bridge .result .«sp_source_id»))
-    (ap (λ (x : Bridge). x .spSourceId) ((at-bridge .bridge .ensures))) ((at-group-address .group-address .result))
-    ((at-group-address .group-address .ensures)) ((at-group-words .group-words .ensures))
+    transmitter-written (wordsOf (at-start .args .table .now)) (at-start .args .s) (at-start .args .egress-rows .now)
+    (at-start .args .ports .now) (vidValues (at-start .args .v)) (memberValues (at-start .args .m))
+    (at-egress-row-at .egress-row-at .result) (at-egress-row-at .egress-row-at .ensures) _ _ (at-ports-behind .ports-behind .result)
+    (at-ports-behind .ports-behind .ensures) (at-bridge .bridge .result .«sp_source_id»)
+    (ap (λ (x : Bridge). x .spSourceId) (at-bridge .bridge .ensures)) (at-group-address .group-address .result)
+    (at-group-address .group-address .ensures) (at-group-words .group-words .ensures)
 
 pub transmitter-words-spec : {M : Type 1} → statement M
 transmitter-words-spec =

@@ -8,15 +8,18 @@ use Rattle.entry_codec.proofs.writer.write_entry.Tie as tie
 
 slice-write-words-2 : tie.Need-slice-write-words-2
 slice-write-words-2 c =
-    let (words-room, _, _, _) = c .pre in simp length-set (omega (arith, words-room))
+    let (words-room, _, _, _) = c .pre in
+    simp length-set (omega (arith, words-room))
 
 slice-write-words-3 : tie.Need-slice-write-words-3
 slice-write-words-3 c =
-    let (words-room, _, _, _) = c .pre in simp length-set (omega (arith, words-room))
+    let (words-room, _, _, _) = c .pre in
+    simp length-set (omega (arith, words-room))
 
 returns : tie.Need-returns
 returns c =
-    let (words-room, _, _, _) = c .pre in three-words _ _ _ _ _ words-room
+    let (words-room, _, _, _) = c .pre in
+    three-words _ _ _ _ _ words-room
 
 pub write-entry-spec : {M : Type 1} → statement M
 write-entry-spec =

@@ -25,7 +25,8 @@ abbrev μ-ports : tie.MeasureT-ports
 ports-holds : tie.Need-ports-holds Inv-loop μ-loop Inv-ports μ-ports
 ports-holds c =
     let at-start = c .before .before .before in
-    let (room, _) = at-start .pre in listing-starts _ _ _ _ _ _ room
+    let (room, _) = at-start .pre in
+    listing-starts _ _ _ _ _ _ room
 
 loop-holds : tie.Need-loop-holds Inv-loop μ-loop Inv-ports μ-ports
 loop-holds c = seeking-starts _ _ _ _
@@ -34,7 +35,7 @@ ports-again : tie.Need-ports-again Inv-loop μ-loop Inv-ports μ-ports
 ports-again c =
     let at-ports-test = c .before .before .before in
     let at-ports = at-ports-test .before in
-    none-listed ((c .before .loop .inv)) ((at-ports .ports .inv)) ((at-ports-test .ports-test .taken)) refl ((c .loop-test .left))
+    none-listed (c .before .loop .inv) (at-ports .ports .inv) (at-ports-test .ports-test .taken) refl (c .loop-test .left)
 
 write-entry-requires : tie.Need-write-entry-requires Inv-loop μ-loop Inv-ports μ-ports
 write-entry-requires c κs =
@@ -45,8 +46,8 @@ write-entry-requires c κs =
     let at-ports = at-ports-test .before in
     let at-start = at-ports .before .before .before .before in
     let (_, vid-bound) = at-start .pre in (
-      found-room ((at-loop .loop .inv)) ((at-ports .ports .inv)) ((at-ports-test .ports-test .taken)) refl
-          ((at-loop-test .loop-test .taken)) ((at-if1 .if1 .taken)),
+      found-room (at-loop .loop .inv) (at-ports .ports .inv) (at-ports-test .ports-test .taken) refl (at-loop-test .loop-test .taken)
+          (at-if1 .if1 .taken),
       omega arith,
       vid-bound,
       omega (arith, (c .wide .ensures)),
@@ -62,20 +63,20 @@ ports-again-2 c =
     let at-ports-test = at-loop .before .before in
     let at-ports = at-ports-test .before in
     let (wide-is, _) = at-wide .wide .ensures in
-    found-listed ((at-loop .loop .inv)) ((at-ports .ports .inv)) ((at-ports-test .ports-test .taken)) refl
-    ((at-loop-test .loop-test .taken)) ((at-if1 .if1 .taken)) wide-is ((at-write-entry .write-entry .ensures))
+    found-listed (at-loop .loop .inv) (at-ports .ports .inv) (at-ports-test .ports-test .taken) refl (at-loop-test .loop-test .taken)
+    (at-if1 .if1 .taken) wide-is (at-write-entry .write-entry .ensures)
 
 loop-again : tie.Need-loop-again Inv-loop μ-loop Inv-ports μ-ports
 loop-again c =
     let at-loop-test = c .before .before in
     let at-loop = at-loop-test .before in
-    seeking-goes-on ((at-loop .loop .inv)) ((at-loop-test .loop-test .taken)) ((c .if1 .left))
+    seeking-goes-on (at-loop .loop .inv) (at-loop-test .loop-test .taken) (c .if1 .left)
 
 same-length : tie.Need-same-length Inv-loop μ-loop Inv-ports μ-ports
-same-length c = appending-length ((c .before .ports .inv .so-far))
+same-length c = appending-length (c .before .ports .inv .so-far)
 
 returns : tie.Need-returns Inv-loop μ-loop Inv-ports μ-ports
-returns c = listing-ends ((c .before .ports .inv)) ((c .ports-test .left))
+returns c = listing-ends (c .before .ports .inv) (c .ports-test .left)
 
 pub group-words-spec : {M : Type 1} → statement M
 group-words-spec =

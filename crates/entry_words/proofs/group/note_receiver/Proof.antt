@@ -13,8 +13,8 @@ use Rattle.entry_words.proofs.group.note_receiver.Tie as tie
 returns : tie.Need-returns
 returns c =
     let at-member = c .before .before .before in
-    not-noted _ _ _ _ _ (memberValues ((at-member .member .result))) ((at-member .member .ensures))
-    (sym (not-true _ ((c .if1 .taken))) ∙ (c .before .is-receiver .ensures)) _ _
+    not-noted _ _ _ _ _ (memberValues (at-member .member .result)) (at-member .member .ensures)
+    (sym (not-true _ (c .if1 .taken)) ∙ (c .before .is-receiver .ensures)) _ _
 
 shared-slice-read-behind : tie.Need-shared-slice-read-behind
 shared-slice-read-behind c =
@@ -23,8 +23,8 @@ shared-slice-read-behind c =
     let ((checked, j-bound, egress-row-room), _) = at-start .pre in
     omega (
       arith,
-      ap (λ (x : Member). x .bridge) ((at-member .member .ensures)),
-      member-bridge checked ((at-start .args .j)) j-bound,
+      ap (λ (x : Member). x .bridge) (at-member .member .ensures),
+      member-bridge checked (at-start .args .j) j-bound,
       egress-row-room,
     )
 
@@ -34,10 +34,10 @@ slice-write-behind c =
     let at-member = at-is-receiver .before .before in
     let at-start = at-member .before .before .before .before in
     let (_, room) = at-start .pre in
-    noted-room (wordsOf ((at-start .args .table .now))) ((at-start .args .s)) ((at-start .args .egress-row .now))
-    (memberValues ((at-start .args .m))) ((at-start .args .j)) (memberValues ((at-member .member .result))) ((at-member .member .ensures))
-    (sym (not-false _ ((c .before .if1 .left))) ∙ (at-is-receiver .is-receiver .ensures)) ((at-start .args .behind .now))
-    ((at-start .args .at)) room
+    noted-room (wordsOf (at-start .args .table .now)) (at-start .args .s) (at-start .args .egress-row .now)
+    (memberValues (at-start .args .m)) (at-start .args .j) (memberValues (at-member .member .result)) (at-member .member .ensures)
+    (sym (not-false _ (c .before .if1 .left)) ∙ (at-is-receiver .is-receiver .ensures)) (at-start .args .behind .now) (at-start .args .at)
+    room
 
 returns-2 : tie.Need-returns-2
 returns-2 c =
@@ -45,12 +45,12 @@ returns-2 c =
     let at-member = at-is-receiver .before .before in
     let at-start = at-member .before .before .before .before in
     let (_, room) = at-start .pre in
-    noted _ _ _ _ _ (memberValues ((at-member .member .result))) ((at-member .member .ensures))
-    (sym (not-false _ ((c .before .if1 .left))) ∙ (at-is-receiver .is-receiver .ensures)) _ _
-    (noted-room (wordsOf ((at-start .args .table .now))) ((at-start .args .s)) ((at-start .args .egress-row .now))
-    (memberValues ((at-start .args .m))) ((at-start .args .j)) (memberValues ((at-member .member .result)))
-    ((at-member .member .ensures)) (sym (not-false _ ((c .before .if1 .left))) ∙ (at-is-receiver .is-receiver .ensures))
-    ((at-start .args .behind .now)) ((at-start .args .at)) room)
+    noted _ _ _ _ _ (memberValues (at-member .member .result)) (at-member .member .ensures)
+    (sym (not-false _ (c .before .if1 .left)) ∙ (at-is-receiver .is-receiver .ensures)) _ _
+    (noted-room (wordsOf (at-start .args .table .now)) (at-start .args .s) (at-start .args .egress-row .now)
+    (memberValues (at-start .args .m)) (at-start .args .j) (memberValues (at-member .member .result)) (at-member .member .ensures)
+    (sym (not-false _ (c .before .if1 .left)) ∙ (at-is-receiver .is-receiver .ensures)) (at-start .args .behind .now)
+    (at-start .args .at) room)
 
 pub note-receiver-spec : {M : Type 1} → statement M
 note-receiver-spec =

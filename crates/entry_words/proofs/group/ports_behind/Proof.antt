@@ -21,7 +21,7 @@ loop-holds c =
     let at-start = c .before .before .before in
     let (checked, _, the-behind-room) = at-start .pre in
     appending-starts _ _ _ _
-    (behind-room checked ((at-start .args .egress-row .now)) (memberValues ((at-start .args .m))) ((at-start .args .behind .now))
+    (behind-room checked (at-start .args .egress-row .now) (memberValues (at-start .args .m)) (at-start .args .behind .now)
     the-behind-room)
 
 note-receiver-requires : tie.Need-note-receiver-requires Inv-loop μ-loop
@@ -29,25 +29,25 @@ note-receiver-requires c κs =
     let at-loop = c .before .before .before in
     let at-start = at-loop .before .before .before .before in
     let (checked, egress-row-room, _) = at-start .pre in
-    ((checked, (c .before .if1 .taken), egress-row-room), appending-room ((at-loop .loop .inv)) ((c .before .if1 .taken)))
+    ((checked, (c .before .if1 .taken), egress-row-room), appending-room (at-loop .loop .inv) (c .before .if1 .taken))
 
 loop-again : tie.Need-loop-again Inv-loop μ-loop
 loop-again c =
     let at-note-receiver = c .before .before in
     let at-if1 = at-note-receiver .before .before in
     let at-loop = at-if1 .before .before in
-    appending-goes-on ((at-loop .loop .inv)) ((at-if1 .if1 .taken)) ((at-note-receiver .note-receiver .ensures))
+    appending-goes-on (at-loop .loop .inv) (at-if1 .if1 .taken) (at-note-receiver .note-receiver .ensures)
 
 same-length : tie.Need-same-length Inv-loop μ-loop
 same-length c =
     let at-loop = c .before .before in
-    appending-length ((at-loop .loop .inv))
+    appending-length (at-loop .loop .inv)
 
 returns : tie.Need-returns Inv-loop μ-loop
 unfolding portsBehind
 returns c =
     let at-loop = c .before .before in
-    appending-ends ((at-loop .loop .inv)) ((c .if1 .left))
+    appending-ends (at-loop .loop .inv) (c .if1 .left)
 
 pub ports-behind-spec : {M : Type 1} → statement M
 ports-behind-spec =

@@ -17,32 +17,33 @@ loop-holds : tie.Need-loop-holds Inv-loop μ-loop
 unfolding individualWords
 loop-holds c =
     let at-start = c .before .before .before in
-    let (_, room) = at-start .pre in appending-starts _ _ _ _ room
+    let (_, room) = at-start .pre in
+    appending-starts _ _ _ _ room
 
 write-individual-requires : tie.Need-write-individual-requires Inv-loop μ-loop
 write-individual-requires c κs =
     let at-loop = c .before .before .before in
     let at-start = at-loop .before .before .before .before in
     let ((checked, egress-row-room, vid-bound), _) = at-start .pre in
-    ((checked, (c .before .if1 .taken), egress-row-room, vid-bound), appending-room ((at-loop .loop .inv)) ((c .before .if1 .taken)))
+    ((checked, (c .before .if1 .taken), egress-row-room, vid-bound), appending-room (at-loop .loop .inv) (c .before .if1 .taken))
 
 loop-again : tie.Need-loop-again Inv-loop μ-loop
 loop-again c =
     let at-write-individual = c .before .before in
     let at-if1 = at-write-individual .before .before in
     let at-loop = at-if1 .before .before in
-    appending-goes-on ((at-loop .loop .inv)) ((at-if1 .if1 .taken)) ((at-write-individual .write-individual .ensures))
+    appending-goes-on (at-loop .loop .inv) (at-if1 .if1 .taken) (at-write-individual .write-individual .ensures)
 
 same-length : tie.Need-same-length Inv-loop μ-loop
 same-length c =
     let at-loop = c .before .before in
-    appending-length ((at-loop .loop .inv))
+    appending-length (at-loop .loop .inv)
 
 returns : tie.Need-returns Inv-loop μ-loop
 unfolding individualWords
 returns c =
     let at-loop = c .before .before in
-    appending-ends ((at-loop .loop .inv)) ((c .if1 .left))
+    appending-ends (at-loop .loop .inv) (c .if1 .left)
 
 pub individual-words-spec : {M : Type 1} → statement M
 individual-words-spec =

@@ -13,7 +13,8 @@ abbrev μ-loop : tie.MeasureT-loop
 
 loop-holds : tie.Need-loop-holds Inv-loop μ-loop
 loop-holds c =
-    let (_, in-chain) = c .pre in follows in-chain
+    let (_, in-chain) = c .pre in
+    follows in-chain
 
 returns : tie.Need-returns Inv-loop μ-loop
 returns c =
@@ -26,14 +27,16 @@ loop-less c =
     let at-loop-test = c .before .before .before in
     let at-loop = at-loop-test .before in
     let at-start = at-loop .before in
-    let (indexed, _) = at-start .pre in follows-less (at-loop .loop .inv) indexed (at-loop-test .loop-test .taken)
+    let (indexed, _) = at-start .pre in
+    follows-less (at-loop .loop .inv) indexed (at-loop-test .loop-test .taken)
 
 loop-again : tie.Need-loop-again Inv-loop μ-loop
 loop-again c =
     let at-loop-test = c .before .before .before in
     let at-loop = at-loop-test .before in
     let at-start = at-loop .before in
-    let (indexed, _) = at-start .pre in follows-on (at-loop .loop .inv) indexed (at-loop-test .loop-test .taken) (c .before .if1 .left)
+    let (indexed, _) = at-start .pre in
+    follows-on (at-loop .loop .inv) indexed (at-loop-test .loop-test .taken) (c .before .if1 .left)
 
 returns-2 : tie.Need-returns-2 Inv-loop μ-loop
 returns-2 c = follows-to-none (c .before .loop .inv) (omega arith)

@@ -27,7 +27,8 @@ cast-write-entry-lines : tie.Need-cast-write-entry-lines
 cast-write-entry-lines c =
     let at-start =
     c .before .before .before .before .before .before .before .before .before .before .before .before .before .before .before .before .before in
-    let ((table-network, b-bound, _, _), _) = at-start .pre in omega (arith, b-bound, few-bridges (table-network .checked))
+    let ((table-network, b-bound, _, _), _) = at-start .pre in
+    omega (arith, b-bound, few-bridges (table-network .checked))
 
 write-entry-lines-requires : tie.Need-write-entry-lines-requires
 write-entry-lines-requires c κs =

@@ -28,12 +28,14 @@ abbrev μ-loop : tie.MeasureT-loop
 vid-requires : tie.Need-vid-requires Inv-loop μ-loop
 vid-requires c κs =
     let at-start = c .before .before .before .before .before in
-    let ((table-network, k-bound, _), _) = at-start .pre in (table-network .checked .whole, k-bound)
+    let ((table-network, k-bound, _), _) = at-start .pre in
+    (table-network .checked .whole, k-bound)
 
 loop-holds : tie.Need-loop-holds Inv-loop μ-loop
 loop-holds c =
     let at-start = c .before .before .before .before .before .before in
-    let (_, (_, trees-kept, _)) = at-start .pre in (few-starts _ 764 _ _ 0, trees-kept, refl, refl)
+    let (_, (_, trees-kept, _)) = at-start .pre in
+    (few-starts _ 764 _ _ 0, trees-kept, refl, refl)
 
 loop-again : tie.Need-loop-again Inv-loop μ-loop
 loop-again c =
@@ -74,7 +76,8 @@ add-write-path-line c =
     let at-loop = at-kept-tree .before .before .before .before .before .before in
     let at-good = at-loop .before .before .before .before .before .before .before in
     let (_, (kept-tree-bound, _)) = at-kept-tree .kept-tree .ensures in
-    let (_, _, _, store-length) = at-loop .loop .inv in omega (arith, kept-tree-bound, c .before .store .given, store-length, at-good .good)
+    let (_, _, _, store-length) = at-loop .loop .inv in
+    omega (arith, kept-tree-bound, c .before .store .given, store-length, at-good .good)
 
 mul-write-path-line : tie.Need-mul-write-path-line Inv-loop μ-loop
 mul-write-path-line c =
@@ -82,19 +85,22 @@ mul-write-path-line c =
     let at-loop = at-kept-tree .before .before .before .before .before .before in
     let at-good = at-loop .before .before .before .before .before .before .before in
     let (_, (kept-tree-bound, _)) = at-kept-tree .kept-tree .ensures in
-    let (_, _, _, store-length) = at-loop .loop .inv in omega (arith, kept-tree-bound, c .before .store .given, store-length, at-good .good)
+    let (_, _, _, store-length) = at-loop .loop .inv in
+    omega (arith, kept-tree-bound, c .before .store .given, store-length, at-good .good)
 
 cast-write-path-line : tie.Need-cast-write-path-line Inv-loop μ-loop
 cast-write-path-line c =
     let at-start =
     c .before .before .before .before .before .before .before .before .before .before .before .before .before .before .before .before .before .before .before in
-    let ((table-network, _, from-bound), _) = at-start .pre in omega (arith, from-bound, few-bridges (table-network .checked))
+    let ((table-network, _, from-bound), _) = at-start .pre in
+    omega (arith, from-bound, few-bridges (table-network .checked))
 
 cast-write-path-line-2 : tie.Need-cast-write-path-line-2 Inv-loop μ-loop
 cast-write-path-line-2 c =
     let at-if1 = c .before .before .before .before .before .before .before .before .before .before in
     let at-start = at-if1 .before .before .before .before .before .before .before .before .before in
-    let ((table-network, _, _), _) = at-start .pre in omega (arith, at-if1 .if1 .taken, few-bridges (table-network .checked))
+    let ((table-network, _, _), _) = at-start .pre in
+    omega (arith, at-if1 .if1 .taken, few-bridges (table-network .checked))
 
 write-path-line-requires : tie.Need-write-path-line-requires Inv-loop μ-loop
 write-path-line-requires c κs =
@@ -130,7 +136,8 @@ loop-again-2 c = (
       from-bound (at-if1 .if1 .taken) (lent-tree _ (at-kept-tree .kept-tree .result) tree-in) (at-if2 .if2 .left) written)
       write-path-line-bound,
   let at-kept-tree = c .before .before .before .before .before .before .before .before .before .before in
-      let (trees-kept, _) = at-kept-tree .kept-tree .ensures in trees-kept,
+      let (trees-kept, _) = at-kept-tree .kept-tree .ensures in
+      trees-kept,
   search needs,
   search needs,
 )
@@ -138,7 +145,8 @@ loop-again-2 c = (
 same-length-3 : tie.Need-same-length-3 Inv-loop μ-loop
 same-length-3 c =
     let at-loop = c .before .before in
-    let (appending-few, _, _, _) = at-loop .loop .inv in appending-few .same-length
+    let (appending-few, _, _, _) = at-loop .loop .inv in
+    appending-few .same-length
 
 returns : tie.Need-returns Inv-loop μ-loop
 returns c =

@@ -16,13 +16,15 @@ make-network-requires c κs =
     let at-start = at-examine .before .before .before .before .before in
     let (_, the-passed) = at-examine .examine .ensures in
     let (network-length, _, _) = at-start .pre in
-    let passed = the-passed _ (at-examined .examined .given .1) in (passed .0, passed .1, network-length)
+    let passed = the-passed _ (at-examined .examined .given .1) in
+    (passed .0, passed .1, network-length)
 
 counts-requires : tie.Need-counts-requires
 counts-requires c κs =
     let at-examined = c .before .before .before .before .before .before .before in
     let at-examine = at-examined .before .before .before in
-    let (_, passed) = at-examine .examine .ensures in passed _ (at-examined .examined .given .1)
+    let (_, passed) = at-examine .examine .ensures in
+    passed _ (at-examined .examined .given .1)
 
 returns : tie.Need-returns
 returns c =

@@ -12,7 +12,8 @@ returns c =
 returns-2 : tie.Need-returns-2
 returns-2 c =
     let at-vid-of = c .before .before in
-    let (vid-of-is, _) = at-vid-of .vid-of .ensures in simp (← vid-of-is, eq-eqb _ _ (c .before .if1 .left), c .address-of .ensures)
+    let (vid-of-is, _) = at-vid-of .vid-of .ensures in
+    simp (← vid-of-is, eq-eqb _ _ (c .before .if1 .left), c .address-of .ensures)
 
 pub is-match-spec : {M : Type 1} → statement M
 is-match-spec = tie.close (tie.spec (λ c κs. search needs) returns (λ c κs. search needs) returns-2)

@@ -17,7 +17,8 @@ abbrev μ-loop : tie.MeasureT-loop
 loop-holds : tie.Need-loop-holds Inv-loop μ-loop
 loop-holds c =
     let at-start = c .before .before in
-    let (_, _, listed, _) = at-start .pre in row-starts listed (64 * at-start .args .u + 64) (omega arith)
+    let (_, _, listed, _) = at-start .pre in
+    row-starts listed (64 * at-start .args .u + 64) (omega arith)
 
 loop-again : tie.Need-loop-again Inv-loop μ-loop
 loop-again c =

@@ -31,7 +31,8 @@ returns : tie.Need-returns Inv-loop μ-loop
 returns c =
     let at-bridges = c .before .before in
     let at-start = at-bridges .before .before .before in
-    let (_, _, keys-room) = at-start .pre in masking-ends (c .before .loop .inv) keys-room (omega (arith, at-bridges .bridges .ensures))
+    let (_, _, keys-room) = at-start .pre in
+    masking-ends (c .before .loop .inv) keys-room (omega (arith, at-bridges .bridges .ensures))
 
 pub write-keys-spec : {M : Type 1} → statement M
 write-keys-spec =

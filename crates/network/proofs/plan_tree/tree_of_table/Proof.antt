@@ -7,17 +7,21 @@ use Rattle.network.proofs.plan_tree.tree_of_table.Tie as tie
 
 tree-in-network-requires : tie.Need-tree-in-network-requires
 tree-in-network-requires c κs = (
-  let at-make-network = c .before .before .before .before in is-network (at-make-network .make-network .ensures),
+  let at-make-network = c .before .before .before .before in
+      is-network (at-make-network .make-network .ensures),
   let at-start = c .before .before .before .before .before .before .before .before .before in
-      let (_, index-least, _, _, _, _) = at-start .pre in index-least,
+      let (_, index-least, _, _, _, _) = at-start .pre in
+      index-least,
   let at-start = c .before .before .before .before .before .before .before .before .before in
-      let (_, _, index-bound, _, _, _) = at-start .pre in index-bound,
+      let (_, _, index-bound, _, _, _) = at-start .pre in
+      index-bound,
   let at-make-network = c .before .before .before .before in
       let at-start = at-make-network .before .before .before .before .before in
       let (_, _, _, root-bound, _, _) = at-start .pre in
       omega (arith, bridges-in-table (at-make-network .make-network .ensures), root-bound),
   let at-start = c .before .before .before .before .before .before .before .before .before in
-      let (_, _, _, _, labels-room, _) = at-start .pre in labels-room,
+      let (_, _, _, _, labels-room, _) = at-start .pre in
+      labels-room,
   search needs,
 )
 

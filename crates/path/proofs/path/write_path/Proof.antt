@@ -18,12 +18,14 @@ loop-holds c = following-starts _ _ _ _
 slice-write-list : tie.Need-slice-write-list Inv-loop μ-loop
 slice-write-list c =
     let at-start = c .before .before .before .before in
-    let (_, _, list-room) = at-start .pre in omega (arith, list-room, c .before .loop .inv .same-length, c .loop-test .taken)
+    let (_, _, list-room) = at-start .pre in
+    omega (arith, list-room, c .before .loop .inv .same-length, c .loop-test .taken)
 
 cast-next-number : tie.Need-cast-next-number Inv-loop μ-loop
 cast-next-number c =
     let at-start = c .before .before .before .before in
-    let (_, inside, _) = at-start .pre in omega (arith, following-inside (c .before .loop .inv) inside (c .loop-test .taken))
+    let (_, inside, _) = at-start .pre in
+    omega (arith, following-inside (c .before .loop .inv) inside (c .loop-test .taken))
 
 next-number-requires : tie.Need-next-number-requires Inv-loop μ-loop
 next-number-requires c κs =

@@ -13,7 +13,7 @@ returns c =
     let at-write-given-entries = c .before .before in
     let at-answer = at-write-given-entries .before .before .before in
     let (written, write-given-entries-bound) = at-write-given-entries .write-given-entries .ensures in (
-      written-as written _ (sym (ap (λ (a : EntriesAnswer). entriesAnswerText (entriesValues a)) ((at-answer .answer .given .1)))),
+      written-as written _ (sym (ap (λ (a : EntriesAnswer). entriesAnswerText (entriesValues a)) (at-answer .answer .given .1))),
       write-given-entries-bound,
     )
 
@@ -22,7 +22,7 @@ returns-2 c =
     let at-write-refusal = c .before .before in
     let at-answer2 = at-write-refusal .before .before .before in
     let (written, write-refusal-bound) = at-write-refusal .write-refusal .ensures in (
-      written-as written _ (sym (ap (λ (a : EntriesAnswer). entriesAnswerText (entriesValues a)) ((at-answer2 .answer2 .given .1)))),
+      written-as written _ (sym (ap (λ (a : EntriesAnswer). entriesAnswerText (entriesValues a)) (at-answer2 .answer2 .given .1))),
       write-refusal-bound,
     )
 

@@ -13,7 +13,7 @@ returns c =
     let at-write-given-path = c .before .before in
     let at-answer = at-write-given-path .before .before .before in
     let (written, write-given-path-bound) = at-write-given-path .write-given-path .ensures in (
-      written-as written _ (sym (ap (λ (a : PathAnswer). pathAnswerText (pathValues a)) ((at-answer .answer .given .1)))),
+      written-as written _ (sym (ap (λ (a : PathAnswer). pathAnswerText (pathValues a)) (at-answer .answer .given .1))),
       write-given-path-bound,
     )
 
@@ -22,7 +22,7 @@ returns-2 c =
     let at-write-refusal = c .before .before in
     let at-answer2 = at-write-refusal .before .before .before in
     let (written, write-refusal-bound) = at-write-refusal .write-refusal .ensures in (
-      written-as written _ (sym (ap (λ (a : PathAnswer). pathAnswerText (pathValues a)) ((at-answer2 .answer2 .given .1)))),
+      written-as written _ (sym (ap (λ (a : PathAnswer). pathAnswerText (pathValues a)) (at-answer2 .answer2 .given .1))),
       write-refusal-bound,
     )
 

@@ -27,12 +27,12 @@ returns c =
           (written-on written
           (written-on the-written
           (written-on written-3
-          (written-on written-4 ((at-write-byte .write-byte .ensures))
+          (written-on written-4 (at-write-byte .write-byte .ensures)
           (omega (arith, write-tree-answer-bound, write-fields-bound, write-fields2-bound, write-fields3-bound, (at-start .pre))))
           (omega (arith, write-tree-answer-bound, write-fields-bound, write-fields2-bound, (at-start .pre))))
           (omega (arith, write-tree-answer-bound, write-fields-bound, (at-start .pre))))
           (omega (arith, write-tree-answer-bound, (at-start .pre))))
-          _ (ap (λ (o : Outcome ℕ × List ℕ × List ℕ × List ℕ). treeText o) ((at-tree .tree .ensures))),
+          _ (ap (λ (o : Outcome ℕ × List ℕ × List ℕ × List ℕ). treeText o) (at-tree .tree .ensures)),
       omega (
         arith,
         write-tree-answer-bound,

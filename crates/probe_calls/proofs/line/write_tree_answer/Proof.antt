@@ -13,7 +13,7 @@ returns c =
     let at-write-given-tree = c .before .before in
     let at-answer = at-write-given-tree .before .before .before in
     let (written, write-given-tree-bound) = at-write-given-tree .write-given-tree .ensures in (
-      written-as written _ (sym (ap (λ (a : TreeAnswer). treeAnswerText (treeValues a)) ((at-answer .answer .given .1)))),
+      written-as written _ (sym (ap (λ (a : TreeAnswer). treeAnswerText (treeValues a)) (at-answer .answer .given .1))),
       write-given-tree-bound,
     )
 
@@ -22,7 +22,7 @@ returns-2 c =
     let at-write-refusal = c .before .before in
     let at-answer2 = at-write-refusal .before .before .before in
     let (written, write-refusal-bound) = at-write-refusal .write-refusal .ensures in (
-      written-as written _ (sym (ap (λ (a : TreeAnswer). treeAnswerText (treeValues a)) ((at-answer2 .answer2 .given .1)))),
+      written-as written _ (sym (ap (λ (a : TreeAnswer). treeAnswerText (treeValues a)) (at-answer2 .answer2 .given .1))),
       write-refusal-bound,
     )
 

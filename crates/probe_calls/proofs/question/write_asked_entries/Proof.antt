@@ -15,12 +15,14 @@ use Rattle.probe_calls.proofs.question.write_asked_entries.Tie as tie
 slice-aggregate-write-entries : tie.Need-slice-aggregate-write-entries
 slice-aggregate-write-entries c =
     let at-start = c .before .before .before .before .before .before in
-    let (places-bound, _) = at-start .pre in simp length-take (omega (arith, places-bound))
+    let (places-bound, _) = at-start .pre in
+    simp length-take (omega (arith, places-bound))
 
 write-entries-requires : tie.Need-write-entries-requires
 write-entries-requires c κs =
     let at-start = c .before .before .before .before .before .before .before in
-    let (places-bound, out-room) = at-start .pre in simp length-take (omega (arith, places-bound, out-room))
+    let (places-bound, out-room) = at-start .pre in
+    simp length-take (omega (arith, places-bound, out-room))
 
 returns : tie.Need-returns
 returns c =
@@ -30,8 +32,8 @@ returns c =
     let (written, write-entries-bound) = at-write-entries .write-entries .ensures in
     let (places-bound, _) = at-start .pre in (
       written-as written _
-          (ap (λ (l : List ℕ). entriesText (entriesOutcome ((at-start .args .table .now)) ((at-start .args .bridge)) l))
-          (front-untouched _ ((at-start .args .places)) 14932 ((at-set-untouched .set-untouched .ensures)) places-bound)),
+          (ap (λ (l : List ℕ). entriesText (entriesOutcome (at-start .args .table .now) (at-start .args .bridge) l))
+          (front-untouched _ (at-start .args .places) 14932 (at-set-untouched .set-untouched .ensures) places-bound)),
       write-entries-bound,
     )
 

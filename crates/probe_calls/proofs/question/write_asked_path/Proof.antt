@@ -15,12 +15,14 @@ use Rattle.probe_calls.proofs.question.write_asked_path.Tie as tie
 slice-aggregate-write-path : tie.Need-slice-aggregate-write-path
 slice-aggregate-write-path c =
     let at-start = c .before .before .before .before .before .before in
-    let (places-bound, _) = at-start .pre in simp length-take (omega (arith, places-bound))
+    let (places-bound, _) = at-start .pre in
+    simp length-take (omega (arith, places-bound))
 
 write-path-requires : tie.Need-write-path-requires
 write-path-requires c κs =
     let at-start = c .before .before .before .before .before .before .before in
-    let (places-bound, out-room) = at-start .pre in simp length-take (omega (arith, places-bound, out-room))
+    let (places-bound, out-room) = at-start .pre in
+    simp length-take (omega (arith, places-bound, out-room))
 
 returns : tie.Need-returns
 returns c =
@@ -32,9 +34,8 @@ returns c =
       written-as written _
           (ap
           (λ (l : List ℕ).
-          pathText
-          (pathOutcome ((at-start .args .table .now)) ((at-start .args .vid)) ((at-start .args .from)) ((at-start .args .to)) l))
-          (front-untouched _ ((at-start .args .places)) 80 ((at-set-untouched .set-untouched .ensures)) places-bound)),
+          pathText (pathOutcome (at-start .args .table .now) (at-start .args .vid) (at-start .args .from) (at-start .args .to) l))
+          (front-untouched _ (at-start .args .places) 80 (at-set-untouched .set-untouched .ensures) places-bound)),
       write-path-bound,
     )
 

@@ -10,17 +10,20 @@ use Rattle.probe_calls.proofs.question.write_asked_tree.Tie as tie
 slice-aggregate-write-tree : tie.Need-slice-aggregate-write-tree
 slice-aggregate-write-tree c =
     let at-start = c .before .before .before .before .before .before .before .before .before .before .before .before in
-    let (cost-places-bound, _, _, _) = at-start .pre in simp length-take (omega (arith, cost-places-bound))
+    let (cost-places-bound, _, _, _) = at-start .pre in
+    simp length-take (omega (arith, cost-places-bound))
 
 slice-aggregate-write-tree-2 : tie.Need-slice-aggregate-write-tree-2
 slice-aggregate-write-tree-2 c =
     let at-start = c .before .before .before .before .before .before .before .before .before .before .before .before .before in
-    let (_, hop-places-bound, _, _) = at-start .pre in simp length-take (omega (arith, hop-places-bound))
+    let (_, hop-places-bound, _, _) = at-start .pre in
+    simp length-take (omega (arith, hop-places-bound))
 
 slice-aggregate-write-tree-3 : tie.Need-slice-aggregate-write-tree-3
 slice-aggregate-write-tree-3 c =
     let at-start = c .before .before .before .before .before .before .before .before .before .before .before .before .before .before in
-    let (_, _, last-places-bound, _) = at-start .pre in simp length-take (omega (arith, last-places-bound))
+    let (_, _, last-places-bound, _) = at-start .pre in
+    simp length-take (omega (arith, last-places-bound))
 
 write-tree-requires : tie.Need-write-tree-requires
 write-tree-requires c κs =
@@ -39,10 +42,10 @@ returns c =
     let (written, write-tree-bound) = at-write-tree .write-tree .ensures in
     let (cost-places-bound, hop-places-bound, last-places-bound, _) = at-start .pre in (
       written-as written _
-          (same-tree-text ((at-start .args .table .now)) ((at-start .args .vid)) ((at-start .args .from))
-          (front-untouched _ ((at-start .args .cost-places)) 80 ((at-set-untouched .set-untouched .ensures)) cost-places-bound)
-          (front-untouched _ ((at-start .args .hop-places)) 80 ((at-set-untouched2 .set-untouched2 .ensures)) hop-places-bound)
-          (front-untouched _ ((at-start .args .last-places)) 80 ((at-set-untouched3 .set-untouched3 .ensures)) last-places-bound)),
+          (same-tree-text (at-start .args .table .now) (at-start .args .vid) (at-start .args .from)
+          (front-untouched _ (at-start .args .cost-places) 80 (at-set-untouched .set-untouched .ensures) cost-places-bound)
+          (front-untouched _ (at-start .args .hop-places) 80 (at-set-untouched2 .set-untouched2 .ensures) hop-places-bound)
+          (front-untouched _ (at-start .args .last-places) 80 (at-set-untouched3 .set-untouched3 .ensures) last-places-bound)),
       write-tree-bound,
     )
 

@@ -13,7 +13,7 @@ returns c =
     let at-write-check = c .before .before in
     let at-check = at-write-check .before .before in
     let (written, write-check-bound) = at-write-check .write-check .ensures in
-    (written-as written _ (ap (λ (o : Outcome Counts). checkText o) ((at-check .check .ensures))), write-check-bound)
+    (written-as written _ (ap (λ (o : Outcome Counts). checkText o) (at-check .check .ensures)), write-check-bound)
 
 pub write-answer-spec : {M : Type 1} → statement M
 write-answer-spec = tie.close (tie.spec (λ c κs. search needs) (λ c κs. search needs) (λ c. search needs) returns)

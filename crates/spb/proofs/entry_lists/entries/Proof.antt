@@ -12,7 +12,8 @@ entries-in-table-requires : tie.Need-entries-in-table-requires
 entries-in-table-requires c κs =
     let at-examined = c .before .before .before in
     let at-examine = at-examined .before .before .before in
-    let (_, passed) = at-examine .examine .ensures in passed _ (at-examined .examined .given .1)
+    let (_, passed) = at-examine .examine .ensures in
+    passed _ (at-examined .examined .given .1)
 
 returns : tie.Need-returns
 returns c =

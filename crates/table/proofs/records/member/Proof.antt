@@ -12,8 +12,8 @@ returns : tie.Need-returns
 returns c =
     let at-start = c .before .before .before in
     (c .member-at .ensures)
-    ∙ ap (λ (w : ℕ). memberOf (drop (w + 2 * (at-start .args .j)) (wordsOf ((at-start .args .table .now)))))
-    ((c .before .members-from .ensures))
+    ∙ ap (λ (w : ℕ). memberOf (drop (w + 2 * (at-start .args .j)) (wordsOf (at-start .args .table .now))))
+    (c .before .members-from .ensures)
 
 pub member-spec : {M : Type 1} → statement M
 member-spec =

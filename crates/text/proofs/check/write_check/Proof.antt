@@ -13,16 +13,14 @@ returns c =
     let at-write-counts = c .before .before in
     let at-answer = at-write-counts .before .before .before in
     let (written, write-counts-bound) = at-write-counts .write-counts .ensures in
-    (written-as written _ (sym (ap (λ (a : CheckAnswer). checkText (checkValues a)) ((at-answer .answer .given .1)))), write-counts-bound)
+    (written-as written _ (sym (ap (λ (a : CheckAnswer). checkText (checkValues a)) (at-answer .answer .given .1))), write-counts-bound)
 
 returns-2 : tie.Need-returns-2
 returns-2 c =
     let at-write-refused = c .before .before in
     let at-answer2 = at-write-refused .before .before .before in
-    let (written, write-refused-bound) = at-write-refused .write-refused .ensures in (
-      written-as written _ (sym (ap (λ (a : CheckAnswer). checkText (checkValues a)) ((at-answer2 .answer2 .given .1)))),
-      write-refused-bound,
-    )
+    let (written, write-refused-bound) = at-write-refused .write-refused .ensures in
+    (written-as written _ (sym (ap (λ (a : CheckAnswer). checkText (checkValues a)) (at-answer2 .answer2 .given .1))), write-refused-bound)
 
 pub write-check-spec : {M : Type 1} → statement M
 write-check-spec =

@@ -13,8 +13,8 @@ returns : tie.Need-returns
 returns c =
     let at-write-word = c .before .before in
     let at-enum-told = at-write-word .before .before .before in (
-      written-as ((at-write-word .write-word .ensures)) _
-          (sym (ap (λ (k : RecordKind). kindField (kindNumber k)) ((at-enum-told .enum-told .given .1)))),
+      written-as (at-write-word .write-word .ensures) _
+          (sym (ap (λ (k : RecordKind). kindField (kindNumber k)) (at-enum-told .enum-told .given .1))),
       omega (arith, (at-write-word .write-word .ensures .end-is)),
     )
 
@@ -23,7 +23,7 @@ returns-2 c =
     let at-write-field = c .before .before in
     let at-enum-told2 = at-write-field .before .before in
     let (written, write-field-bound) = at-write-field .write-field .ensures in (
-      written-as written _ (sym (ap (λ (k : RecordKind). kindField (kindNumber k)) ((at-enum-told2 .enum-told2 .given .1)))),
+      written-as written _ (sym (ap (λ (k : RecordKind). kindField (kindNumber k)) (at-enum-told2 .enum-told2 .given .1))),
       write-field-bound,
     )
 
@@ -32,7 +32,7 @@ returns-3 c =
     let at-write-field2 = c .before .before in
     let at-enum-told3 = at-write-field2 .before .before in
     let (written, write-field2-bound) = at-write-field2 .write-field2 .ensures in (
-      written-as written _ (sym (ap (λ (k : RecordKind). kindField (kindNumber k)) ((at-enum-told3 .enum-told3 .given .1)))),
+      written-as written _ (sym (ap (λ (k : RecordKind). kindField (kindNumber k)) (at-enum-told3 .enum-told3 .given .1))),
       write-field2-bound,
     )
 
@@ -41,7 +41,7 @@ returns-4 c =
     let at-write-field3 = c .before .before in
     let at-enum-told4 = at-write-field3 .before .before in
     let (written, write-field3-bound) = at-write-field3 .write-field3 .ensures in (
-      written-as written _ (sym (ap (λ (k : RecordKind). kindField (kindNumber k)) ((at-enum-told4 .enum-told4 .given .1)))),
+      written-as written _ (sym (ap (λ (k : RecordKind). kindField (kindNumber k)) (at-enum-told4 .enum-told4 .given .1))),
       write-field3-bound,
     )
 
@@ -50,7 +50,7 @@ returns-5 c =
     let at-write-field4 = c .before .before in
     let at-enum-told5 = at-write-field4 .before .before in
     let (written, write-field4-bound) = at-write-field4 .write-field4 .ensures in (
-      written-as written _ (sym (ap (λ (k : RecordKind). kindField (kindNumber k)) ((at-enum-told5 .enum-told5 .given .1)))),
+      written-as written _ (sym (ap (λ (k : RecordKind). kindField (kindNumber k)) (at-enum-told5 .enum-told5 .given .1))),
       write-field4-bound,
     )
 
@@ -59,7 +59,7 @@ returns-6 c =
     let at-write-field5 = c .before .before in
     let at-enum-told6 = at-write-field5 .before .before in
     let (written, write-field5-bound) = at-write-field5 .write-field5 .ensures in (
-      written-as written _ (sym (ap (λ (k : RecordKind). kindField (kindNumber k)) ((at-enum-told6 .enum-told6 .given .1)))),
+      written-as written _ (sym (ap (λ (k : RecordKind). kindField (kindNumber k)) (at-enum-told6 .enum-told6 .given .1))),
       write-field5-bound,
     )
 

@@ -5,7 +5,7 @@ use Rattle.text.proofs.digits.decimal_digit.Statement.{statement}
 use Rattle.text.proofs.digits.decimal_digit.Tie as tie
 
 returns : tie.Need-returns
-returns c = low-digit _ ((c .pre))
+returns c = low-digit _ (c .pre)
 
 pub decimal-digit-spec : {M : Type 1} → statement M
 decimal-digit-spec = tie.close (tie.spec (λ c. search needs) (λ c. search needs) returns)

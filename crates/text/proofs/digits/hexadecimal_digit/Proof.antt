@@ -5,10 +5,10 @@ use Rattle.text.proofs.digits.hexadecimal_digit.Statement.{statement}
 use Rattle.text.proofs.digits.hexadecimal_digit.Tie as tie
 
 returns : tie.Need-returns
-returns c = low-digit _ ((c .if1 .taken))
+returns c = low-digit _ (c .if1 .taken)
 
 returns-2 : tie.Need-returns-2
-returns-2 c = high-digit _ ((c .if1 .left))
+returns-2 c = high-digit _ (c .if1 .left)
 
 pub hexadecimal-digit-spec : {M : Type 1} → statement M
 hexadecimal-digit-spec =

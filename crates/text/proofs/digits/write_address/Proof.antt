@@ -20,13 +20,13 @@ loop-again : tie.Need-loop-again Inv-loop μ-loop
 loop-again c =
     let at-loop = c .before .before in
     let at-start = at-loop .before .before in
-    spelling-goes-on 16 _ _ _ _ ((at-start .pre)) ((at-loop .loop .inv)) _ _ _ (omega arith) ((c .hexadecimal-digit .ensures)) refl
+    spelling-goes-on 16 _ _ _ _ (at-start .pre) (at-loop .loop .inv) _ _ _ (omega arith) (c .hexadecimal-digit .ensures) refl
 
 same-length : tie.Need-same-length Inv-loop μ-loop
 same-length c = (c .before .loop .inv .same-length)
 
 returns : tie.Need-returns Inv-loop μ-loop
-returns c = address-written _ _ (spelling-ends 16 _ _ _ _ ((c .before .loop .inv)) ((c .loop-test .left))) refl
+returns c = address-written _ _ (spelling-ends 16 _ _ _ _ (c .before .loop .inv) (c .loop-test .left)) refl
 
 pub write-address-spec : {M : Type 1} → statement M
 write-address-spec =

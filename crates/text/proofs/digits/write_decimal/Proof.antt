@@ -12,7 +12,7 @@ returns c =
     let at-write-last-digits = c .before .before in
     let at-decimal-places = at-write-last-digits .before .before in
     let (decimal-places-is, _) = at-decimal-places .decimal-places .ensures in
-    decimal-written _ _ _ decimal-places-is ((at-write-last-digits .write-last-digits .ensures)) refl
+    decimal-written _ _ _ decimal-places-is (at-write-last-digits .write-last-digits .ensures) refl
 
 pub write-decimal-spec : {M : Type 1} → statement M
 write-decimal-spec =

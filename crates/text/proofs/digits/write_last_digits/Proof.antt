@@ -20,13 +20,13 @@ loop-again : tie.Need-loop-again Inv-loop μ-loop
 loop-again c =
     let at-loop = c .before .before in
     let at-start = at-loop .before .before in
-    spelling-goes-on 10 _ _ _ _ ((at-start .pre)) ((at-loop .loop .inv)) _ _ _ (omega arith) ((c .decimal-digit .ensures)) refl
+    spelling-goes-on 10 _ _ _ _ (at-start .pre) (at-loop .loop .inv) _ _ _ (omega arith) (c .decimal-digit .ensures) refl
 
 same-length : tie.Need-same-length Inv-loop μ-loop
 same-length c = (c .before .loop .inv .same-length)
 
 returns : tie.Need-returns Inv-loop μ-loop
-returns c = spelling-ends 10 _ _ _ _ ((c .before .loop .inv)) ((c .loop-test .left))
+returns c = spelling-ends 10 _ _ _ _ (c .before .loop .inv) (c .loop-test .left)
 
 pub write-last-digits-spec : {M : Type 1} → statement M
 write-last-digits-spec =

@@ -30,13 +30,13 @@ loop-again c =
     let at-loop = at-loop-test .before in
     let at-start = at-loop .before .before .before in
     let (written, _) = at-write-field .write-field .ensures in
-    fielding-goes-on ((at-loop .loop .inv)) ((at-start .pre)) ((at-loop-test .loop-test .taken)) _ _ written
+    fielding-goes-on (at-loop .loop .inv) (at-start .pre) (at-loop-test .loop-test .taken) _ _ written
 
 same-length : tie.Need-same-length Inv-loop μ-loop
 same-length c = (c .before .loop .inv .same-length)
 
 returns : tie.Need-returns Inv-loop μ-loop
-returns c = (fielding-ends ((c .before .loop .inv)) ((c .loop-test .left)), fielding-room ((c .before .loop .inv)) ((c .loop-test .left)))
+returns c = (fielding-ends (c .before .loop .inv) (c .loop-test .left), fielding-room (c .before .loop .inv) (c .loop-test .left))
 
 pub write-fields-spec : {M : Type 1} → statement M
 write-fields-spec =

@@ -20,13 +20,13 @@ loop-again : tie.Need-loop-again Inv-loop μ-loop
 loop-again c =
     let at-loop = c .before .before in
     let at-start = at-loop .before in
-    copying-goes-on ((at-loop .loop .inv)) ((at-start .pre)) ((c .before .loop-test .taken))
+    copying-goes-on (at-loop .loop .inv) (at-start .pre) (c .before .loop-test .taken)
 
 same-length : tie.Need-same-length Inv-loop μ-loop
 same-length c = (c .before .loop .inv .same-length)
 
 returns : tie.Need-returns Inv-loop μ-loop
-returns c = copying-ends ((c .before .loop .inv)) _ ((c .loop-test .left)) refl
+returns c = copying-ends (c .before .loop .inv) _ (c .loop-test .left) refl
 
 pub write-word-spec : {M : Type 1} → statement M
 write-word-spec =

@@ -69,7 +69,8 @@ same-length-2 : tie.Need-same-length-2 Inv-loop μ-loop
 same-length-2 c =
     let at-loop = c .before .before in
     let at-begin = at-loop .before .before .before .before .before .before .before .before .before .before .before .before in
-    let (_, _, _, path-ids-length) = at-loop .loop .inv in path-ids-length ∙ at-begin .begin .ensures .same-path-ids
+    let (_, _, _, path-ids-length) = at-loop .loop .inv in
+    path-ids-length ∙ at-begin .begin .ensures .same-path-ids
 
 returns : tie.Need-returns Inv-loop μ-loop
 returns c =

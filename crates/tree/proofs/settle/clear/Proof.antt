@@ -22,7 +22,8 @@ slice-write-labels-2 c = simp length-set (omega (arith, c .before .loop .inv .so
 loop-again : tie.Need-loop-again Inv-loop μ-loop
 loop-again c =
     let at-start = c .before .before in
-    let (n-bound, labels-room) = at-start .pre in clearing-goes-on (c .before .loop .inv) n-bound labels-room (c .loop-test .taken)
+    let (n-bound, labels-room) = at-start .pre in
+    clearing-goes-on (c .before .loop .inv) n-bound labels-room (c .loop-test .taken)
 
 same-length : tie.Need-same-length Inv-loop μ-loop
 same-length c = c .before .loop .inv .so-far .same-length
