@@ -16,6 +16,9 @@ OFTEN, SHORT = 3, 12
 # Terms that get a name where they stand often, and the names.
 TERMS = {"wordsOf": "words", "planAt": "plan", "planOfVid": "vid-plan", "graphOf": "graph"}
 TERM = re.compile(r"\((%s) (?:[^()]|\([^()]*\))*\)" % "|".join(TERMS))
+# What stands before a term that is no argument.
+HEADS = ("(", ",", ";", "{", "=", ".")
+OPERATORS = {"in", "∙", "≡", "+", "-", "*", "/", "<", "≤", "∷", "++", ":"}
 RESERVED = {"as": "taken-as", "in": "taken-in", "at": "place", "record": "the-record", "module": "the-module"}
 # Fields that say nothing of what is read there.
 STEPS = {"now", "pre", "args", "loop", "given", "last", "before", "kept"}
@@ -31,9 +34,14 @@ def spelled_out(body):
         names[name] = names[base] + steps
         rest = rest[match.end() :]
     for name, chain in list(names.items())[1:]:
-        rest = re.sub(WORD % re.escape(name) + r"(?! \.[a-zκ])", f"({chain})", rest)
-        rest = re.sub(WORD % re.escape(name), chain, rest)
+        rest = re.sub(WORD % re.escape(name), lambda match: chain if is_head(match) else f"({chain})", rest)
     return rest.strip()
+
+
+def is_head(match):
+    """Whether the fields after a word are its own: in `f x .ensures` they are those of `f x`."""
+    before = match.string[: match.start()].split()
+    return match.string[match.end() : match.end() + 2] == " ." and (not before or before[-1].endswith(HEADS) or before[-1] in OPERATORS)
 
 
 def value_name(path):

@@ -63,7 +63,7 @@ module _ {net hops : List ℕ} {b count : ℕ} {rows : List ℕ}
     marked-length : length marked ≡ length rows
     marked-length = length-set rows (slotOf index a) place
 
-    pub rows-length : length rows′ ≡ length rows
+    rows-length : length rows′ ≡ length rows
     rows-length = ap length (A .words-are) ∙ length-spliced marked place (egressRowBy labels hops b n) (omega (arith, row-length, marked-length, R .size)) ∙ marked-length
 
     -- A place before the row.
@@ -108,7 +108,7 @@ module _ {net hops : List ℕ} {b count : ℕ} {rows : List ℕ}
               ∙ H .each x y;
         }
 
-    pub row-added : EgressRowsKept net hops b (count + 1) rows′
+    row-added : EgressRowsKept net hops b (count + 1) rows′
     row-added = record {
       size = omega (arith, rows-length, R .size);
       begins = λ index′ a′ h k i d. begins index′ a′ h k i d (same-or-not (slotOf index′ a′) (slotOf index a));
@@ -137,15 +137,19 @@ module _ {net hops : List ℕ} {b count : ℕ} {rows : List ℕ}
         held index′ a′ h k i d (inr e) =
             let f = same index′ a′ h k i e in old-row index′ a′ h k i e (λ z. d (f ∙ z)) f
 
-    pub row-kept : Kept rows rows′
+    row-kept : Kept rows rows′
     row-kept = record { same-length = rows-length; still = λ i h d z. go i h d z (same-or-not i (slotOf index a)) }
       where
         go : (i : ℕ) → i < 1024 → (getD rows i 0 ≡ 0 → ⊥) → getD rows′ i 0 ≡ 0 → (i ≡ slotOf index a) ⊎ (i ≡ slotOf index a → ⊥) → ⊥
         go i h d z (inl e) = omega (arith, ap (λ (x : ℕ). getD rows′ x 0) e, at-slot)
         go i h d z (inr e) = d (sym (at-place i (omega arith) e) ∙ z)
 
-    pub row-there : HasEgressRow rows′ index a
+    row-there : HasEgressRow rows′ index a
     row-there = record { there = omega (arith, at-slot) }
+
+    -- All that is said of a row that was made.
+    pub row-made : EgressRowsKept net hops b (count + 1) rows′ × Kept rows rows′ × HasEgressRow rows′ index a
+    row-made = (row-added, row-kept, row-there)
 
 -- A row of the network of a plan is the plan's.
 pub plan-row : {p : Plan} {net hops : List ℕ} {b index a : ℕ} {row : List ℕ}

@@ -2,6 +2,7 @@
 use borrow.Author.Needs.{needs}
 use native.Mathlib.Omega.{arith}
 use mathlib.Core.Path.{_≡_, refl}
+use Prim.Native.Nat.{_<_}
 use lib.ListN.{length, length-take}
 use Rattle.listing_parts.specs.Remaining.{partsLeft, Underway}
 use Rattle.listing_parts.specs.laws.RemainingLaws.{part-fits, part-goes-on}
@@ -22,59 +23,67 @@ loop-holds c =
     let (underway, _) = at-start .pre in
     (underway, refl, refl, refl, refl)
 
+abbrev start-of : tie.At-loop Inv-loop μ-loop → tie.Start Inv-loop μ-loop
+start-of c = c .before .before .before .before .before .before .before
+
 next-part-requires : tie.Need-next-part-requires Inv-loop μ-loop
 next-part-requires c κs =
     let at-loop = c .before .before .before .before in
-    let at-start = at-loop .before .before .before .before .before .before .before in
     let (underway, path-ids-length, _, words-length, out-length) = at-loop .loop .inv in
-    let (_, (path-ids-room, words-room, out-room)) = at-start .pre in (
+    let (_, (path-ids-room, words-room, out-room)) = start-of at-loop .pre in (
       underway,
       (omega (arith, path-ids-length, path-ids-room), omega (arith, words-length, words-room), omega (arith, out-length, out-room)),
     )
 
+abbrev next-part-of : tie.After-next Inv-loop μ-loop → tie.After-next-part Inv-loop μ-loop
+next-part-of c = c .before .before .before .before .before .before .before .before .before .before
+
+abbrev loop-of : tie.After-next-part Inv-loop μ-loop → tie.At-loop Inv-loop μ-loop
+loop-of c = c .before .before .before .before .before
+
 slice-reshare-prefix-print : tie.Need-slice-reshare-prefix-print Inv-loop μ-loop
 slice-reshare-prefix-print c =
-    let at-next-part = c .before .before .before .before .before .before .before .before .before .before .before in
-    let at-loop = at-next-part .before .before .before .before .before in
-    let at-start = at-loop .before .before .before .before .before .before .before in
+    let at-next-part = next-part-of (c .before) in
+    let at-loop = loop-of at-next-part in
     let (next-of, _) = at-next-part .next-part .ensures in
-    part-fits (at-start .args .table .now) (at-loop .loop .progress) (c .before .next .given .1) _ next-of
+    part-fits (start-of at-loop .args .table .now) (at-loop .loop .progress) (c .before .next .given .1) _ next-of
 
 slice-aggregate-print : tie.Need-slice-aggregate-print Inv-loop μ-loop
-slice-aggregate-print c =
-    let at-next = c .before .before in
-    let at-next-part = at-next .before .before .before .before .before .before .before .before .before .before in
-    let at-loop = at-next-part .before .before .before .before .before in
-    let at-start = at-loop .before .before .before .before .before .before .before in
-    let (next-of, _) = at-next-part .next-part .ensures in
-    simp length-take (omega (arith, part-fits (at-start .args .table .now) (at-loop .loop .progress) (at-next .next .given .1) _ next-of))
+slice-aggregate-print c = simp length-take (omega (arith, slice-reshare-prefix-print (c .before)))
+
+-- After a part was given the listing is underway still, with fewer parts left.
+part-given : (c : tie.After-next Inv-loop μ-loop) → let at-next-part = next-part-of c in
+    let at-loop = loop-of at-next-part in
+    let args = start-of at-loop .args in
+    let (_, (after, _)) = c .next .given .0 in
+    Underway (args .table .now) after (args .network .now) (at-next-part .next-part .last .1 .1 .1 .1 .0)
+    × (partsLeft (args .table .now) after < partsLeft (args .table .now) (at-loop .loop .progress))
+part-given c =
+    let at-next-part = next-part-of c in
+    let at-loop = loop-of at-next-part in
+    let (_, goes-on) = at-next-part .next-part .ensures in
+    part-goes-on (start-of at-loop .args .table .now) (at-loop .loop .progress) (c .next .given .1) _ _ goes-on
 
 loop-less : tie.Need-loop-less Inv-loop μ-loop
 loop-less c =
-    let at-next = c .before .before .before .before in
-    let at-next-part = at-next .before .before .before .before .before .before .before .before .before .before in
-    let at-loop = at-next-part .before .before .before .before .before in
-    let at-start = at-loop .before .before .before .before .before .before .before in
-    let (_, goes-on) = at-next-part .next-part .ensures in
-    (part-goes-on (at-start .args .table .now) (at-loop .loop .progress) (at-next .next .given .1) _ _ goes-on) .1
+    let (_, fewer-left) = part-given (c .before .before .before .before) in
+    fewer-left
 
 loop-again : tie.Need-loop-again Inv-loop μ-loop
-loop-again c = (
-  let at-next = c .before .before .before .before in
-      let at-next-part = at-next .before .before .before .before .before .before .before .before .before .before in
-      let at-loop = at-next-part .before .before .before .before .before in
-      let at-start = at-loop .before .before .before .before .before .before .before in
-      let (_, goes-on) = at-next-part .next-part .ensures in
-      (part-goes-on (at-start .args .table .now) (at-loop .loop .progress) (at-next .next .given .1) _ _ goes-on) .0,
-  search needs,
-  search needs,
-  search needs,
-  search needs,
-)
+loop-again c =
+    let at-next-part = next-part-of (c .before .before .before .before) in
+    let (underway, _) = part-given (c .before .before .before .before) in
+    let (_, path-ids-length, store-length, words-length, out-length) = loop-of at-next-part .loop .inv in
+    let lengths-kept = at-next-part .next-part .kept in (
+      underway,
+      omega (arith, lengths-kept, path-ids-length),
+      omega (arith, lengths-kept, store-length),
+      omega (arith, lengths-kept, words-length),
+      omega (arith, lengths-kept, out-length),
+    )
 
 pub print-parts-spec : {M : Type 1} → statement M
-print-parts-spec =
-    tie.close
+print-parts-spec = tie.close
     (tie.spec Inv-loop μ-loop loop-holds next-part-requires (λ c. search needs) slice-reshare-prefix-print slice-aggregate-print
     (λ c κs. search needs) (λ c. search needs) (λ c. search needs) (λ c. search needs) (λ c. search needs) (λ c. search needs) loop-less
     loop-again (λ c. search needs) (λ c. search needs) (λ c. search needs) (λ c. search needs) (λ c. search needs) (λ c. search needs))

@@ -83,7 +83,7 @@ module _ {net store : List ℕ} (H : TreesKept net store) (index root : ℕ) (l 
     pub store-length : length after ≡ length store
     store-length = length-set lent (lineWords * line) number ∙ lent-length
 
-    pub labels-inside : place + 320 ≤ length after
+    labels-inside : place + 320 ≤ length after
     labels-inside = omega (arith, store-length, room)
 
     same-lines : linesOf after ≡ linesOf store
@@ -125,10 +125,10 @@ module _ {net store : List ℕ} (H : TreesKept net store) (index root : ℕ) (l 
               ∙ ap (λ (t : List ℕ). labelsOf t line′) lent-is
               ∙ ap (λ (t : List ℕ). take 320 t) (after-spliced store place made (lineWords * line′ + 1) (omega arith) (omega (arith, room)))
 
-    pub new-tree : TreeIn net index root (labelsOf after line)
+    new-tree : TreeIn net index root (labelsOf after line)
     new-tree = subst (λ (t : List ℕ). TreeIn net index root t) (sym new-labels) T
 
-    pub tree-kept : TreesKept net after
+    tree-kept : TreesKept net after
     tree-kept = record {
       has-line = omega (arith, store-length, H .has-line);
       kept = λ index′ root′ a b c m.
@@ -148,6 +148,10 @@ module _ {net store : List ℕ} (H : TreesKept net store) (index root : ℕ) (l 
             let below′ : lineOf (linesOf store) index′ root′ < linesOf store = mod-lt (slotOf index′ root′) (omega (arith, below))
             in subst (λ (t : List ℕ). TreeIn net index′ root′ t) (sym (other-labels (lineOf (linesOf store) index′ root′) below′ d))
             (H .kept index′ root′ a b c (sym (other-mark (lineOf (linesOf store) index′ root′) below′ d) ∙ m))
+
+    -- All that is said of a tree that was made: the store keeps its trees, and this one is there.
+    pub tree-added : TreesKept net after × ((place + 320 ≤ length after) × TreeIn net index root (labelsOf after line))
+    tree-added = (tree-kept, (labels-inside, new-tree))
 
 -- The labels as a reader is lent them, from `place` to `place + 320`.
 pub lent-tree : {net : List ℕ} {index root : ℕ} (store : List ℕ) (place : ℕ)

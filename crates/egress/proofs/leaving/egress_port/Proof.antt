@@ -1,5 +1,6 @@
 -- `egress::leaving::egress_port` goes from the bridge towards the root until a hop comes to `b`. Assumes nothing.
 use native.Mathlib.Omega.{arith}
+use mathlib.Core.Path.{_≡_}
 use Rattle.measures.specs.laws.MeasureLaws.{no-path, a-path, differ, agree}
 use Rattle.labels.specs.Labels.{labelAt}
 use Rattle.egress.specs.laws.WalkingLaws.{Walking, no-way, walking-starts, walking-inside, fewer-hops, walking-goes-on, walking-finds, walking-ends}
@@ -31,17 +32,22 @@ loop-holds c =
     let (walkable-from, _, _) = at-start .pre in
     walking-starts _ _ _ _ walkable-from (a-path (at-cost-at .cost-at .ensures) (c .before .is-no-path .ensures) (c .if1 .left))
 
+abbrev start-of : tie.At-loop Inv-loop μ-loop → tie.Start Inv-loop μ-loop
+start-of c = c .before .before .before .before .before .before
+
 hops-at-requires : tie.Need-hops-at-requires Inv-loop μ-loop
 hops-at-requires c κs =
-    let at-start = c .before .before .before .before .before .before in
-    let (_, labels-room, _) = at-start .pre in
+    let (_, labels-room, _) = start-of c .pre in
     omega (arith, walking-inside (c .loop .inv), labels-room)
+
+-- Where the walk goes on, hops are left.
+hops-left : (c : tie.Then2 Inv-loop μ-loop) → c .before .before .hops-at .result .0 ≡ 0 → ⊥
+hops-left c = differ (c .before .differs .ensures) (c .if2 .taken)
 
 next-number-requires : tie.Need-next-number-requires Inv-loop μ-loop
 next-number-requires c κs =
     let at-loop = c .before .before .before in
-    let at-start = at-loop .before .before .before .before .before .before in
-    let (_, labels-room, _) = at-start .pre in
+    let (_, labels-room, _) = start-of at-loop .pre in
     omega (arith, walking-inside (at-loop .loop .inv), labels-room)
 
 mul-result : tie.Need-mul-result Inv-loop μ-loop
@@ -52,50 +58,37 @@ mul-result c =
 shared-slice-read-result : tie.Need-shared-slice-read-result Inv-loop μ-loop
 shared-slice-read-result c =
     let at-loop = c .before .before .before .before .before .before in
-    let at-start = at-loop .before .before .before .before .before .before in
-    let (_, _, hops-room) = at-start .pre in
+    let (_, _, hops-room) = start-of at-loop .pre in
     omega (arith, walking-inside (at-loop .loop .inv), hops-room)
 
 returns-2 : tie.Need-returns-2 Inv-loop μ-loop
 returns-2 c =
     let at-next-number = c .before .before in
-    let at-if2 = at-next-number .before in
-    let at-differs = at-if2 .before in
-    let at-hops-at = at-differs .before in
+    let at-hops-at = at-next-number .before .before .before in
     let at-loop = at-hops-at .before in
-    walking-finds (at-loop .loop .inv) (at-hops-at .hops-at .ensures) (differ (at-differs .differs .ensures) (at-if2 .if2 .taken)) _
+    walking-finds (at-loop .loop .inv) (at-hops-at .hops-at .ensures) (hops-left (at-next-number .before)) _
     (at-next-number .next-number .ensures) (c .before .if3 .taken)
 
-cast-c : tie.Need-cast-c Inv-loop μ-loop
-cast-c c =
-    let at-if2 = c .before .before in
-    let at-differs = at-if2 .before in
-    let at-hops-at = at-differs .before in
+-- The walk goes on to the next bridge.
+walks-on : (c : tie.Else3 Inv-loop μ-loop) → let args = start-of (c .before .before .before .before .before) .args in
+    Walking (args .labels .now) (args .hops .now) (args .b) (args .d) (c .before .next-number .result)
+walks-on c =
+    let at-hops-at = c .before .before .before .before in
     let at-loop = at-hops-at .before in
-    omega (
-      arith,
-      walking-inside
-          (walking-goes-on (at-loop .loop .inv) (at-hops-at .hops-at .ensures) (differ (at-differs .differs .ensures) (at-if2 .if2 .taken)) _
-          (c .before .next-number .ensures) (c .if3 .left)),
-    )
+    walking-goes-on (at-loop .loop .inv) (at-hops-at .hops-at .ensures) (hops-left (c .before .before)) _ (c .before .next-number .ensures)
+    (c .if3 .left)
+
+cast-c : tie.Need-cast-c Inv-loop μ-loop
+cast-c c = omega (arith, walking-inside (walks-on c))
 
 loop-less : tie.Need-loop-less Inv-loop μ-loop
 loop-less c =
-    let at-if2 = c .before .before in
-    let at-differs = at-if2 .before in
-    let at-hops-at = at-differs .before in
+    let at-hops-at = c .before .before .before .before in
     let at-loop = at-hops-at .before in
-    fewer-hops (at-loop .loop .inv) (at-hops-at .hops-at .ensures) (differ (at-differs .differs .ensures) (at-if2 .if2 .taken)) _
-    (c .before .next-number .ensures)
+    fewer-hops (at-loop .loop .inv) (at-hops-at .hops-at .ensures) (hops-left (c .before .before)) _ (c .before .next-number .ensures)
 
 loop-again : tie.Need-loop-again Inv-loop μ-loop
-loop-again c =
-    let at-if2 = c .before .before in
-    let at-differs = at-if2 .before in
-    let at-hops-at = at-differs .before in
-    let at-loop = at-hops-at .before in
-    walking-goes-on (at-loop .loop .inv) (at-hops-at .hops-at .ensures) (differ (at-differs .differs .ensures) (at-if2 .if2 .taken)) _
-    (c .before .next-number .ensures) (c .if3 .left)
+loop-again c = walks-on c
 
 returns-3 : tie.Need-returns-3 Inv-loop μ-loop
 returns-3 c =
@@ -104,7 +97,6 @@ returns-3 c =
     walking-ends (at-loop .loop .inv) (at-hops-at .hops-at .ensures) (agree (c .before .differs .ensures) (c .if2 .left))
 
 pub egress-port-spec : {M : Type 1} → statement M
-egress-port-spec =
-    tie.close
+egress-port-spec = tie.close
     (tie.spec Inv-loop μ-loop cost-at-requires (λ c κs. search needs) returns loop-holds hops-at-requires (λ c κs. search needs)
     next-number-requires mul-result shared-slice-read-result returns-2 cast-c loop-less loop-again returns-3)

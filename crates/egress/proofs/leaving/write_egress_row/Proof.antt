@@ -20,8 +20,8 @@ loop-holds c =
 egress-port-requires : tie.Need-egress-port-requires Inv-loop μ-loop
 egress-port-requires c κs =
     let at-start = c .before .before .before .before .before in
-    let (the-walkable, labels-room, hops-room, _) = at-start .pre in
-    (record { count = (at-start .args .n); walkable = the-walkable; inside = (c .loop-test .taken) }, labels-room, hops-room)
+    let (labels-walkable, labels-room, hops-room, _) = at-start .pre in
+    (record { count = at-start .args .n; walkable = labels-walkable; inside = c .loop-test .taken }, labels-room, hops-room)
 
 slice-write-egress-rows : tie.Need-slice-write-egress-rows Inv-loop μ-loop
 slice-write-egress-rows c =
@@ -40,7 +40,6 @@ returns : tie.Need-returns Inv-loop μ-loop
 returns c = rowing-ends (c .before .loop .inv) (c .loop-test .left)
 
 pub write-egress-row-spec : {M : Type 1} → statement M
-write-egress-row-spec =
-    tie.close
+write-egress-row-spec = tie.close
     (tie.spec Inv-loop μ-loop loop-holds egress-port-requires (λ c. search needs) (λ c. search needs) slice-write-egress-rows
     (λ c. search needs) (λ c. search needs) loop-again same-length returns)

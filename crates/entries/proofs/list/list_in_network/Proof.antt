@@ -19,22 +19,27 @@ hop-ports-requires c κs =
       omega (arith, bridges-in-table table-network, few-bridges (table-network .checked)),
     )
 
+abbrev start-of : tie.After-hop-ports → tie.Start
+start-of c = c .before .before .before .before .before .before .before
+
+abbrev hop-ports-of : tie.After-rising-ports → tie.After-hop-ports
+hop-ports-of c = c .before .before .before .before
+
+abbrev rising-ports-of : tie.After-keep-egress-rows → tie.After-rising-ports
+rising-ports-of c = c .before .before .before .before .before .before
+
 rising-ports-requires : tie.Need-rising-ports-requires
 rising-ports-requires c κs =
     let at-hop-ports = c .before .before .before in
-    let at-start = at-hop-ports .before .before .before .before .before .before .before in
+    let at-start = start-of at-hop-ports in
     let (table-network, b-bound, _, _, _) = at-start .pre in
-    let checked = table-network .checked in (
-      in-range table-network (at-start .args .b) b-bound (at-hop-ports .hop-ports .ensures),
-      few-bridges checked,
-      omega (arith, few-bridges checked),
-      omega (arith, few-bridges checked),
-    )
+    let few = few-bridges (table-network .checked) in
+    (in-range table-network (at-start .args .b) b-bound (at-hop-ports .hop-ports .ensures), few, omega (arith, few), omega (arith, few))
 
 keep-egress-rows-requires : tie.Need-keep-egress-rows-requires
 keep-egress-rows-requires c κs =
-    let at-hop-ports = c .before .before .before .before .before .before .before .before .before in
-    let at-start = at-hop-ports .before .before .before .before .before .before .before in
+    let at-hop-ports = hop-ports-of (c .before .before .before .before .before) in
+    let at-start = start-of at-hop-ports in
     let (table-network, b-bound, path-ids-room, trees-kept, _) = at-start .pre in (
       hops-ready table-network (at-start .args .b) b-bound (at-hop-ports .hop-ports .ensures) (omega arith),
       path-ids-room,
@@ -45,20 +50,19 @@ keep-egress-rows-requires c κs =
 
 slice-aggregate-whole-list-2 : tie.Need-slice-aggregate-whole-list-2
 slice-aggregate-whole-list-2 c =
-    let at-rising-ports = c .before .before .before .before .before .before .before .before .before .before .before .before .before in
-    let (_, rising-ports-bound) = at-rising-ports .rising-ports .ensures in
+    let (_, rising-ports-bound) = rising-ports-of (c .before .before .before .before .before .before .before) .rising-ports .ensures in
     simp length-take (omega (arith, rising-ports-bound))
 
 whole-list-requires : tie.Need-whole-list-requires
 whole-list-requires c κs =
     let at-keep-egress-rows = c .before .before .before .before .before .before .before .before in
-    let at-rising-ports = at-keep-egress-rows .before .before .before .before .before .before in
-    let at-hop-ports = at-rising-ports .before .before .before .before in
-    let at-start = at-hop-ports .before .before .before .before .before .before .before in
+    let at-rising-ports = rising-ports-of at-keep-egress-rows in
+    let at-hop-ports = hop-ports-of at-rising-ports in
+    let at-start = start-of at-hop-ports in
     let (table-network, b-bound, _, _, words-room) = at-start .pre in
     let (egress-rows-ready, _) = at-keep-egress-rows .keep-egress-rows .ensures in
     let (rising-ports, _) = at-rising-ports .rising-ports .ensures in (
-      ((table-network .checked), egress-rows-ready .places, b-bound),
+      (table-network .checked, egress-rows-ready .places, b-bound),
       whole-room table-network (at-start .args .b) b-bound (at-hop-ports .hop-ports .ensures) rising-ports egress-rows-ready
           (at-start .args .words .now) words-room,
     )
@@ -67,9 +71,9 @@ returns : tie.Need-returns
 returns c =
     let at-whole-list = c .before .before in
     let at-keep-egress-rows = at-whole-list .before .before .before .before .before .before .before .before .before in
-    let at-rising-ports = at-keep-egress-rows .before .before .before .before .before .before in
-    let at-hop-ports = at-rising-ports .before .before .before .before in
-    let at-start = at-hop-ports .before .before .before .before .before .before .before in
+    let at-rising-ports = rising-ports-of at-keep-egress-rows in
+    let at-hop-ports = hop-ports-of at-rising-ports in
+    let at-start = start-of at-hop-ports in
     let (table-network, b-bound, _, _, _) = at-start .pre in
     let (rising-ports, _) = at-rising-ports .rising-ports .ensures in
     let (egress-rows-ready, trees-kept) = at-keep-egress-rows .keep-egress-rows .ensures in (
@@ -79,8 +83,7 @@ returns c =
     )
 
 pub list-in-network-spec : {M : Type 1} → statement M
-list-in-network-spec =
-    tie.close
+list-in-network-spec = tie.close
     (tie.spec (λ c. search needs) hop-ports-requires (λ c. search needs) (λ c. search needs) rising-ports-requires (λ c. search needs)
     (λ c. search needs) keep-egress-rows-requires (λ c. search needs) (λ c. search needs) slice-aggregate-whole-list-2 whole-list-requires
     (λ c. search needs) (λ c. search needs) (λ c. search needs) returns)

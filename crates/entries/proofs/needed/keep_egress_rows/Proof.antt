@@ -9,7 +9,7 @@ use Rattle.verdict.specs.laws.CheckedLaws.{bridges-counted, few-bridges}
 use Rattle.network.specs.Store.{TreesKept}
 use Rattle.network.specs.laws.NetworkLaws.{bridges-in-table, is-network}
 use Rattle.egress.specs.laws.RowLaws.{kept-all}
-use Rattle.entries.specs.laws.NeededLaws.{index-fits, member-fits, member-silent, member-index, row-of, transmitter-has, silent, KeepingMembers, members-start, members-room, members-go-on, members-end}
+use Rattle.entries.specs.laws.NeededLaws.{index-fits, member-fits, member-silent, member-index, indexFor, row-of, transmitter-has, silent, KeepingMembers, members-start, members-room, members-go-on, members-end}
 use Rattle.entries.proofs.needed.keep_egress_rows.Statement.{statement}
 use Rattle.entries.proofs.needed.keep_egress_rows.Tie as tie
 
@@ -26,6 +26,12 @@ keep-own-egress-rows-requires c κs =
     let at-start = c .before .before .before .before .before .before .before .before .before in
     at-start .pre
 
+abbrev own-rows-of : tie.At-loop Inv-loop μ-loop → tie.After-keep-own-egress-rows Inv-loop μ-loop
+own-rows-of c = c .before .before .before .before .before .before .before
+
+abbrev start-of : tie.At-loop Inv-loop μ-loop → tie.Start Inv-loop μ-loop
+start-of c = own-rows-of c .before .before .before .before .before .before .before .before .before .before
+
 loop-holds : tie.Need-loop-holds Inv-loop μ-loop
 loop-holds c =
     let at-keep-own-egress-rows = c .before .before .before .before .before .before in
@@ -37,16 +43,12 @@ loop-holds c =
 
 member-requires : tie.Need-member-requires Inv-loop μ-loop
 member-requires c κs =
-    let at-start =
-    c .before .before .before .before .before .before .before .before .before .before .before .before .before .before .before .before .before .before .before in
-    let (hops-ready, _, _, _) = at-start .pre in
+    let (hops-ready, _, _, _) = start-of (c .before .before) .pre in
     (hops-ready .table-network .checked .whole, c .if1 .taken)
 
 transmitter-index-requires : tie.Need-transmitter-index-requires Inv-loop μ-loop
 transmitter-index-requires c κs =
-    let at-start =
-    c .before .before .before .before .before .before .before .before .before .before .before .before .before .before .before .before .before .before .before .before .before in
-    let (hops-ready, _, _, _) = at-start .pre in
+    let (hops-ready, _, _, _) = start-of (c .before .before .before .before) .pre in
     hops-ready .table-network .checked .whole
 
 loop-again : tie.Need-loop-again Inv-loop μ-loop
@@ -54,9 +56,7 @@ loop-again c =
     let at-member = c .before .before .before in
     let at-if1 = at-member .before in
     let at-loop = at-if1 .before .before in
-    let at-start =
-    at-loop .before .before .before .before .before .before .before .before .before .before .before .before .before .before .before .before .before in
-    let (hops-ready, _, _, _) = at-start .pre in
+    let (hops-ready, _, _, _) = start-of at-loop .pre in
     let (keeping-members, path-ids-length, store-length, trees-kept) = at-loop .loop .inv in (
       members-go-on hops-ready keeping-members (at-if1 .if1 .taken) (keeping-members .held) (kept-all _)
           (silent
@@ -70,43 +70,46 @@ loop-again c =
 
 cast-keep-egress-row : tie.Need-cast-keep-egress-row Inv-loop μ-loop
 cast-keep-egress-row c =
-    let at-start =
-    c .before .before .before .before .before .before .before .before .before .before .before .before .before .before .before .before .before .before .before .before .before .before .before in
-    let (hops-ready, _, _, _) = at-start .pre in
+    let (hops-ready, _, _, _) = start-of (c .before .before .before .before .before .before) .pre in
     omega (arith, hops-ready .known, few-bridges (hops-ready .table-network .checked))
+
+-- The index of a member that transmits is that of its VID.
+index-of-member : (c : tie.Else2 Inv-loop μ-loop) → let at-loop = c .before .before .before .before .before .before in
+    let (hops-ready, _, _, _) = start-of at-loop .pre in
+    c .before .transmitter-index .result ≡ indexFor (hops-ready .table-network .checked) (at-loop .loop .j)
+index-of-member c =
+    let at-member = c .before .before .before in
+    let at-if1 = at-member .before in
+    let at-loop = at-if1 .before .before in
+    let (hops-ready, _, _, _) = start-of at-loop .pre in
+    member-index (hops-ready .table-network .checked) (at-loop .loop .j) (at-if1 .if1 .taken) _ (at-member .member .ensures) _
+    (c .before .transmitter-index .ensures) (c .if2 .left)
 
 keep-egress-row-requires : tie.Need-keep-egress-row-requires Inv-loop μ-loop
 keep-egress-row-requires c κs =
-    let at-if2 = c .before .before .before in
-    let at-transmitter-index = at-if2 .before in
-    let at-member = at-transmitter-index .before .before in
+    let at-member = c .before .before .before .before .before .before in
     let at-if1 = at-member .before in
     let at-loop = at-if1 .before .before in
-    let at-path-ids = at-loop .before .before .before .before .before .before in
-    let at-start = at-path-ids .before .before .before .before .before .before .before .before .before .before .before in
-    let table-network = hops-ready .table-network in
-    let (hops-ready, path-ids-room, _, _) = at-start .pre in
+    let (hops-ready, path-ids-room, _, _) = start-of at-loop .pre in
     let (keeping-members, path-ids-length, _, trees-kept) = at-loop .loop .inv in
+    let table-network = hops-ready .table-network in
     let checked = table-network .checked in
     let if1-taken = at-if1 .if1 .taken in
-    let j-at-loop = at-loop .loop .j in
-    let fits = index-fits checked j-at-loop if1-taken in
-    let index-is =
-    member-index checked j-at-loop if1-taken _ (at-member .member .ensures) _ (at-transmitter-index .transmitter-index .ensures)
-    (at-if2 .if2 .left) in (
+    let (index-least, index-bound) = index-fits checked (at-loop .loop .j) if1-taken in
+    let index-is = index-of-member (c .before .before .before) in (
       (
         is-network table-network,
         hops-ready .has-hops,
-        omega (arith, path-ids-room, path-ids-length, at-path-ids .path-ids .given),
+        omega (arith, path-ids-room, path-ids-length, own-rows-of at-loop .keep-own-egress-rows .kept),
         trees-kept,
       ),
       (
-        omega (arith, fits .0, index-is),
-        omega (arith, fits .1, index-is),
+        omega (arith, index-least, index-is),
+        omega (arith, index-bound, index-is),
         omega (
           arith,
           ap (λ (m : Member). m .bridge) (at-member .member .ensures),
-          member-fits checked j-at-loop if1-taken .bridge-known,
+          member-fits checked (at-loop .loop .j) if1-taken .bridge-known,
           bridges-counted checked,
           bridges-in-table table-network,
         ),
@@ -116,52 +119,41 @@ keep-egress-row-requires c κs =
     )
 
 loop-again-2 : tie.Need-loop-again-2 Inv-loop μ-loop
-loop-again-2 c = (
-  let at-keep-egress-row = c .before .before .before .before .before .before in
-      let at-if2 = at-keep-egress-row .before .before .before .before in
-      let at-transmitter-index = at-if2 .before in
-      let at-member = at-transmitter-index .before .before in
-      let at-if1 = at-member .before in
-      let at-loop = at-if1 .before .before in
-      let at-start =
-      at-loop .before .before .before .before .before .before .before .before .before .before .before .before .before .before .before .before .before in
-      let (hops-ready, _, _, _) = at-start .pre in
-      let (keeping-members, _, _, _) = at-loop .loop .inv in
-      let (egress-rows-kept, ((kept, has-egress-row, keep-egress-row-bound), _)) = at-keep-egress-row .keep-egress-row .ensures in
+loop-again-2 c =
+    let at-keep-egress-row = c .before .before .before .before .before .before in
+    let at-member = at-keep-egress-row .before .before .before .before .before .before .before in
+    let at-if1 = at-member .before in
+    let at-loop = at-if1 .before .before in
+    let (hops-ready, _, _, _) = start-of at-loop .pre in
+    let (keeping-members, path-ids-length, store-length, _) = at-loop .loop .inv in
+    let (egress-rows-kept, ((kept, has-egress-row, keep-egress-row-bound), trees-kept)) = at-keep-egress-row .keep-egress-row .ensures in
+    let lengths-kept = at-keep-egress-row .keep-egress-row .kept in (
       members-go-on hops-ready keeping-members (at-if1 .if1 .taken) egress-rows-kept kept
-      (transmitter-has
-      (row-of
-      (member-index (hops-ready .table-network .checked) (at-loop .loop .j) (at-if1 .if1 .taken) _ (at-member .member .ensures) _
-      (at-transmitter-index .transmitter-index .ensures) (at-if2 .if2 .left))
-      (ap (λ (m : Member). m .bridge) (at-member .member .ensures)) has-egress-row))
-      keep-egress-row-bound,
-  search needs,
-  search needs,
-  let at-keep-egress-row = c .before .before .before .before .before .before in
-      let (_, (_, trees-kept)) = at-keep-egress-row .keep-egress-row .ensures in
+          (transmitter-has
+          (row-of (index-of-member (at-keep-egress-row .before .before .before .before))
+          (ap (λ (m : Member). m .bridge) (at-member .member .ensures)) has-egress-row))
+          keep-egress-row-bound,
+      omega (arith, lengths-kept, path-ids-length),
+      omega (arith, lengths-kept, store-length),
       trees-kept,
-)
+    )
 
 same-length-3 : tie.Need-same-length-3 Inv-loop μ-loop
 same-length-3 c =
     let at-loop = c .before .before in
-    let at-keep-own-egress-rows = at-loop .before .before .before .before .before .before .before in
     let (keeping-members, _, _, _) = at-loop .loop .inv in
-    let (_, ((kept, _, _), _)) = at-keep-own-egress-rows .keep-own-egress-rows .ensures in
+    let (_, ((kept, _, _), _)) = own-rows-of at-loop .keep-own-egress-rows .ensures in
     keeping-members .kept .same-length ∙ kept .same-length
 
 returns : tie.Need-returns Inv-loop μ-loop
 returns c =
     let at-loop = c .before .before in
-    let at-start =
-    at-loop .before .before .before .before .before .before .before .before .before .before .before .before .before .before .before .before .before in
-    let (hops-ready, _, _, _) = at-start .pre in
+    let (hops-ready, _, _, _) = start-of at-loop .pre in
     let (keeping-members, _, _, trees-kept) = at-loop .loop .inv in
     (members-end hops-ready keeping-members (c .if1 .left), trees-kept)
 
 pub keep-egress-rows-spec : {M : Type 1} → statement M
-keep-egress-rows-spec =
-    tie.close
+keep-egress-rows-spec = tie.close
     (tie.spec Inv-loop μ-loop keep-own-egress-rows-requires loop-holds member-requires (λ c. search needs) transmitter-index-requires
     (λ c. search needs) (λ c. search needs) loop-again cast-keep-egress-row keep-egress-row-requires (λ c. search needs)
     (λ c. search needs) loop-again-2 (λ c. search needs) (λ c. search needs) same-length-3 returns)

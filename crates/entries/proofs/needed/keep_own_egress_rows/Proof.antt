@@ -20,6 +20,9 @@ Inv-loop table s network hops b path-ids₀ store₀ rows₀ count₀ k₀ path-
 abbrev μ-loop : tie.MeasureT-loop
 μ-loop table s network hops b path-ids₀ store₀ rows₀ count₀ k₀ path-ids store rows count k = s .vids - k
 
+abbrev start-of : tie.At-loop Inv-loop μ-loop → tie.Start Inv-loop μ-loop
+start-of c = c .before .before .before .before .before .before .before
+
 loop-holds : tie.Need-loop-holds Inv-loop μ-loop
 loop-holds c =
     let at-start = c .before .before .before .before .before .before in
@@ -28,14 +31,12 @@ loop-holds c =
 
 vid-requires : tie.Need-vid-requires Inv-loop μ-loop
 vid-requires c κs =
-    let at-start = c .before .before .before .before .before .before .before .before .before in
-    let (hops-ready, _, _, _) = at-start .pre in
+    let (hops-ready, _, _, _) = start-of (c .before .before) .pre in
     (hops-ready .table-network .checked .whole, c .if1 .taken)
 
 cast-keep-egress-row : tie.Need-cast-keep-egress-row Inv-loop μ-loop
 cast-keep-egress-row c =
-    let at-start = c .before .before .before .before .before .before .before .before .before .before in
-    let (hops-ready, _, _, _) = at-start .pre in
+    let (hops-ready, _, _, _) = start-of (c .before .before .before) .pre in
     omega (arith, hops-ready .known, few-bridges (hops-ready .table-network .checked))
 
 keep-egress-row-requires : tie.Need-keep-egress-row-requires Inv-loop μ-loop
@@ -43,47 +44,37 @@ keep-egress-row-requires c κs =
     let at-vid = c .before .before .before in
     let at-if1 = at-vid .before in
     let at-loop = at-if1 .before .before in
-    let at-start = at-loop .before .before .before .before .before .before .before in
-    let (hops-ready, path-ids-room, _, _) = at-start .pre in
+    let (hops-ready, path-ids-room, _, _) = start-of at-loop .pre in
     let (keeping-own, path-ids-length, _, trees-kept) = at-loop .loop .inv in
     let table-network = hops-ready .table-network in
-    let if1-taken = at-if1 .if1 .taken in (
+    let fits = vid-fits (table-network .checked) (at-loop .loop .k) (at-if1 .if1 .taken) in
+    let index-is = ap (λ (v : Vid). v .index) (at-vid .vid .ensures) in (
       (is-network table-network, hops-ready .has-hops, omega (arith, path-ids-room, path-ids-length), trees-kept),
       (
-        omega (
-          arith,
-          ap (λ (v : Vid). v .index) (at-vid .vid .ensures),
-          (vid-fits (table-network .checked) (at-loop .loop .k) if1-taken) .least-index,
-        ),
-        omega (
-          arith,
-          ap (λ (v : Vid). v .index) (at-vid .vid .ensures),
-          (vid-fits (table-network .checked) (at-loop .loop .k) if1-taken) .greatest-index,
-        ),
+        omega (arith, index-is, fits .least-index),
+        omega (arith, index-is, fits .greatest-index),
         omega (arith, hops-ready .known, bridges-in-table table-network),
-        own-room hops-ready keeping-own if1-taken,
+        own-room hops-ready keeping-own (at-if1 .if1 .taken),
         keeping-own .held,
       ),
     )
 
 loop-again : tie.Need-loop-again Inv-loop μ-loop
-loop-again c = (
-  let at-keep-egress-row = c .before .before .before .before .before .before in
-      let at-vid = at-keep-egress-row .before .before .before .before in
-      let at-if1 = at-vid .before in
-      let at-loop = at-if1 .before .before in
-      let at-start = at-loop .before .before .before .before .before .before .before in
-      let (hops-ready, _, _, _) = at-start .pre in
-      let (keeping-own, _, _, _) = at-loop .loop .inv in
-      let (egress-rows-kept, ((kept, has-egress-row, keep-egress-row-bound), _)) = at-keep-egress-row .keep-egress-row .ensures in
+loop-again c =
+    let at-keep-egress-row = c .before .before .before .before .before .before in
+    let at-vid = at-keep-egress-row .before .before .before .before in
+    let at-if1 = at-vid .before in
+    let at-loop = at-if1 .before .before in
+    let (hops-ready, _, _, _) = start-of at-loop .pre in
+    let (keeping-own, path-ids-length, store-length, _) = at-loop .loop .inv in
+    let (egress-rows-kept, ((kept, has-egress-row, keep-egress-row-bound), trees-kept)) = at-keep-egress-row .keep-egress-row .ensures in
+    let lengths-kept = at-keep-egress-row .keep-egress-row .kept in (
       own-goes-on hops-ready keeping-own (at-if1 .if1 .taken) egress-rows-kept kept
-      (row-of (ap (λ (v : Vid). v .index) (at-vid .vid .ensures)) refl has-egress-row) keep-egress-row-bound,
-  search needs,
-  search needs,
-  let at-keep-egress-row = c .before .before .before .before .before .before in
-      let (_, (_, trees-kept)) = at-keep-egress-row .keep-egress-row .ensures in
+          (row-of (ap (λ (v : Vid). v .index) (at-vid .vid .ensures)) refl has-egress-row) keep-egress-row-bound,
+      omega (arith, lengths-kept, path-ids-length),
+      omega (arith, lengths-kept, store-length),
       trees-kept,
-)
+    )
 
 same-length-3 : tie.Need-same-length-3 Inv-loop μ-loop
 same-length-3 c =
@@ -94,18 +85,12 @@ same-length-3 c =
 returns : tie.Need-returns Inv-loop μ-loop
 returns c =
     let at-loop = c .before .before in
-    let at-start = at-loop .before .before .before .before .before .before .before in
     let (keeping-own, _, _, trees-kept) = at-loop .loop .inv in
-    let (hops-ready, _, _, _) = at-start .pre in (
-      keeping-own .held,
-      (
-        (keeping-own .kept, own-ends hops-ready keeping-own (c .if1 .left) .0, own-ends hops-ready keeping-own (c .if1 .left) .1),
-        trees-kept,
-      ),
-    )
+    let (hops-ready, _, _, _) = start-of at-loop .pre in
+    let (own-egress-rows, count-bound) = own-ends hops-ready keeping-own (c .if1 .left) in
+    (keeping-own .held, ((keeping-own .kept, own-egress-rows, count-bound), trees-kept))
 
 pub keep-own-egress-rows-spec : {M : Type 1} → statement M
-keep-own-egress-rows-spec =
-    tie.close
+keep-own-egress-rows-spec = tie.close
     (tie.spec Inv-loop μ-loop loop-holds vid-requires cast-keep-egress-row keep-egress-row-requires (λ c. search needs) (λ c. search needs)
     loop-again (λ c. search needs) (λ c. search needs) same-length-3 returns)

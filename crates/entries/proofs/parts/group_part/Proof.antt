@@ -26,7 +26,7 @@ member-words-requires c κs =
     let at-loop = c .before .before .before in
     let at-start = at-loop .before .before .before .before .before in
     let ((checked, egress-rows-inside, index-least, index-bound, vid-bound), _) = at-start .pre in (
-      (checked, egress-rows-inside, index-least, index-bound, vid-bound, (c .before .if1 .taken)),
+      (checked, egress-rows-inside, index-least, index-bound, vid-bound, c .before .if1 .taken),
       appending-room (at-loop .loop .inv) (c .before .if1 .taken),
     )
 
@@ -49,6 +49,5 @@ returns c =
     appending-ends (at-loop .loop .inv) (c .if1 .left)
 
 pub group-part-spec : {M : Type 1} → statement M
-group-part-spec =
-    tie.close
+group-part-spec = tie.close
     (tie.spec Inv-loop μ-loop loop-holds member-words-requires (λ c. search needs) (λ c. search needs) loop-again same-length returns)

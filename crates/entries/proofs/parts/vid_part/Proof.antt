@@ -1,6 +1,8 @@
 -- `entries::parts::vid_part` writes the individual entries and then the group entries. Assumes nothing.
 use native.Mathlib.Omega.{arith}
+use Prim.Native.Nat.{_+_, _≤_, _<_}
 use mathlib.Core.Path.{ap}
+use lib.ListN.{length}
 use Rattle.rule.specs.Words.{wordsOf}
 use Rattle.rule.specs.Records.{Vid}
 use Rattle.readers.specs.Readers.{vidValues}
@@ -11,66 +13,59 @@ use borrow.Author.Needs.{needs}
 use Rattle.entries.proofs.parts.vid_part.Statement.{statement}
 use Rattle.entries.proofs.parts.vid_part.Tie as tie
 
+abbrev start-of : tie.After-vid → tie.Start
+start-of c = c .before .before .before .before .before
+
+-- What a VID may say: its index is one of 16, and its number fits.
+index-fits : (c : tie.After-vid) → (1 ≤ c .vid .result .index) × (c .vid .result .index ≤ 16) × (c .vid .result .vid < 4096)
+index-fits c =
+    let at-start = start-of c in
+    let ((checked, _, _, k-bound), _) = at-start .pre in
+    let fits = vid-fits checked (at-start .args .k) k-bound in
+    let index-is = ap (λ (v : Vid). v .index) (c .vid .ensures) in (
+      omega (arith, index-is, fits .least-index),
+      omega (arith, index-is, fits .greatest-index),
+      omega (arith, ap (λ (v : Vid). v .vid) (c .vid .ensures), fits .greatest),
+    )
+
 egress-row-at-requires : tie.Need-egress-row-at-requires
 egress-row-at-requires c κs =
-    let at-start = c .before .before .before .before .before in
+    let ((checked, egress-rows-inside, b-bound, _), _) = start-of c .pre in
+    let (index-least, index-bound, _) = index-fits c in
+    (index-least, index-bound, omega (arith, b-bound, few-bridges checked), egress-rows-inside .has-slots)
+
+-- The bridge's row for the VID is inside the list of rows.
+row-inside : (c : tie.After-egress-row-at) → c .egress-row-at .result + 64 ≤ length (start-of (c .before) .args .egress-rows .now)
+row-inside c =
+    let at-start = start-of (c .before) in
     let ((checked, egress-rows-inside, b-bound, k-bound), _) = at-start .pre in
-    let f = vid-fits checked (at-start .args .k) k-bound in (
-      omega (arith, ap (λ (v : Vid). v .index) (c .vid .ensures), f .least-index),
-      omega (arith, ap (λ (v : Vid). v .index) (c .vid .ensures), f .greatest-index),
-      omega (arith, b-bound, few-bridges checked),
-      (egress-rows-inside .has-slots),
-    )
+    row-place-inside checked egress-rows-inside (at-start .args .k) k-bound (at-start .args .b) b-bound (vidValues (c .before .vid .result))
+    (c .before .vid .ensures) (c .egress-row-at .result) (c .egress-row-at .ensures)
 
 mul-individual-words : tie.Need-mul-individual-words
-mul-individual-words c =
-    let at-start = c .before .before .before .before .before .before in
-    let ((checked, egress-rows-inside, b-bound, k-bound), _) = at-start .pre in
-    omega (
-      arith,
-      row-place-inside checked egress-rows-inside (at-start .args .k) k-bound (at-start .args .b) b-bound
-          (vidValues (c .before .vid .result)) (c .before .vid .ensures) (c .egress-row-at .result) (c .egress-row-at .ensures),
-    )
+mul-individual-words c = omega (arith, row-inside c)
 
 sub-individual-words : tie.Need-sub-individual-words
-sub-individual-words c =
-    let at-start = c .before .before .before .before .before .before in
-    let ((checked, egress-rows-inside, b-bound, k-bound), _) = at-start .pre in
-    omega (
-      arith,
-      row-place-inside checked egress-rows-inside (at-start .args .k) k-bound (at-start .args .b) b-bound
-          (vidValues (c .before .vid .result)) (c .before .vid .ensures) (c .egress-row-at .result) (c .egress-row-at .ensures),
-    )
+sub-individual-words c = omega (arith, row-inside c)
 
 part-individual-words-start : tie.Need-part-individual-words-start
-part-individual-words-start c =
-    let at-start = c .before .before .before .before .before .before in
-    let ((checked, egress-rows-inside, b-bound, k-bound), _) = at-start .pre in
-    omega (
-      arith,
-      row-place-inside checked egress-rows-inside (at-start .args .k) k-bound (at-start .args .b) b-bound
-          (vidValues (c .before .vid .result)) (c .before .vid .ensures) (c .egress-row-at .result) (c .egress-row-at .ensures),
-    )
+part-individual-words-start c = omega (arith, row-inside c)
 
 individual-words-requires : tie.Need-individual-words-requires
 individual-words-requires c κs =
     let at-egress-row-at = c .before .before in
     let at-vid = at-egress-row-at .before in
-    let at-start = at-vid .before .before .before .before .before in
-    let ((checked, egress-rows-inside, b-bound, k-bound), room) = at-start .pre in
-    let egress-row-at-result = at-egress-row-at .egress-row-at .result in
-    let vid-ensures = at-vid .vid .ensures in
-    let k = at-start .args .k in (
+    let at-start = start-of at-vid in
+    let ((checked, _, _, _), room) = at-start .pre in
+    let (_, _, vid-bound) = index-fits at-vid in (
       (
         checked,
-        row-lent (at-start .args .egress-rows .now) egress-row-at-result (at-start .args .s .bridges)
-            (row-place-inside checked egress-rows-inside k k-bound (at-start .args .b) b-bound (vidValues (at-vid .vid .result)) vid-ensures
-            egress-row-at-result (at-egress-row-at .egress-row-at .ensures))
-            (few-bridges checked),
-        omega (arith, ap (λ (v : Vid). v .vid) vid-ensures, vid-fits checked k k-bound .greatest),
+        row-lent (at-start .args .egress-rows .now) (at-egress-row-at .egress-row-at .result) (at-start .args .s .bridges)
+            (row-inside at-egress-row-at) (few-bridges checked),
+        vid-bound,
       ),
       first-room (wordsOf (at-start .args .table .now)) (at-start .args .s) (at-start .args .egress-rows .now) (at-start .args .ports .now)
-          (at-start .args .b) k (vidValues (at-vid .vid .result)) vid-ensures egress-row-at-result (at-egress-row-at .egress-row-at .ensures)
+          (at-start .args .b) (at-start .args .k) _ (at-vid .vid .ensures) _ (at-egress-row-at .egress-row-at .ensures)
           (at-start .args .words .now) (at-start .args .at) room,
     )
 
@@ -79,21 +74,13 @@ group-part-requires c κs =
     let at-individual-words = c .before .before .before in
     let at-egress-row-at = at-individual-words .before .before .before in
     let at-vid = at-egress-row-at .before in
-    let at-start = at-vid .before .before .before .before .before in
-    let ((checked, egress-rows-inside, _, k-bound), room) = at-start .pre in
-    let vid-ensures = at-vid .vid .ensures in
-    let f = vid-fits checked (at-start .args .k) k-bound in (
-      (
-        checked,
-        egress-rows-inside,
-        omega (arith, ap (λ (v : Vid). v .index) vid-ensures, f .least-index),
-        omega (arith, ap (λ (v : Vid). v .index) vid-ensures, f .greatest-index),
-        omega (arith, ap (λ (v : Vid). v .vid) vid-ensures, f .greatest),
-      ),
+    let at-start = start-of at-vid in
+    let ((checked, egress-rows-inside, _, _), room) = at-start .pre in
+    let (index-least, index-bound, vid-bound) = index-fits at-vid in (
+      (checked, egress-rows-inside, index-least, index-bound, vid-bound),
       second-room (wordsOf (at-start .args .table .now)) (at-start .args .s) (at-start .args .egress-rows .now) (at-start .args .ports .now)
-          (at-start .args .b) (at-start .args .k) (vidValues (at-vid .vid .result)) vid-ensures (at-egress-row-at .egress-row-at .result)
-          (at-egress-row-at .egress-row-at .ensures) (at-start .args .words .now) (at-start .args .at) room _
-          (at-individual-words .individual-words .result) (at-individual-words .individual-words .ensures),
+          (at-start .args .b) (at-start .args .k) _ (at-vid .vid .ensures) _ (at-egress-row-at .egress-row-at .ensures)
+          (at-start .args .words .now) (at-start .args .at) room _ _ (at-individual-words .individual-words .ensures),
     )
 
 returns : tie.Need-returns
@@ -102,16 +89,11 @@ returns c =
     let at-individual-words = at-group-part .before .before .before .before in
     let at-egress-row-at = at-individual-words .before .before .before in
     let at-vid = at-egress-row-at .before in
-    let at-start = at-vid .before .before .before .before .before in
-    let (_, room) = at-start .pre in
-    vid-written (wordsOf (at-start .args .table .now)) (at-start .args .s) (at-start .args .egress-rows .now) (at-start .args .ports .now)
-    (at-start .args .b) (at-start .args .k) (vidValues (at-vid .vid .result)) (at-vid .vid .ensures)
-    (at-egress-row-at .egress-row-at .result) (at-egress-row-at .egress-row-at .ensures) (at-start .args .words .now) (at-start .args .at)
-    room _ (at-individual-words .individual-words .result) (at-individual-words .individual-words .ensures)
-    (at-group-part .group-part .ensures)
+    let (_, room) = start-of at-vid .pre in
+    vid-written _ _ _ _ _ _ _ (at-vid .vid .ensures) _ (at-egress-row-at .egress-row-at .ensures) _ _ room _ _
+    (at-individual-words .individual-words .ensures) (at-group-part .group-part .ensures)
 
 pub vid-part-spec : {M : Type 1} → statement M
-vid-part-spec =
-    tie.close
+vid-part-spec = tie.close
     (tie.spec (λ c κs. search needs) egress-row-at-requires mul-individual-words sub-individual-words part-individual-words-start
     (λ c. search needs) individual-words-requires group-part-requires (λ c. search needs) returns)

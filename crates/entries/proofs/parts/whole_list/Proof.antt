@@ -25,7 +25,7 @@ vid-part-requires c κs =
     let at-loop = c .before .before .before in
     let at-start = at-loop .before .before .before .before .before in
     let ((checked, egress-rows-inside, b-bound), _) = at-start .pre in
-    ((checked, egress-rows-inside, b-bound, (c .before .if1 .taken)), appending-room (at-loop .loop .inv) (c .before .if1 .taken))
+    ((checked, egress-rows-inside, b-bound, c .before .if1 .taken), appending-room (at-loop .loop .inv) (c .before .if1 .taken))
 
 loop-again : tie.Need-loop-again Inv-loop μ-loop
 loop-again c =
@@ -46,6 +46,5 @@ returns c =
     appending-ends (at-loop .loop .inv) (c .if1 .left)
 
 pub whole-list-spec : {M : Type 1} → statement M
-whole-list-spec =
-    tie.close
+whole-list-spec = tie.close
     (tie.spec Inv-loop μ-loop loop-holds vid-part-requires (λ c. search needs) (λ c. search needs) loop-again same-length returns)

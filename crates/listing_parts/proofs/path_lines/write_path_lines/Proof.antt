@@ -37,10 +37,13 @@ loop-holds c =
     let (_, (_, trees-kept, _)) = at-start .pre in
     (few-starts _ 764 _ _ 0, trees-kept, refl, refl)
 
+abbrev start-of : tie.At-loop Inv-loop μ-loop → tie.Start Inv-loop μ-loop
+start-of c = c .before .before .before .before .before .before .before
+
 loop-again : tie.Need-loop-again Inv-loop μ-loop
 loop-again c =
     let at-loop = c .before .before .before in
-    let at-start = at-loop .before .before .before .before .before .before .before in
+    let at-start = start-of at-loop in
     let (appending-few, trees-kept, path-ids-length, store-length) = at-loop .loop .inv in
     let (_, (_, _, out-room)) = at-start .pre in (
       few-goes-on appending-few (omega (arith, out-room)) (c .before .if1 .taken)
@@ -58,89 +61,84 @@ kept-tree-requires c κs =
     let at-if1 = c .before .before .before in
     let at-loop = at-if1 .before .before in
     let at-vid = at-loop .before in
-    let at-start = at-vid .before .before .before .before .before .before in
+    let at-start = start-of at-loop in
     let ((table-network, k-bound, _), (path-ids-room, _, _)) = at-start .pre in
-    let (_, trees-kept, path-ids-length, _) = at-loop .loop .inv in (
-      (
-        is-network table-network,
-        index-fits table-network (at-start .args .k) k-bound _ (at-vid .vid .ensures) .0,
-        index-fits table-network (at-start .args .k) k-bound _ (at-vid .vid .ensures) .1,
-        omega (arith, at-if1 .if1 .taken, bridges-in-table table-network),
-      ),
+    let (_, trees-kept, path-ids-length, _) = at-loop .loop .inv in
+    let (index-least, index-bound) = index-fits table-network (at-start .args .k) k-bound _ (at-vid .vid .ensures) in (
+      (is-network table-network, index-least, index-bound, omega (arith, at-if1 .if1 .taken, bridges-in-table table-network)),
       (omega (arith, path-ids-room, path-ids-length), trees-kept),
     )
+
+abbrev turn-of : tie.After-kept-tree Inv-loop μ-loop → tie.Then1 Inv-loop μ-loop
+turn-of c = c .before .before .before .before
 
 add-write-path-line : tie.Need-add-write-path-line Inv-loop μ-loop
 add-write-path-line c =
     let at-kept-tree = c .before .before .before .before in
-    let at-loop = at-kept-tree .before .before .before .before .before .before in
-    let at-good = at-loop .before .before .before .before .before .before .before in
+    let at-loop = turn-of at-kept-tree .before .before in
     let (_, (kept-tree-bound, _)) = at-kept-tree .kept-tree .ensures in
     let (_, _, _, store-length) = at-loop .loop .inv in
-    omega (arith, kept-tree-bound, c .before .store .given, store-length, at-good .good)
+    omega (arith, kept-tree-bound, c .before .store .given, store-length, start-of at-loop .good)
 
 mul-write-path-line : tie.Need-mul-write-path-line Inv-loop μ-loop
 mul-write-path-line c =
     let at-kept-tree = c .before .before .before .before in
-    let at-loop = at-kept-tree .before .before .before .before .before .before in
-    let at-good = at-loop .before .before .before .before .before .before .before in
+    let at-loop = turn-of at-kept-tree .before .before in
     let (_, (kept-tree-bound, _)) = at-kept-tree .kept-tree .ensures in
     let (_, _, _, store-length) = at-loop .loop .inv in
-    omega (arith, kept-tree-bound, c .before .store .given, store-length, at-good .good)
+    omega (arith, kept-tree-bound, c .before .store .given, store-length, start-of at-loop .good)
+
+abbrev kept-tree-of : tie.After-write-path-line-arg Inv-loop μ-loop → tie.After-kept-tree Inv-loop μ-loop
+kept-tree-of c = c .before .before .before .before .before .before
 
 cast-write-path-line : tie.Need-cast-write-path-line Inv-loop μ-loop
 cast-write-path-line c =
-    let at-start =
-    c .before .before .before .before .before .before .before .before .before .before .before .before .before .before .before .before .before .before .before in
-    let ((table-network, _, from-bound), _) = at-start .pre in
+    let at-if1 = turn-of (kept-tree-of c) in
+    let ((table-network, _, from-bound), _) = start-of (at-if1 .before .before) .pre in
     omega (arith, from-bound, few-bridges (table-network .checked))
 
 cast-write-path-line-2 : tie.Need-cast-write-path-line-2 Inv-loop μ-loop
 cast-write-path-line-2 c =
-    let at-if1 = c .before .before .before .before .before .before .before .before .before .before in
-    let at-start = at-if1 .before .before .before .before .before .before .before .before .before in
-    let ((table-network, _, _), _) = at-start .pre in
+    let at-if1 = turn-of (kept-tree-of c) in
+    let ((table-network, _, _), _) = start-of (at-if1 .before .before) .pre in
     omega (arith, at-if1 .if1 .taken, few-bridges (table-network .checked))
 
 write-path-line-requires : tie.Need-write-path-line-requires Inv-loop μ-loop
 write-path-line-requires c κs =
-    let at-kept-tree = c .before .before .before .before .before .before .before in
-    let at-if1 = at-kept-tree .before .before .before .before in
+    let at-kept-tree = kept-tree-of (c .before) in
+    let at-if1 = turn-of at-kept-tree in
     let at-loop = at-if1 .before .before in
-    let at-vid = at-loop .before in
-    let at-start = at-vid .before .before .before .before .before .before in
+    let at-start = start-of at-loop in
     let (_, (kept-tree-bound, tree-in)) = at-kept-tree .kept-tree .ensures in
     let ((table-network, k-bound, from-bound), (_, _, out-room)) = at-start .pre in
     let (appending-few, _, _, _) = at-loop .loop .inv in (
       simp (length-take, length-drop) (omega (arith, kept-tree-bound)),
-      pair-followable table-network (at-start .args .k) k-bound _ (at-vid .vid .ensures) (at-start .args .from) (at-loop .loop .to)
+      pair-followable table-network (at-start .args .k) k-bound _ (at-loop .before .vid .ensures) (at-start .args .from) (at-loop .loop .to)
           from-bound (at-if1 .if1 .taken) (lent-tree _ (at-kept-tree .kept-tree .result) tree-in),
       few-room appending-few (omega (arith, out-room)) (at-if1 .if1 .taken),
     )
 
 loop-again-2 : tie.Need-loop-again-2 Inv-loop μ-loop
-loop-again-2 c = (
-  let at-write-path-line = c .before .before in
-      let at-kept-tree = at-write-path-line .before .before .before .before .before .before .before .before in
-      let at-if2 = at-kept-tree .before .before .before in
-      let at-if1 = at-if2 .before in
-      let at-loop = at-if1 .before .before in
-      let at-vid = at-loop .before in
-      let at-start = at-vid .before .before .before .before .before .before in
-      let (appending-few, _, _, _) = at-loop .loop .inv in
-      let ((table-network, k-bound, from-bound), (_, _, out-room)) = at-start .pre in
-      let (_, (_, tree-in)) = at-kept-tree .kept-tree .ensures in
-      let (written, write-path-line-bound) = at-write-path-line .write-path-line .ensures in
+loop-again-2 c =
+    let at-write-path-line = c .before .before in
+    let at-kept-tree = kept-tree-of (at-write-path-line .before .before) in
+    let at-if1 = turn-of at-kept-tree in
+    let at-loop = at-if1 .before .before in
+    let at-start = start-of at-loop in
+    let (appending-few, _, path-ids-length, store-length) = at-loop .loop .inv in
+    let ((table-network, k-bound, from-bound), (_, _, out-room)) = at-start .pre in
+    let (trees-kept, (_, tree-in)) = at-kept-tree .kept-tree .ensures in
+    let lengths-kept = at-kept-tree .kept-tree .kept in
+    let (written, write-path-line-bound) = at-write-path-line .write-path-line .ensures in (
       few-goes-on appending-few (omega (arith, out-room)) (at-if1 .if1 .taken)
-      (pair-written table-network (at-start .args .k) k-bound _ (at-vid .vid .ensures) (at-start .args .from) (at-loop .loop .to)
-      from-bound (at-if1 .if1 .taken) (lent-tree _ (at-kept-tree .kept-tree .result) tree-in) (at-if2 .if2 .left) written)
-      write-path-line-bound,
-  let at-kept-tree = c .before .before .before .before .before .before .before .before .before .before in
-      let (trees-kept, _) = at-kept-tree .kept-tree .ensures in
+          (pair-written table-network (at-start .args .k) k-bound _ (at-loop .before .vid .ensures) (at-start .args .from) (at-loop .loop .to)
+          from-bound (at-if1 .if1 .taken) (lent-tree _ (at-kept-tree .kept-tree .result) tree-in)
+          (at-kept-tree .before .before .before .if2 .left) written)
+          write-path-line-bound,
       trees-kept,
-  search needs,
-  search needs,
-)
+      omega (arith, lengths-kept, path-ids-length),
+      omega (arith, lengths-kept, store-length),
+    )
 
 same-length-3 : tie.Need-same-length-3 Inv-loop μ-loop
 same-length-3 c =
@@ -151,7 +149,7 @@ same-length-3 c =
 returns : tie.Need-returns Inv-loop μ-loop
 returns c =
     let at-loop = c .before .before in
-    let at-start = at-loop .before .before .before .before .before .before .before in
+    let at-start = start-of at-loop in
     let (appending-few, trees-kept, _, _) = at-loop .loop .inv in
     let ((table-network, _, _), (_, _, out-room)) = at-start .pre in (
       trees-kept,
@@ -160,8 +158,7 @@ returns c =
     )
 
 pub write-path-lines-spec : {M : Type 1} → statement M
-write-path-lines-spec =
-    tie.close
+write-path-lines-spec = tie.close
     (tie.spec Inv-loop μ-loop vid-requires loop-holds (λ c. search needs) (λ c. search needs) loop-again kept-tree-requires
     add-write-path-line mul-write-path-line (λ c. search needs) (λ c. search needs) (λ c. search needs) cast-write-path-line
     cast-write-path-line-2 write-path-line-requires (λ c. search needs) (λ c. search needs) loop-again-2 (λ c. search needs)

@@ -6,24 +6,12 @@ use Rattle.network.proofs.plan_tree.tree_of_table.Statement.{statement}
 use Rattle.network.proofs.plan_tree.tree_of_table.Tie as tie
 
 tree-in-network-requires : tie.Need-tree-in-network-requires
-tree-in-network-requires c κs = (
-  let at-make-network = c .before .before .before .before in
-      is-network (at-make-network .make-network .ensures),
-  let at-start = c .before .before .before .before .before .before .before .before .before in
-      let (_, index-least, _, _, _, _) = at-start .pre in
-      index-least,
-  let at-start = c .before .before .before .before .before .before .before .before .before in
-      let (_, _, index-bound, _, _, _) = at-start .pre in
-      index-bound,
-  let at-make-network = c .before .before .before .before in
-      let at-start = at-make-network .before .before .before .before .before in
-      let (_, _, _, root-bound, _, _) = at-start .pre in
-      omega (arith, bridges-in-table (at-make-network .make-network .ensures), root-bound),
-  let at-start = c .before .before .before .before .before .before .before .before .before in
-      let (_, _, _, _, labels-room, _) = at-start .pre in
-      labels-room,
-  search needs,
-)
+tree-in-network-requires c κs =
+    let at-make-network = c .before .before .before .before in
+    let at-start = at-make-network .before .before .before .before .before in
+    let (_, index-least, index-bound, root-bound, labels-room, _) = at-start .pre in
+    let made = at-make-network .make-network .ensures in
+    (is-network made, index-least, index-bound, omega (arith, bridges-in-table made, root-bound), labels-room, search needs)
 
 returns : tie.Need-returns
 returns c =
@@ -32,7 +20,6 @@ returns c =
     at-tree-in-network .tree-in-network .ensures .of-plan _ (at-make-network .make-network .ensures .network)
 
 pub tree-of-table-spec : {M : Type 1} → statement M
-tree-of-table-spec =
-    tie.close
+tree-of-table-spec = tie.close
     (tie.spec (λ c. search needs) (λ c κs. search needs) (λ c. search needs) (λ c. search needs) tree-in-network-requires
     (λ c. search needs) returns)
