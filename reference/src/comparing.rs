@@ -7,6 +7,7 @@ use std::{fs, io};
 
 use crate::arguments::Arguments;
 use crate::generate::stream::{case, Case};
+use crate::program::Program;
 use crate::words::to_text;
 
 /// Both answers to one table.
@@ -65,6 +66,19 @@ pub fn absent(program: &str, required: bool) -> Option<ExitCode> {
     }
     println!("not built yet: {program}");
     Some(if required { ExitCode::FAILURE } else { ExitCode::SUCCESS })
+}
+
+/// The program that the arguments name, started for a comparer, under another
+/// command where one is given; or the exit code where it is not there.
+pub fn started(name: &'static str, arguments: &Arguments) -> Result<Program, ExitCode> {
+    let program = arguments.required("program");
+    if let Some(code) = absent(program, arguments.has("require")) {
+        return Err(code);
+    }
+    let mut words: Vec<&str> = arguments.text("under").unwrap_or("").split_whitespace().collect();
+    words.push(program);
+    let refused = |why| arguments.refuse(&format!("{program} does not start: {why}"));
+    Ok(Program::start(name, &words).unwrap_or_else(refused))
 }
 
 /// Holds the stored case of a program, its `stdin` and `stdout`, to what is made

@@ -1,9 +1,32 @@
 //! The rules that the calls follow: those of document 01, or those of document
 //! 01 with one deliberate misreading, by which the tests are shown to notice it.
 
-/// Declares the misreadings once: the cases, their list and their descriptions.
+/// The comparers that are tried with misreadings.
+#[derive(Clone, Copy, PartialEq, Eq, Debug)]
+pub enum Comparer {
+    Listing,
+    Check,
+    Calls,
+}
+
+impl Comparer {
+    pub const ALL: [Comparer; 3] = [Comparer::Listing, Comparer::Check, Comparer::Calls];
+
+    /// The name of its program.
+    pub fn name(self) -> &'static str {
+        match self {
+            Comparer::Listing => "compare-listing",
+            Comparer::Check => "compare-check",
+            Comparer::Calls => "compare-calls",
+        }
+    }
+}
+
+/// Declares the misreadings once: the cases, their list, their descriptions, and
+/// the comparers that have to notice each. What none of them notices, only the
+/// properties do.
 macro_rules! misreadings {
-    ($($text:literal $name:ident,)+) => {
+    ($($text:literal $name:ident: [$($comparer:ident),*],)+) => {
         #[derive(Clone, Copy, PartialEq, Eq, Debug)]
         pub enum Misreading { $(#[doc = $text] $name,)+ }
 
@@ -13,101 +36,106 @@ macro_rules! misreadings {
             pub fn description(self) -> &'static str {
                 match self { $(Misreading::$name => $text,)+ }
             }
+
+            pub fn noticed_by(self) -> &'static [Comparer] {
+                match self { $(Misreading::$name => &[$(Comparer::$comparer),*],)+ }
+            }
         }
     };
 }
 
 misreadings! {
     // The four that document 01 names.
-    "identifiers are compared in the order of travel" OrderOfTravel,
-    "the address is masked but not the priority" PriorityNotMasked,
-    "ties are broken by the next hop alone" NextHopAlone,
-    "a link costs the near end's metric" NearEndMetric,
+    "identifiers are compared in the order of travel" OrderOfTravel: [Listing, Calls],
+    "the address is masked but not the priority" PriorityNotMasked: [Listing, Calls],
+    "ties are broken by the next hop alone" NextHopAlone: [Listing, Calls],
+    "a link costs the near end's metric" NearEndMetric: [Listing, Check, Calls],
     // Links and the chosen path.
-    "a link costs the sum of its metrics" SumOfMetrics,
-    "a link costs the lesser of its metrics" LesserMetric,
-    "a half-link alone is used" LoneHalfLinkUsed,
-    "metric 16,777,215 is usable" UnusableUsed,
-    "metric 16,777,214 is unusable" GreatestUsableUnused,
-    "of equal parallel links the higher link number" HigherLinkNumber,
-    "of parallel links the lower link number, whatever the cost" LinkNumberBeforeCost,
-    "of equal parallel links the lower near port" LowerNearPort,
-    "the hop count does not count" HopCountIgnored,
-    "fewest hops before least cost" HopsBeforeCost,
-    "cost and hop count are added together" HopsAddedToCost,
-    "the highest masked PATHID" HighestPathid,
-    "identifiers are sorted before they are masked" SortedBeforeMasking,
-    "identifiers are compared as signed numbers" SignedIdentifiers,
-    "the masks of index 15 and 16 are exchanged" LastMasksExchanged,
-    "the index counts from 0" IndexFromZero,
+    "a link costs the sum of its metrics" SumOfMetrics: [Listing, Check, Calls],
+    "a link costs the lesser of its metrics" LesserMetric: [Listing, Check, Calls],
+    "a half-link alone is used" LoneHalfLinkUsed: [Listing, Check, Calls],
+    "metric 16,777,215 is usable" UnusableUsed: [Listing, Check, Calls],
+    "metric 16,777,214 is unusable" GreatestUsableUnused: [Listing, Check, Calls],
+    "of equal parallel links the higher link number" HigherLinkNumber: [Listing, Calls],
+    "of parallel links the lower link number, whatever the cost" LinkNumberBeforeCost: [Listing, Calls],
+    "of equal parallel links the lower near port" LowerNearPort: [Listing, Calls],
+    "the hop count does not count" HopCountIgnored: [Listing, Calls],
+    "fewest hops before least cost" HopsBeforeCost: [Listing, Calls],
+    "cost and hop count are added together" HopsAddedToCost: [Listing, Calls],
+    "the highest masked PATHID" HighestPathid: [Listing, Calls],
+    "identifiers are sorted before they are masked" SortedBeforeMasking: [Listing, Calls],
+    "identifiers are compared as signed numbers" SignedIdentifiers: [Listing, Calls],
+    "the masks of index 15 and 16 are exchanged" LastMasksExchanged: [Listing, Calls],
+    "the index counts from 0" IndexFromZero: [Listing, Calls],
     // Calls.
-    "12 is given before searching beyond one hop" TwelveBeforeSearching,
-    "13 though the answer just fits" ThirteenThoughItFits,
-    "13 after the part that fits is written" WrittenBeforeThirteen,
-    "words past those written are cleared" RestCleared,
-    "a path to the same bridge needs no known VID" SameBridgeUnchecked,
-    "wide numbers are cut to 16 bits" WideNumbersCut,
-    "12 is given for an unknown name" TwelveForUnknown,
-    "the first hop's cost is given as the path's" InventedCost,
-    "exported path cost gives 13" ExportedThirteen,
-    "a tree gives the first bridge after the root" TreeGivesFirstHop,
+    "12 is given before searching beyond one hop" TwelveBeforeSearching: [Listing, Calls],
+    "13 though the answer just fits" ThirteenThoughItFits: [Calls],
+    "13 after the part that fits is written" WrittenBeforeThirteen: [Calls],
+    "words past those written are cleared" RestCleared: [Calls],
+    "a path to the same bridge needs no known VID" SameBridgeUnchecked: [Calls],
+    "wide numbers are cut to 16 bits" WideNumbersCut: [Calls],
+    "12 is given for an unknown name" TwelveForUnknown: [Calls],
+    "the first hop's cost is given as the path's" InventedCost: [Calls],
+    "exported path cost gives 13" ExportedThirteen: [],
+    "a tree gives the first bridge after the root" TreeGivesFirstHop: [Calls],
     // Entries.
-    "receivers of another VID count" ReceiversOfAnotherVid,
-    "receivers of another I-SID count" ReceiversOfAnotherService,
-    "every bridge is a receiver" EveryBridgeReceives,
-    "T and R are exchanged" TransmitReceiveExchanged,
-    "the port is the far end's" FarEndPort,
-    "a group entry for each receiver" EntryForEachReceiver,
-    "group ports fall" GroupPortsFall,
-    "no group entries at the transmitter" NoneAtTransmitter,
-    "group entries come before individual ones" GroupsFirst,
-    "VIDs come in rising order" VidsRising,
-    "no entries are written" NoEntries,
-    "individual entries to direct neighbours only" NeighboursOnly,
-    "hexadecimal 3 comes before the top bits of SPsourceID" GroupNibblesExchanged,
-    "the I-SID's low octet comes first" ServiceReversed,
-    "kinds 8 and 9 are exchanged" EntryKindsExchanged,
+    "receivers of another VID count" ReceiversOfAnotherVid: [Listing, Calls],
+    "receivers of another I-SID count" ReceiversOfAnotherService: [Listing, Calls],
+    "every bridge is a receiver" EveryBridgeReceives: [Listing, Calls],
+    "T and R are exchanged" TransmitReceiveExchanged: [Listing, Calls],
+    "the port is the far end's" FarEndPort: [Listing, Calls],
+    "a group entry for each receiver" EntryForEachReceiver: [Listing, Calls],
+    "group ports fall" GroupPortsFall: [Listing, Calls],
+    "no group entries at the transmitter" NoneAtTransmitter: [Listing, Calls],
+    "group entries come before individual ones" GroupsFirst: [Listing, Calls],
+    "VIDs come in rising order" VidsRising: [Listing, Calls],
+    "no entries are written" NoEntries: [Listing, Calls],
+    "individual entries to direct neighbours only" NeighboursOnly: [Listing, Calls],
+    "hexadecimal 3 comes before the top bits of SPsourceID" GroupNibblesExchanged: [Listing, Calls],
+    "the I-SID's low octet comes first" ServiceReversed: [Listing, Calls],
+    "kinds 8 and 9 are exchanged" EntryKindsExchanged: [Calls],
     // Lookup.
-    "lookup answers none after n = 0" LookupFirstOnly,
-    "lookup does not compare the VID" LookupIgnoresVid,
-    "lookup counts n over the whole list" LookupCountsAll,
-    "lookup does not see faults after the match" LookupStopsAtMatch,
-    "lookup refuses an empty list" LookupEmptyRefused,
-    "lookup refuses address zero" LookupZeroRefused,
-    // The check.
-    "all tables are refused" AllRefused,
-    "the limit is tested before the zero bits" LimitBeforeZeroBits,
-    "ranges are tested before the limit" RangeBeforeLimit,
-    "of a record's faults the highest counts" HighestFault,
-    "one record over the limit is accepted" OneOverLimit,
-    "a kind may fall" KindMayFall,
-    "2 carries the record before" TwoAtRecordBefore,
-    "a record that is cut off counts as a missing end" CutOffAsMissingEnd,
-    "a missing end carries the last record" MissingEndAtLastRecord,
-    "refusals count bytes instead of words" BytesInsteadOfWords,
-    "the end count includes the end record" EndCountsItself,
-    "words after the end are accepted" WordsAfterEnd,
-    "metric 16,777,215 is out of range" UnusableOutOfRange,
-    "I-SID 255 is in range" ServiceFrom255,
-    "VID 4,095 is in range" VidTo4095,
-    "port 4,096 is in range" PortTo4096,
-    "ECT index 0 is in range" IndexZeroAccepted,
-    "a group address is accepted" GroupAddressAccepted,
-    "a member's VID out of range is 7" MemberVidUnknown,
-    "a half-link may join a bridge to itself" LoopAccepted,
-    "addresses repeat with equal priority only" RepeatWithPriority,
-    "ports repeat across bridges" PortRepeatsAnywhere,
-    "members repeat without regard to the VID" MemberRepeatsWithoutVid,
-    "any second half-link is a mirror" AnyMirror,
-    "a third half-link is accepted" ThirdAccepted,
-    "joined pairs are counted in place of usable links" JoinedPairsCounted,
-    "half-links of unusable links are not counted" UsableHalfLinksCounted,
+    "lookup answers none after n = 0" LookupFirstOnly: [],
+    "lookup does not compare the VID" LookupIgnoresVid: [],
+    "lookup counts n over the whole list" LookupCountsAll: [],
+    "lookup does not see faults after the match" LookupStopsAtMatch: [],
+    "lookup refuses an empty list" LookupEmptyRefused: [],
+    "lookup refuses address zero" LookupZeroRefused: [],
+    // The check. The listing's comparer is given fewer tables than the others: I-SID
+    // 255, VID 4,095 and index 0 are too rare in them.
+    "all tables are refused" AllRefused: [Listing, Check, Calls],
+    "the limit is tested before the zero bits" LimitBeforeZeroBits: [Listing, Check, Calls],
+    "ranges are tested before the limit" RangeBeforeLimit: [Listing, Check, Calls],
+    "of a record's faults the highest counts" HighestFault: [Listing, Check, Calls],
+    "one record over the limit is accepted" OneOverLimit: [Listing, Check, Calls],
+    "a kind may fall" KindMayFall: [Listing, Check, Calls],
+    "2 carries the record before" TwoAtRecordBefore: [Listing, Check, Calls],
+    "a record that is cut off counts as a missing end" CutOffAsMissingEnd: [Listing, Check, Calls],
+    "a missing end carries the last record" MissingEndAtLastRecord: [Listing, Check, Calls],
+    "refusals count bytes instead of words" BytesInsteadOfWords: [Listing, Check, Calls],
+    "the end count includes the end record" EndCountsItself: [Listing, Check, Calls],
+    "words after the end are accepted" WordsAfterEnd: [Listing, Check, Calls],
+    "metric 16,777,215 is out of range" UnusableOutOfRange: [Listing, Check, Calls],
+    "I-SID 255 is in range" ServiceFrom255: [Check, Calls],
+    "VID 4,095 is in range" VidTo4095: [Check, Calls],
+    "port 4,096 is in range" PortTo4096: [Listing, Check, Calls],
+    "ECT index 0 is in range" IndexZeroAccepted: [Check, Calls],
+    "a group address is accepted" GroupAddressAccepted: [Listing, Check, Calls],
+    "a member's VID out of range is 7" MemberVidUnknown: [Listing, Check, Calls],
+    "a half-link may join a bridge to itself" LoopAccepted: [Listing, Check, Calls],
+    "addresses repeat with equal priority only" RepeatWithPriority: [Listing, Check, Calls],
+    "ports repeat across bridges" PortRepeatsAnywhere: [Listing, Check, Calls],
+    "members repeat without regard to the VID" MemberRepeatsWithoutVid: [Listing, Check, Calls],
+    "any second half-link is a mirror" AnyMirror: [Listing, Check, Calls],
+    "a third half-link is accepted" ThirdAccepted: [Listing, Check, Calls],
+    "joined pairs are counted in place of usable links" JoinedPairsCounted: [Listing, Check],
+    "half-links of unusable links are not counted" UsableHalfLinksCounted: [Listing, Check],
     // The listing.
-    "path lines come by from and to before VID" PairsBeforeVids,
-    "none stands at the end of its line" NoneLast,
-    "addresses have upper-case digits" UpperCaseAddresses,
-    "addresses have no leading zeros" ShortAddresses,
-    "a refused table's line gives the kind" RefusedWithKind,
+    "path lines come by from and to before VID" PairsBeforeVids: [Listing],
+    "none stands at the end of its line" NoneLast: [Listing],
+    "addresses have upper-case digits" UpperCaseAddresses: [Listing],
+    "addresses have no leading zeros" ShortAddresses: [Listing],
+    "a refused table's line gives the kind" RefusedWithKind: [Listing],
 }
 
 #[derive(Clone, Copy, Debug)]

@@ -1,10 +1,20 @@
-//! Every misreading makes at least one property fail, and the list of which.
+//! Every misreading makes at least one property fail, and the list of which; and
+//! names every comparer that can notice it.
 
+use reference::call_lines::answer_lines;
+use reference::check_line::check_line;
+use reference::generate::questions::questions;
+use reference::generate::stream::{case, Case};
+use reference::listing::listing;
 use reference::properties::{Setting, ALL};
-use reference::rules::{Misreading, Rules};
+use reference::random::Random;
+use reference::rules::{Comparer, Misreading, Rules};
 
 /// Fewer tables than for the rules as written are enough to meet a misreading.
 const TABLES: u64 = 60;
+
+/// Nearly every misreading that shows in an answer shows in so many tables.
+const COMPARED_TABLES: u64 = 200;
 
 /// Left out here: it takes longer than all others together.
 const LONGEST_PROPERTY: &str = "demand_3_on_largest_plans";
@@ -31,4 +41,32 @@ fn every_misreading_is_caught() {
         }
     }
     assert!(missed.is_empty(), "no property fails for {missed:?}");
+}
+
+/// What a comparer holds against a program's answer to one table.
+fn compared(comparer: Comparer, rules: Rules, Case { number, table, .. }: &Case) -> String {
+    match comparer {
+        Comparer::Listing => listing(rules, table),
+        Comparer::Check => check_line(rules, table),
+        Comparer::Calls => {
+            let questions = questions(table, &mut Random::for_case(!1, *number));
+            answer_lines(rules, table, &questions).concat()
+        }
+    }
+}
+
+/// That a comparer does notice what names it is tried with the programs
+/// themselves; here, that no misreading leaves one out.
+#[test]
+fn every_comparer_that_can_notice_a_misreading_is_named() {
+    for case in (0..COMPARED_TABLES).map(|number| case(1, number)) {
+        for comparer in Comparer::ALL {
+            let as_written = compared(comparer, Rules::AS_WRITTEN, &case);
+            for &misreading in Misreading::ALL {
+                let same = || compared(comparer, Rules::with(misreading), &case) == as_written;
+                let named = misreading.noticed_by().contains(&comparer);
+                assert!(named || same(), "{} can notice {misreading:?}: {}", comparer.name(), case.name);
+            }
+        }
+    }
 }

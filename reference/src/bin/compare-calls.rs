@@ -7,9 +7,8 @@ use std::process::ExitCode;
 
 use reference::arguments::{Arguments, Usage};
 use reference::call_lines::{answer_lines, request, Question};
-use reference::comparing::{absent, Difference, Run};
+use reference::comparing::{started, Difference, Run};
 use reference::generate::questions::questions;
-use reference::program::Program;
 use reference::random::Random;
 
 const USAGE: Usage = Usage {
@@ -20,15 +19,10 @@ const USAGE: Usage = Usage {
 
 fn main() -> ExitCode {
     let arguments = Arguments::of_process(&USAGE);
-    let program = arguments.required("program");
-    if let Some(code) = absent(program, arguments.has("require")) {
-        return code;
-    }
-    let run = Run::of(&arguments);
-    let rules = arguments.rules();
-    let mut probe = match Program::start("compare-calls", &[program]) {
+    let (run, rules) = (Run::of(&arguments), arguments.rules());
+    let mut probe = match started("compare-calls", &arguments) {
         Ok(probe) => probe,
-        Err(why) => arguments.refuse(&format!("{program} does not start: {why}")),
+        Err(code) => return code,
     };
     let mut asked = 0;
     let code = run.compare("compare-calls", &mut |case| {

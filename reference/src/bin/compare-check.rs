@@ -5,12 +5,11 @@
 //! damage of several, and with `--longest` every truncation of the longest.
 //! `--misread NAME` compares with a misreading, to show that it is noticed.
 
-use std::io;
 use std::process::ExitCode;
 
 use reference::arguments::{Arguments, Usage};
 use reference::check_line::{check_line, framed};
-use reference::comparing::{absent, Difference, Run};
+use reference::comparing::{started, Difference, Run};
 use reference::generate::every::{every_truncation, every_word_damage};
 use reference::generate::valid::{fullest, plan, Size};
 use reference::path::exported_check;
@@ -27,14 +26,10 @@ const USAGE: Usage = Usage {
 
 fn main() -> ExitCode {
     let arguments = Arguments::of_process(&USAGE);
-    let program = arguments.required("program");
-    if let Some(code) = absent(program, arguments.has("require")) {
-        return code;
-    }
-    let run = Run::of(&arguments);
-    let mut probe = match Probe::start(program, &arguments) {
-        Ok(probe) => probe,
-        Err(why) => arguments.refuse(&format!("{program} does not start: {why}")),
+    let (run, rules) = (Run::of(&arguments), arguments.rules());
+    let mut probe = match started("compare-check", &arguments) {
+        Ok(program) => Probe { program, rules, exported: arguments.has("exported") },
+        Err(code) => return code,
     };
     let seeded = run.compare("compare-check", &mut |case| probe.compare(&case.table));
     if seeded != ExitCode::SUCCESS {
@@ -97,14 +92,6 @@ struct Probe {
 }
 
 impl Probe {
-    /// Starts the program, under another command where one is given.
-    fn start(program: &str, arguments: &Arguments) -> io::Result<Probe> {
-        let mut words: Vec<&str> = arguments.text("under").unwrap_or("").split_whitespace().collect();
-        words.push(program);
-        let program = Program::start("compare-check", &words)?;
-        Ok(Probe { program, rules: arguments.rules(), exported: arguments.has("exported") })
-    }
-
     fn expected(&self, table: &[u8]) -> String {
         if self.exported {
             format!("{}\n", exported_check(self.rules, table))

@@ -1,4 +1,5 @@
 //! Compares a listing program with the reference listing, table by table.
+//! `--misread NAME` compares with a misreading, to show that it is noticed.
 
 use std::io::{self, ErrorKind, Write};
 use std::process::{Child, Command, ExitCode, Stdio};
@@ -6,12 +7,10 @@ use std::process::{Child, Command, ExitCode, Stdio};
 use reference::arguments::{Arguments, Usage};
 use reference::comparing::{absent, text_difference, Difference, Run};
 use reference::listing::listing;
-use reference::rules::Rules;
 
 const USAGE: Usage = Usage {
-    text:
-        "compare-listing [--program FILE] [--arguments WORDS] [--seed N] [--first N] [--count N] [--require]",
-    values: &["program", "arguments", "seed", "first", "count"],
+    text: "compare-listing [--program FILE] [--seed N] [--first N] [--count N] [--misread NAME] [--require]",
+    values: &["program", "seed", "first", "count", "misread"],
     flags: &["require"],
 };
 
@@ -21,10 +20,10 @@ fn main() -> ExitCode {
     if let Some(code) = absent(program, arguments.has("require")) {
         return code;
     }
-    let words: Vec<&str> = arguments.text("arguments").unwrap_or("").split_whitespace().collect();
+    let rules = arguments.rules();
     Run::of(&arguments).compare("compare-listing", &mut |case| {
-        let expected = listing(Rules::AS_WRITTEN, &case.table);
-        match listed_by(program, &words, &case.table) {
+        let expected = listing(rules, &case.table);
+        match listed_by(program, &case.table) {
             Ok(text) => text_difference(&expected, &text),
             Err(why) => {
                 Err(Difference { reference: expected.lines().take(3).collect(), tried: why.to_string() })
@@ -35,8 +34,8 @@ fn main() -> ExitCode {
 
 /// What the program prints for a table. Its exit status is left open, but it is
 /// to end by itself.
-fn listed_by(program: &str, words: &[&str], table: &[u8]) -> io::Result<String> {
-    let mut child = Command::new(program).args(words).stdin(Stdio::piped()).stdout(Stdio::piped()).spawn()?;
+fn listed_by(program: &str, table: &[u8]) -> io::Result<String> {
+    let mut child = Command::new(program).stdin(Stdio::piped()).stdout(Stdio::piped()).spawn()?;
     send(&mut child, table)?;
     let output = child.wait_with_output()?;
     if output.status.code().is_none() {

@@ -1,6 +1,6 @@
 //! The listing program of the separate implementation: a table's bytes on
 //! standard input, its listing on standard output. `--misread NAME` lists by a
-//! misreading instead, to show that a comparison notices it.
+//! misreading instead, to show what it changes.
 
 use std::io::{self, Read, Write};
 
