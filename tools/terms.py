@@ -4,6 +4,8 @@ import re
 
 WIDTH = 140
 TACTICS = {"cc", "omega", "rw", "simp", "search", "refl"}
+# What stands between whole terms.
+BETWEEN = {",", ";", "∙", "=", "in"}
 OPENING, CLOSING = {"(": ")", "{": "}"}, {")", "}"}
 
 
@@ -52,7 +54,7 @@ def parsed(text):
         else:
             word += letter
     close_word()
-    return taken_fields(stack[0].items)
+    return without_brackets(stack[0].items)
 
 
 def bare(items):
@@ -67,17 +69,19 @@ def bare(items):
         items[-1:] = group.items
 
 
-def taken_fields(items):
-    """The term with `(h .checked) .whole`, where it stands by itself, written `h .checked .whole`. In `f (h) .0` the field is `f`'s."""
-    out, head = [], True
-    for item in items:
+def without_brackets(items):
+    """The term without the brackets of a path that is no argument: `(h .checked) .whole`, `omega (arith, (h .low))`. In `f (h) .0` the
+    field is `f`'s."""
+    out = []
+    for place, item in enumerate(items):
         if isinstance(item, Group):
-            item.items = taken_fields(item.items)
-        field = isinstance(item, str) and item.startswith(".") and len(item) > 1
-        if field and head and out and isinstance(out[-1], Group) and out[-1].opening == "(" and path(out[-1].items):
-            out[-1:] = out[-1].items
+            item.items = without_brackets(item.items)
+            alone = place == 0 or str(items[place - 1]) in BETWEEN
+            last = place + 1 == len(items) or str(items[place + 1]) in BETWEEN or re.match(r"^\.[\w«]", str(items[place + 1]))
+            if alone and last and item.opening == "(" and not item.tail and path(item.items):
+                out += item.items
+                continue
         out.append(item)
-        head = head and field or len(out) == 1 or str(out[-2]) in (",", "∙", "in", "=", ";")
     return out
 
 

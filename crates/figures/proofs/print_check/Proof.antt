@@ -11,7 +11,7 @@ slice-aggregate-write-all c =
     let at-write-word = at-write-check .before .before .before .before in
     let at-start = at-write-word .before .before .before .before in
     let (_, write-check-bound) = at-write-check .write-check .ensures in
-    simp length-take (omega (arith, (at-write-word .write-word .ensures .end-is), write-check-bound, (at-start .pre)))
+    simp length-take (omega (arith, at-write-word .write-word .ensures .end-is, write-check-bound, at-start .pre))
 
 pub print-check-spec : {M : Type 1} → statement M
 print-check-spec =

@@ -8,7 +8,7 @@ use Rattle.figures.proofs.print_limit.Tie as tie
 slice-aggregate-print-check : tie.Need-slice-aggregate-print-check
 slice-aggregate-print-check c =
     let at-start = c .before .before .before .before .before .before in
-    simp length-take (omega (arith, (c .before .words-read .ensures), (at-start .pre)))
+    simp length-take (omega (arith, c .before .words-read .ensures, at-start .pre))
 
 pub print-limit-spec : {M : Type 1} → statement M
 print-limit-spec =

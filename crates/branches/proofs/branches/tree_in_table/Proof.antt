@@ -32,7 +32,7 @@ returns-2 c =
     let at-named-tree = at-if1 .before .before in
     let at-start = at-named-tree .before .before .before .before .before .before .before in
     let (checked, _) = at-start .pre in
-    (at-labelled-branches .labelled-branches .ensures)
+    at-labelled-branches .labelled-branches .ensures
     ∙ ap (lentToThree (at-start .args .costs .now) (at-start .args .hops .now) (at-start .args .lasts .now))
     (named-branches (planAt (wordsOf (at-start .args .table .now)) (at-start .args .s)) (checked .laws) (at-start .args .vid)
     (at-start .args .from) (at-named-tree .named-tree .ensures) _ (sym (bridges-counted checked)) (at-if1 .if1 .left))

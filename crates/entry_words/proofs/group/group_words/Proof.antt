@@ -50,7 +50,7 @@ write-entry-requires c κs =
           (at-if1 .if1 .taken),
       omega arith,
       vid-bound,
-      omega (arith, (c .wide .ensures)),
+      omega (arith, c .wide .ensures),
     )
 
 ports-again-2 : tie.Need-ports-again-2 Inv-loop μ-loop Inv-ports μ-ports

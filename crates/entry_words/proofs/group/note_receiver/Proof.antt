@@ -14,7 +14,7 @@ returns : tie.Need-returns
 returns c =
     let at-member = c .before .before .before in
     not-noted _ _ _ _ _ (memberValues (at-member .member .result)) (at-member .member .ensures)
-    (sym (not-true _ (c .if1 .taken)) ∙ (c .before .is-receiver .ensures)) _ _
+    (sym (not-true _ (c .if1 .taken)) ∙ c .before .is-receiver .ensures) _ _
 
 shared-slice-read-behind : tie.Need-shared-slice-read-behind
 shared-slice-read-behind c =
@@ -36,7 +36,7 @@ slice-write-behind c =
     let (_, room) = at-start .pre in
     noted-room (wordsOf (at-start .args .table .now)) (at-start .args .s) (at-start .args .egress-row .now)
     (memberValues (at-start .args .m)) (at-start .args .j) (memberValues (at-member .member .result)) (at-member .member .ensures)
-    (sym (not-false _ (c .before .if1 .left)) ∙ (at-is-receiver .is-receiver .ensures)) (at-start .args .behind .now) (at-start .args .at)
+    (sym (not-false _ (c .before .if1 .left)) ∙ at-is-receiver .is-receiver .ensures) (at-start .args .behind .now) (at-start .args .at)
     room
 
 returns-2 : tie.Need-returns-2
@@ -46,10 +46,10 @@ returns-2 c =
     let at-start = at-member .before .before .before .before in
     let (_, room) = at-start .pre in
     noted _ _ _ _ _ (memberValues (at-member .member .result)) (at-member .member .ensures)
-    (sym (not-false _ (c .before .if1 .left)) ∙ (at-is-receiver .is-receiver .ensures)) _ _
+    (sym (not-false _ (c .before .if1 .left)) ∙ at-is-receiver .is-receiver .ensures) _ _
     (noted-room (wordsOf (at-start .args .table .now)) (at-start .args .s) (at-start .args .egress-row .now)
     (memberValues (at-start .args .m)) (at-start .args .j) (memberValues (at-member .member .result)) (at-member .member .ensures)
-    (sym (not-false _ (c .before .if1 .left)) ∙ (at-is-receiver .is-receiver .ensures)) (at-start .args .behind .now)
+    (sym (not-false _ (c .before .if1 .left)) ∙ at-is-receiver .is-receiver .ensures) (at-start .args .behind .now)
     (at-start .args .at) room)
 
 pub note-receiver-spec : {M : Type 1} → statement M

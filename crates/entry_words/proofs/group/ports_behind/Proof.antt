@@ -29,7 +29,7 @@ note-receiver-requires c κs =
     let at-loop = c .before .before .before in
     let at-start = at-loop .before .before .before .before in
     let (checked, egress-row-room, _) = at-start .pre in
-    ((checked, (c .before .if1 .taken), egress-row-room), appending-room (at-loop .loop .inv) (c .before .if1 .taken))
+    ((checked, c .before .if1 .taken, egress-row-room), appending-room (at-loop .loop .inv) (c .before .if1 .taken))
 
 loop-again : tie.Need-loop-again Inv-loop μ-loop
 loop-again c =

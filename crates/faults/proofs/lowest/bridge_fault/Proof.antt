@@ -1,10 +1,11 @@
 -- `faults::lowest::bridge_fault` finds the lowest fault of a record of kind 1: those that it shows by itself, then those left. Assumes nothing.
 use native.Mathlib.Omega.{arith}
-use mathlib.Core.Path.{refl, sym, ap, _∙_}
-use mathlib.Core.Bool.{true, false}
+use mathlib.Core.Path.{_≡_, refl, sym, ap, _∙_}
+use mathlib.Core.Bool.{Bool, true, false, cond}
 use Rattle.rule.specs.Words.{wordsOf}
 use Rattle.table.specs.laws.PositionLaws.{how-many}
 use Rattle.readers.specs.Readers.{bridgeRead}
+use Rattle.faults.specs.Faults.{numbered, faultAt}
 use Rattle.faults.specs.laws.FaultLaws.{ReadAt, read-at, own-fault, found-fault, left-fault}
 use Rattle.rule.specs.Records.{bridgeOf, bridgeLayout}
 use Rattle.readers.specs.declared.bridge.BridgeRead.{BridgeRead}
@@ -34,14 +35,20 @@ returns c =
     own-fault (as-read (at-read .before .before)) (ap (λ (x : BridgeRead). bridgeRead x) (at-read .read .given .1))
     (c .before .own-fault4 .ensures) (c .if1 .taken)
 
-returns-2 : tie.Need-returns-2
-returns-2 c =
-    let at-if1 = c .before .before in
-    let at-own-fault4 = at-if1 .before in
+-- The last test decides: 8 where it repeats a bridge, else no fault.
+by-repeat :
+    (c : tie.After-is-bridge-repeated) (is : Bool) → c .is-bridge-repeated .result ≡ is →
+    let at-start = start (c .before .before .before .before .before .before) in
+    numbered (cond is 8 0) ≡ faultAt (wordsOf (at-start .args .table .now)) (at-start .args .s) bridgeLayout
+by-repeat c is e =
+    let at-own-fault4 = c .before .before in
     let at-read = at-own-fault4 .before .before in
     left-fault (as-read (at-read .before .before)) (ap (λ (x : BridgeRead). bridgeRead x) (at-read .read .given .1))
-    (at-own-fault4 .own-fault4 .ensures) (at-if1 .if1 .left) false false true false false refl refl
-    (sym (c .before .is-bridge-repeated .ensures) ∙ c .if2 .taken) refl refl
+    (at-own-fault4 .own-fault4 .ensures) (c .before .if1 .left) false false is false false refl refl
+    (sym (c .is-bridge-repeated .ensures) ∙ e) refl refl
+
+returns-2 : tie.Need-returns-2
+returns-2 c = by-repeat (c .before) true (c .if2 .taken)
 
 returns-3 : tie.Need-returns-3
 returns-3 c =
@@ -59,13 +66,7 @@ returns-5 c =
     (c .own-fault3 .ensures) (λ z. absurd (omega arith))
 
 returns-6 : tie.Need-returns-6
-returns-6 c =
-    let at-if1 = c .before .before in
-    let at-own-fault4 = at-if1 .before in
-    let at-read = at-own-fault4 .before .before in
-    left-fault (as-read (at-read .before .before)) (ap (λ (x : BridgeRead). bridgeRead x) (at-read .read .given .1))
-    (at-own-fault4 .own-fault4 .ensures) (at-if1 .if1 .left) false false false false false refl refl
-    (sym (c .before .is-bridge-repeated .ensures) ∙ c .if2 .left) refl refl
+returns-6 c = by-repeat (c .before) false (c .if2 .left)
 
 pub bridge-fault-spec : {M : Type 1} → statement M
 bridge-fault-spec =

@@ -1,11 +1,12 @@
 -- `faults::lowest::half_link_fault` finds the lowest fault of a record of kind 2: those that it shows by itself, then those left. Assumes nothing.
 use native.Mathlib.Omega.{arith}
-use mathlib.Core.Path.{refl, sym, ap, _∙_}
-use mathlib.Core.Bool.{true, false}
+use mathlib.Core.Path.{_≡_, refl, sym, ap, _∙_}
+use mathlib.Core.Bool.{Bool, true, false, cond}
 use Rattle.rule.specs.Words.{wordsOf}
 use Rattle.table.specs.Positions.{halfLinksFrom}
 use Rattle.table.specs.laws.PositionLaws.{how-many}
 use Rattle.readers.specs.Readers.{halfLinkRead, halfLinkValues}
+use Rattle.faults.specs.Faults.{numbered, faultAt}
 use Rattle.faults.specs.laws.FaultLaws.{ReadAt, read-at, own-fault, found-fault, left-fault, unknown-ends, read-of-16-bits}
 use Rattle.rule.specs.Records.{halfLinkOf, halfLinkLayout}
 use Rattle.readers.specs.declared.half_link.HalfLinkRead.{HalfLinkRead}
@@ -88,10 +89,13 @@ is-wrong-link-requires c κs =
     let (_, (_, number-keyed)) = start (c .before .before .before .before .before .before .before .before .before .before) .pre in
     (omega (arith, c .half-links-from .ensures), rw (c .half-links-from .ensures) number-keyed)
 
-returns-4 : tie.Need-returns-4
-returns-4 c =
-    let at-half-links-from = c .before .before in
-    let at-if3 = at-half-links-from .before in
+-- The last test decides: 9 where its link is wrong, else no fault.
+by-link :
+    (c : tie.After-is-wrong-link) (is : Bool) → c .is-wrong-link .result ≡ is →
+    let at-start = start (c .before .before .before .before .before .before .before .before .before .before .before) in
+    numbered (cond is 9 0) ≡ faultAt (wordsOf (at-start .args .table .now)) (at-start .args .s) halfLinkLayout
+by-link c is e =
+    let at-if3 = c .before .before in
     let at-is-port-repeated = at-if3 .before in
     let at-if2 = at-is-port-repeated .before in
     let at-names-unknown = at-if2 .before in
@@ -102,14 +106,17 @@ returns-4 c =
     let half-link-read = halfLinkValues (at-read .read .given .0 .0) in
     let (_, (port-keyed, _)) = at-start .pre in
     left-fault (as-read (at-read .before .before)) (ap (λ (x : HalfLinkRead). halfLinkRead x) (at-read .read .given .1))
-    (at-own-fault4 .own-fault4 .ensures) (at-if1 .if1 .left) false false false true false refl
+    (at-own-fault4 .own-fault4 .ensures) (at-if1 .if1 .left) false false false is false refl
     (unknown-ends (wordsOf (at-start .args .table .now)) (at-start .args .s) half-link-read
     ∙ sym (at-names-unknown .names-unknown .ensures)
     ∙ at-if2 .if2 .left)
     (sym (port-repeated port-keyed half-link-read (of-16-bits at-read .1))
     ∙ sym (at-is-port-repeated .is-port-repeated .ensures)
     ∙ at-if3 .if3 .left)
-    (sym (rw (at-half-links-from .half-links-from .ensures) at (c .before .is-wrong-link .ensures)) ∙ c .if4 .taken) refl
+    (sym (rw (c .before .half-links-from .ensures) at (c .is-wrong-link .ensures)) ∙ e) refl
+
+returns-4 : tie.Need-returns-4
+returns-4 c = by-link (c .before) true (c .if4 .taken)
 
 returns-5 : tie.Need-returns-5
 returns-5 c =
@@ -127,27 +134,7 @@ returns-7 c =
     (c .own-fault3 .ensures) (λ z. absurd (omega arith))
 
 returns-8 : tie.Need-returns-8
-returns-8 c =
-    let at-half-links-from = c .before .before in
-    let at-if3 = at-half-links-from .before in
-    let at-is-port-repeated = at-if3 .before in
-    let at-if2 = at-is-port-repeated .before in
-    let at-names-unknown = at-if2 .before in
-    let at-if1 = at-names-unknown .before in
-    let at-own-fault4 = at-if1 .before in
-    let at-read = at-own-fault4 .before .before in
-    let at-start = start (at-read .before .before) in
-    let half-link-read = halfLinkValues (at-read .read .given .0 .0) in
-    let (_, (port-keyed, _)) = at-start .pre in
-    left-fault (as-read (at-read .before .before)) (ap (λ (x : HalfLinkRead). halfLinkRead x) (at-read .read .given .1))
-    (at-own-fault4 .own-fault4 .ensures) (at-if1 .if1 .left) false false false false false refl
-    (unknown-ends (wordsOf (at-start .args .table .now)) (at-start .args .s) half-link-read
-    ∙ sym (at-names-unknown .names-unknown .ensures)
-    ∙ at-if2 .if2 .left)
-    (sym (port-repeated port-keyed half-link-read (of-16-bits at-read .1))
-    ∙ sym (at-is-port-repeated .is-port-repeated .ensures)
-    ∙ at-if3 .if3 .left)
-    (sym (rw (at-half-links-from .half-links-from .ensures) at (c .before .is-wrong-link .ensures)) ∙ c .if4 .left) refl
+returns-8 c = by-link (c .before) false (c .if4 .left)
 
 pub half-link-fault-spec : {M : Type 1} → statement M
 half-link-fault-spec =

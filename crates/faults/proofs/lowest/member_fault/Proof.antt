@@ -1,11 +1,12 @@
 -- `faults::lowest::member_fault` finds the lowest fault of a record of kind 4: those that it shows by itself, then those left. Assumes nothing.
 use native.Mathlib.Omega.{arith}
-use mathlib.Core.Path.{refl, sym, ap, _∙_}
-use mathlib.Core.Bool.{true, false}
+use mathlib.Core.Path.{_≡_, refl, sym, ap, _∙_}
+use mathlib.Core.Bool.{Bool, true, false, cond}
 use Rattle.rule.specs.Words.{wordsOf}
 use Rattle.table.specs.Positions.{membersFrom}
 use Rattle.table.specs.laws.PositionLaws.{how-many}
 use Rattle.readers.specs.Readers.{memberRead, memberValues}
+use Rattle.faults.specs.Faults.{numbered, faultAt}
 use Rattle.faults.specs.laws.FaultLaws.{ReadAt, read-at, own-fault, found-fault, left-fault, unknown-member}
 use borrow.Author.Tests.{lt-ltb, le-ltb, not-true, not-false}
 use Rattle.rule.specs.Records.{memberOf, memberLayout}
@@ -67,10 +68,13 @@ returns-3 c =
     ))
     refl refl refl
 
-returns-4 : tie.Need-returns-4
-returns-4 c =
-    let at-members-from = c .before .before in
-    let at-if3 = at-members-from .before in
+-- The last test decides: 8 where it repeats a member, else no fault.
+by-repeat :
+    (c : tie.After-is-member-repeated) (is : Bool) → c .is-member-repeated .result ≡ is →
+    let at-start = start (c .before .before .before .before .before .before .before .before .before .before .before .before .before) in
+    numbered (cond is 8 0) ≡ faultAt (wordsOf (at-start .args .table .now)) (at-start .args .s) memberLayout
+by-repeat c is e =
+    let at-if3 = c .before .before in
     let at-is-vid-known = at-if3 .before in
     let at-vids-from = at-is-vid-known .before in
     let at-if2 = at-vids-from .before in
@@ -81,13 +85,16 @@ returns-4 c =
     let s = start (at-read .before .before) .args .s in
     let member-read = memberValues (at-read .read .given .0 .0) in
     left-fault (as-read (at-read .before .before)) (ap (λ (x : MemberRead). memberRead x) (at-read .read .given .1))
-    (at-own-fault4 .own-fault4 .ensures) (at-if1 .if1 .left) false false true false false refl
+    (at-own-fault4 .own-fault4 .ensures) (at-if1 .if1 .left) false false is false false refl
     (unknown-member words s member-read
     ∙ simp (
       lt-ltb _ _ (at-if2 .if2 .left),
       sym (rw (at-vids-from .vids-from .ensures) at (at-is-vid-known .is-vid-known .ensures)) ∙ not-false _ (at-if3 .if3 .left),
     ))
-    (sym (rw (at-members-from .members-from .ensures) at (c .before .is-member-repeated .ensures)) ∙ c .if4 .taken) refl refl
+    (sym (rw (c .before .members-from .ensures) at (c .is-member-repeated .ensures)) ∙ e) refl refl
+
+returns-4 : tie.Need-returns-4
+returns-4 c = by-repeat (c .before) true (c .if4 .taken)
 
 returns-5 : tie.Need-returns-5
 returns-5 c =
@@ -105,26 +112,7 @@ returns-7 c =
     (c .own-fault3 .ensures) (λ z. absurd (omega arith))
 
 returns-8 : tie.Need-returns-8
-returns-8 c =
-    let at-members-from = c .before .before in
-    let at-if3 = at-members-from .before in
-    let at-is-vid-known = at-if3 .before in
-    let at-vids-from = at-is-vid-known .before in
-    let at-if2 = at-vids-from .before in
-    let at-if1 = at-if2 .before .before .before in
-    let at-own-fault4 = at-if1 .before in
-    let at-read = at-own-fault4 .before .before in
-    let words = wordsOf (start (at-read .before .before) .args .table .now) in
-    let s = start (at-read .before .before) .args .s in
-    let member-read = memberValues (at-read .read .given .0 .0) in
-    left-fault (as-read (at-read .before .before)) (ap (λ (x : MemberRead). memberRead x) (at-read .read .given .1))
-    (at-own-fault4 .own-fault4 .ensures) (at-if1 .if1 .left) false false false false false refl
-    (unknown-member words s member-read
-    ∙ simp (
-      lt-ltb _ _ (at-if2 .if2 .left),
-      sym (rw (at-vids-from .vids-from .ensures) at (at-is-vid-known .is-vid-known .ensures)) ∙ not-false _ (at-if3 .if3 .left),
-    ))
-    (sym (rw (at-members-from .members-from .ensures) at (c .before .is-member-repeated .ensures)) ∙ c .if4 .left) refl refl
+returns-8 c = by-repeat (c .before) false (c .if4 .left)
 
 pub member-fault-spec : {M : Type 1} → statement M
 member-fault-spec =

@@ -10,8 +10,7 @@ slice-aggregate-write-all c =
     let at-write-answer = c .before .before in
     let at-write-word = at-write-answer .before .before .before in
     let at-start = at-write-word .before .before .before .before .before .before .before .before .before in
-    simp length-take
-    (omega (arith, (at-write-answer .write-answer .ensures), (at-write-word .write-word .ensures .end-is), (at-start .pre)))
+    simp length-take (omega (arith, at-write-answer .write-answer .ensures, at-write-word .write-word .ensures .end-is, at-start .pre))
 
 pub print-entries-spec : {M : Type 1} → statement M
 print-entries-spec =

@@ -12,7 +12,7 @@ slice-aggregate-write-all c =
     let at-start = at-write-word .before .before .before .before .before .before .before .before .before in
     let (name-length, list-length) = at-start .pre in
     simp length-take
-    (omega (arith, (at-write-answer .write-answer .ensures), (at-write-word .write-word .ensures .end-is), name-length, list-length))
+    (omega (arith, at-write-answer .write-answer .ensures, at-write-word .write-word .ensures .end-is, name-length, list-length))
 
 pub print-path-spec : {M : Type 1} → statement M
 print-path-spec =

@@ -6,13 +6,13 @@ use Rattle.figures.proofs.plan.put_word.Statement.{statement}
 use Rattle.figures.proofs.plan.put_word.Tie as tie
 
 slice-write-table-2 : tie.Need-slice-write-table-2
-slice-write-table-2 c = simp length-set (omega (arith, (c .pre)))
+slice-write-table-2 c = simp length-set (omega (arith, c .pre))
 
 slice-write-table-3 : tie.Need-slice-write-table-3
-slice-write-table-3 c = simp length-set (omega (arith, (c .pre)))
+slice-write-table-3 c = simp length-set (omega (arith, c .pre))
 
 slice-write-table-4 : tie.Need-slice-write-table-4
-slice-write-table-4 c = simp length-set (omega (arith, (c .pre)))
+slice-write-table-4 c = simp length-set (omega (arith, c .pre))
 
 pub put-word-spec : {M : Type 1} → statement M
 put-word-spec =

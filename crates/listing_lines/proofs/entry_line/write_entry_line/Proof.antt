@@ -18,10 +18,10 @@ write-byte-requires-2 c κs =
     let (_, write-fields-bound) = at-write-fields .write-fields .ensures in
     omega (
       arith,
-      (at-write-word .write-word .ensures .end-is),
+      at-write-word .write-word .ensures .end-is,
       write-fields-bound,
-      (at-write-byte .write-byte .ensures .end-is),
-      (at-write-address .write-address .ensures .end-is),
+      at-write-byte .write-byte .ensures .end-is,
+      at-write-address .write-address .ensures .end-is,
       length-digits 16 12 (at-address-of .address-of .result),
     )
 
@@ -39,12 +39,12 @@ returns c =
     let (written, write-fields-bound) = at-write-fields .write-fields .ensures in
     let (vid-of-is, _) = at-vid-of .vid-of .ensures in
     let (port-of-is, _) = at-port-of .port-of .ensures in
-    let after-word = (at-write-word .write-word .ensures .end-is) in
+    let after-word = at-write-word .write-word .ensures .end-is in
     let after-numbers = write-fields-bound in
-    let after-space = (at-write-byte .write-byte .ensures .end-is) in
-    let after-address = (at-write-address .write-address .ensures .end-is) in
+    let after-space = at-write-byte .write-byte .ensures .end-is in
+    let after-address = at-write-address .write-address .ensures .end-is in
     let twelve = length-digits 16 12 (at-address-of .address-of .result) in
-    let room = (at-start .pre) in (
+    let room = at-start .pre in (
       written-as
           (written-on (at-write-word .write-word .ensures)
           (written-on written
@@ -57,7 +57,7 @@ returns c =
           _
           (line-of-numbers (at-start .args .bridge) (entryOf (at-start .args .first) (at-start .args .upper) (at-start .args .lower))
           vid-of-is port-of-is (at-address-of .address-of .ensures)),
-      omega (arith, after-word, after-numbers, after-space, after-address, twelve, (at-write-byte2 .write-byte2 .ensures .end-is)),
+      omega (arith, after-word, after-numbers, after-space, after-address, twelve, at-write-byte2 .write-byte2 .ensures .end-is),
     )
 
 pub write-entry-line-spec : {M : Type 1} → statement M

@@ -20,7 +20,7 @@ returns c =
     let (written, write-fields-bound) = at-write-fields .write-fields .ensures in
     let (the-written, write-fields2-bound) = at-write-fields2 .write-fields2 .ensures in
     let (bridges-length, out-room) = at-start .pre in
-    let after-word = (at-write-word .write-word .ensures .end-is) in
+    let after-word = at-write-word .write-word .ensures .end-is in
     let after-numbers = write-fields-bound in
     let after-bridges = write-fields2-bound in
     let few = bridges-length in
@@ -38,7 +38,7 @@ returns c =
           ((at-start .args .vid) ∷ (at-start .args .from) ∷ (at-start .args .to) ∷ (at-start .args .cost .0) ∷ (at-start .args .hops .0)
           ∷ [])
           (at-start .args .bridges .now) (newline ∷ []))),
-      omega (arith, after-word, after-numbers, after-bridges, few, (at-write-byte .write-byte .ensures .end-is)),
+      omega (arith, after-word, after-numbers, after-bridges, few, at-write-byte .write-byte .ensures .end-is),
     )
 
 pub write-given-path-spec : {M : Type 1} → statement M

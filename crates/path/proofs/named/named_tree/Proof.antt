@@ -15,7 +15,7 @@ returns c =
     let (checked, _, _) = at-start .pre in
     no-tree _
     (no-from (planAt (wordsOf (at-start .args .table .now)) (at-start .args .s)) (at-start .args .vid) (at-start .args .from)
-    (at-start .args .root) (omega (arith, bridges-counted checked, (c .if1 .taken))))
+    (at-start .args .root) (omega (arith, bridges-counted checked, c .if1 .taken)))
 
 returns-2 : tie.Need-returns-2
 returns-2 c =
@@ -23,7 +23,7 @@ returns-2 c =
     let (checked, _, _) = at-start .pre in
     no-tree _
     (no-root (planAt (wordsOf (at-start .args .table .now)) (at-start .args .s)) (at-start .args .vid) (at-start .args .from)
-    (at-start .args .root) (omega (arith, bridges-counted checked, (c .if2 .taken))))
+    (at-start .args .root) (omega (arith, bridges-counted checked, c .if2 .taken)))
 
 returns-3 : tie.Need-returns-3
 returns-3 c =
@@ -33,10 +33,10 @@ returns-3 c =
     let (checked, _, _) = at-start .pre in
     no-tree _
     (sym (c .if3 .taken)
-    ∙ (c .before .index-of .ensures)
+    ∙ c .before .index-of .ensures
     ∙ both-known (planAt (wordsOf (at-start .args .table .now)) (at-start .args .s)) (at-start .args .vid) (at-start .args .from)
-    (at-start .args .root) (omega (arith, bridges-counted checked, (at-if1 .if1 .left)))
-    (omega (arith, bridges-counted checked, (at-if2 .if2 .left))))
+    (at-start .args .root) (omega (arith, bridges-counted checked, at-if1 .if1 .left))
+    (omega (arith, bridges-counted checked, at-if2 .if2 .left)))
 
 tree-of-table-requires : tie.Need-tree-of-table-requires
 tree-of-table-requires c κs =
@@ -47,7 +47,7 @@ tree-of-table-requires c κs =
       checked,
       (named-fits _ (checked .laws) (at-start .args .vid) _ (at-index-of .index-of .ensures) (c .before .if3 .left)) .0,
       (named-fits _ (checked .laws) (at-start .args .vid) _ (at-index-of .index-of .ensures) (c .before .if3 .left)) .1,
-      omega (arith, (at-if2 .if2 .left)),
+      omega (arith, at-if2 .if2 .left),
       labels-room,
       link-index,
     )
@@ -60,8 +60,8 @@ returns-4 c =
     let at-if1 = at-if2 .before .before in
     let at-start = at-if1 .before .before .before .before .before in
     let (checked, _, _) = at-start .pre in
-    known-tree _ _ (at-index-of .index-of .ensures) (omega (arith, bridges-counted checked, (at-if1 .if1 .left)))
-    (omega (arith, bridges-counted checked, (at-if2 .if2 .left))) (at-tree-of-table .tree-of-table .ensures)
+    known-tree _ _ (at-index-of .index-of .ensures) (omega (arith, bridges-counted checked, at-if1 .if1 .left))
+    (omega (arith, bridges-counted checked, at-if2 .if2 .left)) (at-tree-of-table .tree-of-table .ensures)
 
 pub named-tree-spec : {M : Type 1} → statement M
 named-tree-spec =

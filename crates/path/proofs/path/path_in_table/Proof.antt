@@ -36,7 +36,7 @@ returns-2 c =
     let at-named-tree = at-if1 .before .before in
     let at-start = at-named-tree .before .before .before .before .before in
     let (checked, _) = at-start .pre in
-    (at-labelled-path .labelled-path .ensures)
+    at-labelled-path .labelled-path .ensures
     ∙ ap (lentTo (at-start .args .list .now))
     (named-path (planAt (wordsOf (at-start .args .table .now)) (at-start .args .s)) (checked .laws) (at-start .args .vid)
     (at-start .args .from) (at-start .args .to) (at-named-tree .named-tree .ensures) (at-if1 .if1 .left))

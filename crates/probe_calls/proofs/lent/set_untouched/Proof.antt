@@ -21,10 +21,10 @@ loop-holds c = filling-starts _ _ _
 
 loop-again : tie.Need-loop-again Inv-loop μ-loop
 loop-again c =
-    filling-on (c .before .loop .inv) _ (omega arith) (omega (arith, (c .loop-test .taken), (c .before .loop .inv .same-length))) refl
+    filling-on (c .before .loop .inv) _ (omega arith) (omega (arith, c .loop-test .taken, c .before .loop .inv .same-length)) refl
 
 returns : tie.Need-returns Inv-loop μ-loop
-returns c = all-untouched (c .before .loop .inv) (omega (arith, (c .loop-test .left), (c .before .loop .inv .same-length)))
+returns c = all-untouched (c .before .loop .inv) (omega (arith, c .loop-test .left, c .before .loop .inv .same-length))
 
 pub set-untouched-spec : {M : Type 1} → statement M
 set-untouched-spec =

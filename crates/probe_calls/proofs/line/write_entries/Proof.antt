@@ -22,10 +22,10 @@ returns c =
       written-as
           (written-on written
           (written-on the-written (at-write-byte .write-byte .ensures)
-          (omega (arith, write-entries-answer-bound, write-fields-bound, (at-start .pre))))
-          (omega (arith, write-entries-answer-bound, (at-start .pre))))
+          (omega (arith, write-entries-answer-bound, write-fields-bound, at-start .pre)))
+          (omega (arith, write-entries-answer-bound, at-start .pre)))
           _ (ap (λ (o : Outcome ℕ × List ℕ). entriesText o) (at-entries .entries .ensures)),
-      omega (arith, write-entries-answer-bound, write-fields-bound, (at-write-byte .write-byte .ensures .end-is), (at-start .pre)),
+      omega (arith, write-entries-answer-bound, write-fields-bound, at-write-byte .write-byte .ensures .end-is, at-start .pre),
     )
 
 pub write-entries-spec : {M : Type 1} → statement M

@@ -12,8 +12,8 @@ returns c =
     let at-start = at-write-word .before .before .before .before in
     let (written, write-field-bound) = at-write-field .write-field .ensures in
     let write-word-ensures = at-write-word .write-word .ensures in (
-      written-on write-word-ensures written (omega (arith, (write-word-ensures .end-is), (at-start .pre))),
-      omega (arith, (write-word-ensures .end-is), write-field-bound),
+      written-on write-word-ensures written (omega (arith, write-word-ensures .end-is, at-start .pre)),
+      omega (arith, write-word-ensures .end-is, write-field-bound),
     )
 
 pub write-given-entries-spec : {M : Type 1} → statement M

@@ -15,8 +15,7 @@ returns c =
     let (the-written, write-field2-bound) = at-write-field2 .write-field2 .ensures in
     let end-is = at-write-word .write-word .ensures .end-is in (
       written-on (at-write-word .write-word .ensures)
-          (written-on written the-written (omega (arith, end-is, write-field-bound, (at-start .pre))))
-          (omega (arith, end-is, (at-start .pre))),
+          (written-on written the-written (omega (arith, end-is, write-field-bound, at-start .pre))) (omega (arith, end-is, at-start .pre)),
       omega (arith, end-is, write-field-bound, write-field2-bound),
     )
 

@@ -23,10 +23,10 @@ returns c =
       written-as
           (written-on written
           (written-on the-written (at-write-byte .write-byte .ensures)
-          (omega (arith, write-path-answer-bound, write-fields-bound, (at-start .pre))))
-          (omega (arith, write-path-answer-bound, (at-start .pre))))
+          (omega (arith, write-path-answer-bound, write-fields-bound, at-start .pre)))
+          (omega (arith, write-path-answer-bound, at-start .pre)))
           _ (ap (λ (o : Outcome CostAndHops × List ℕ). pathText o) (at-path .path .ensures)),
-      omega (arith, write-path-answer-bound, write-fields-bound, (at-write-byte .write-byte .ensures .end-is), (at-start .pre)),
+      omega (arith, write-path-answer-bound, write-fields-bound, at-write-byte .write-byte .ensures .end-is, at-start .pre),
     )
 
 pub write-path-spec : {M : Type 1} → statement M

@@ -28,10 +28,10 @@ returns c =
           (written-on the-written
           (written-on written-3
           (written-on written-4 (at-write-byte .write-byte .ensures)
-          (omega (arith, write-tree-answer-bound, write-fields-bound, write-fields2-bound, write-fields3-bound, (at-start .pre))))
-          (omega (arith, write-tree-answer-bound, write-fields-bound, write-fields2-bound, (at-start .pre))))
-          (omega (arith, write-tree-answer-bound, write-fields-bound, (at-start .pre))))
-          (omega (arith, write-tree-answer-bound, (at-start .pre))))
+          (omega (arith, write-tree-answer-bound, write-fields-bound, write-fields2-bound, write-fields3-bound, at-start .pre)))
+          (omega (arith, write-tree-answer-bound, write-fields-bound, write-fields2-bound, at-start .pre)))
+          (omega (arith, write-tree-answer-bound, write-fields-bound, at-start .pre)))
+          (omega (arith, write-tree-answer-bound, at-start .pre)))
           _ (ap (λ (o : Outcome ℕ × List ℕ × List ℕ × List ℕ). treeText o) (at-tree .tree .ensures)),
       omega (
         arith,
@@ -39,8 +39,8 @@ returns c =
         write-fields-bound,
         write-fields2-bound,
         write-fields3-bound,
-        (at-write-byte .write-byte .ensures .end-is),
-        (at-start .pre),
+        at-write-byte .write-byte .ensures .end-is,
+        at-start .pre,
       ),
     )
 

@@ -13,7 +13,7 @@ returns : tie.Need-returns
 returns c =
     let at-start = c .before .before in
     let e : 3 * (at-start .args .d) ≡ 0 + 3 * (at-start .args .d) = omega arith in
-    (c .bridge-at .ensures) ∙ ap (λ (w : ℕ). bridgeOf (drop w (wordsOf (at-start .args .table .now)))) e
+    c .bridge-at .ensures ∙ ap (λ (w : ℕ). bridgeOf (drop w (wordsOf (at-start .args .table .now)))) e
 
 pub bridge-spec : {M : Type 1} → statement M
 bridge-spec = tie.close (tie.spec (λ c. search needs) (λ c κs. search needs) returns)

@@ -14,7 +14,7 @@ abbrev μ-loop : tie.MeasureT-loop
 μ-loop table s vid from k₀ k = s .vids - k
 
 vids-from-requires : tie.Need-vids-from-requires Inv-loop μ-loop
-vids-from-requires c κs = omega (arith, (c .before .pre))
+vids-from-requires c κs = omega (arith, c .before .pre)
 
 loop-holds : tie.Need-loop-holds Inv-loop μ-loop
 loop-holds c =
@@ -25,13 +25,13 @@ add-vid-at : tie.Need-add-vid-at Inv-loop μ-loop
 add-vid-at c =
     let at-vids-from = c .before .before .before in
     let at-start = at-vids-from .before .before in
-    omega (arith, (at-start .pre), (at-vids-from .vids-from .ensures), (c .if1 .taken))
+    omega (arith, at-start .pre, at-vids-from .vids-from .ensures, c .if1 .taken)
 
 vid-at-requires : tie.Need-vid-at-requires Inv-loop μ-loop
 vid-at-requires c κs =
     let at-vids-from = c .before .before .before in
     let at-start = at-vids-from .before .before in
-    omega (arith, (at-start .pre), (at-vids-from .vids-from .ensures), (c .if1 .taken))
+    omega (arith, at-start .pre, at-vids-from .vids-from .ensures, c .if1 .taken)
 
 returns : tie.Need-returns Inv-loop μ-loop
 returns c =

@@ -11,7 +11,7 @@ use Rattle.table.proofs.records.member.Tie as tie
 returns : tie.Need-returns
 returns c =
     let at-start = c .before .before .before in
-    (c .member-at .ensures)
+    c .member-at .ensures
     ∙ ap (λ (w : ℕ). memberOf (drop (w + 2 * (at-start .args .j)) (wordsOf (at-start .args .table .now))))
     (c .before .members-from .ensures)
 

@@ -14,8 +14,8 @@ returns : tie.Need-returns
 returns c =
     let at-start = c .before .before .before in
     let e : (c .before .vids-from .result) + (at-start .args .k) ≡ vidsFrom (at-start .args .s) + 1 * (at-start .args .k) =
-    omega (arith, (c .before .vids-from .ensures)) in
-    (c .vid-at .ensures) ∙ ap (λ (w : ℕ). vidOf (drop w (wordsOf (at-start .args .table .now)))) e
+    omega (arith, c .before .vids-from .ensures) in
+    c .vid-at .ensures ∙ ap (λ (w : ℕ). vidOf (drop w (wordsOf (at-start .args .table .now)))) e
 
 pub vid-spec : {M : Type 1} → statement M
 vid-spec = tie.close (tie.spec (λ c κs. search needs) (λ c. search needs) (λ c κs. search needs) returns)

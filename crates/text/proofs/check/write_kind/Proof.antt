@@ -15,7 +15,7 @@ returns c =
     let at-enum-told = at-write-word .before .before .before in (
       written-as (at-write-word .write-word .ensures) _
           (sym (ap (λ (k : RecordKind). kindField (kindNumber k)) (at-enum-told .enum-told .given .1))),
-      omega (arith, (at-write-word .write-word .ensures .end-is)),
+      omega (arith, at-write-word .write-word .ensures .end-is),
     )
 
 returns-2 : tie.Need-returns-2

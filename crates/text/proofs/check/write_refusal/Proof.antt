@@ -17,9 +17,9 @@ returns c =
     let (written-3, write-field2-bound) = at-write-field2 .write-field2 .ensures in
     let end-is = at-write-word .write-word .ensures .end-is in (
       written-on (at-write-word .write-word .ensures)
-          (written-on written (written-on the-written written-3 (omega (arith, end-is, write-field-bound, write-kind-bound, (at-start .pre))))
-          (omega (arith, end-is, write-field-bound, (at-start .pre))))
-          (omega (arith, end-is, (at-start .pre))),
+          (written-on written (written-on the-written written-3 (omega (arith, end-is, write-field-bound, write-kind-bound, at-start .pre)))
+          (omega (arith, end-is, write-field-bound, at-start .pre)))
+          (omega (arith, end-is, at-start .pre)),
       omega (arith, end-is, write-field-bound, write-kind-bound, write-field2-bound),
     )
 

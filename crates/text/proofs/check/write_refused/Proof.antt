@@ -11,8 +11,8 @@ returns c =
     let at-write-refusal = at-write-byte .before .before .before .before in
     let at-start = at-write-refusal .before .before .before in
     let (written, write-refusal-bound) = at-write-refusal .write-refusal .ensures in (
-      written-on written (at-write-byte .write-byte .ensures) (omega (arith, write-refusal-bound, (at-start .pre))),
-      omega (arith, write-refusal-bound, (at-write-byte .write-byte .ensures .end-is)),
+      written-on written (at-write-byte .write-byte .ensures) (omega (arith, write-refusal-bound, at-start .pre)),
+      omega (arith, write-refusal-bound, at-write-byte .write-byte .ensures .end-is),
     )
 
 pub write-refused-spec : {M : Type 1} → statement M

@@ -17,7 +17,7 @@ loop-holds c = counting-starts _
 returns : tie.Need-returns Inv-loop μ-loop
 returns c =
     let at-loop = c .before .before in
-    (counting-finds (at-loop .loop .inv) (c .if1 .taken), (at-loop .loop .inv .most))
+    (counting-finds (at-loop .loop .inv) (c .if1 .taken), at-loop .loop .inv .most)
 
 loop-again : tie.Need-loop-again Inv-loop μ-loop
 loop-again c =
@@ -25,7 +25,7 @@ loop-again c =
     counting-goes-on (at-loop .loop .inv) (c .before .loop-test .taken) (c .if1 .left)
 
 returns-2 : tie.Need-returns-2 Inv-loop μ-loop
-returns-2 c = (counting-ends (c .before .loop .inv) (c .loop-test .left), (c .before .loop .inv .most))
+returns-2 c = (counting-ends (c .before .loop .inv) (c .loop-test .left), c .before .loop .inv .most)
 
 pub decimal-places-spec : {M : Type 1} → statement M
 decimal-places-spec =

@@ -23,7 +23,7 @@ loop-again c =
     spelling-goes-on 10 _ _ _ _ (at-start .pre) (at-loop .loop .inv) _ _ _ (omega arith) (c .decimal-digit .ensures) refl
 
 same-length : tie.Need-same-length Inv-loop μ-loop
-same-length c = (c .before .loop .inv .same-length)
+same-length c = c .before .loop .inv .same-length
 
 returns : tie.Need-returns Inv-loop μ-loop
 returns c = spelling-ends 10 _ _ _ _ (c .before .loop .inv) (c .loop-test .left)

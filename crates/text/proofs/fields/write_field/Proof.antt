@@ -12,9 +12,8 @@ returns c =
     let at-write-byte = at-write-decimal .before .before .before .before in
     let at-start = at-write-byte .before .before .before in
     let write-byte-ensures = at-write-byte .write-byte .ensures in (
-      written-on write-byte-ensures (at-write-decimal .write-decimal .ensures)
-          (omega (arith, (write-byte-ensures .end-is), (at-start .pre))),
-      omega (arith, (write-byte-ensures .end-is), (at-write-decimal .write-decimal .ensures .end-is), length-decimal (at-start .args .n)),
+      written-on write-byte-ensures (at-write-decimal .write-decimal .ensures) (omega (arith, write-byte-ensures .end-is, at-start .pre)),
+      omega (arith, write-byte-ensures .end-is, at-write-decimal .write-decimal .ensures .end-is, length-decimal (at-start .args .n)),
     )
 
 pub write-field-spec : {M : Type 1} → statement M

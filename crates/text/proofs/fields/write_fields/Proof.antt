@@ -21,7 +21,7 @@ write-field-requires c κs =
     let at-loop-test = c .before .before in
     let at-loop = at-loop-test .before in
     let at-start = at-loop .before .before .before in
-    omega (arith, (at-loop .loop .inv .room), (at-loop .loop .inv .same-length), (at-start .pre), (at-loop-test .loop-test .taken))
+    omega (arith, at-loop .loop .inv .room, at-loop .loop .inv .same-length, at-start .pre, at-loop-test .loop-test .taken)
 
 loop-again : tie.Need-loop-again Inv-loop μ-loop
 loop-again c =
@@ -33,7 +33,7 @@ loop-again c =
     fielding-goes-on (at-loop .loop .inv) (at-start .pre) (at-loop-test .loop-test .taken) _ _ written
 
 same-length : tie.Need-same-length Inv-loop μ-loop
-same-length c = (c .before .loop .inv .same-length)
+same-length c = c .before .loop .inv .same-length
 
 returns : tie.Need-returns Inv-loop μ-loop
 returns c = (fielding-ends (c .before .loop .inv) (c .loop-test .left), fielding-room (c .before .loop .inv) (c .loop-test .left))

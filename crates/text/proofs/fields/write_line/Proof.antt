@@ -14,9 +14,9 @@ returns c =
     let (written, write-fields-bound) = at-write-fields .write-fields .ensures in
     let end-is = at-write-word .write-word .ensures .end-is in (
       written-on (at-write-word .write-word .ensures)
-          (written-on written (at-write-byte .write-byte .ensures) (omega (arith, end-is, write-fields-bound, (at-start .pre))))
-          (omega (arith, end-is, (at-start .pre))),
-      omega (arith, end-is, write-fields-bound, (at-write-byte .write-byte .ensures .end-is)),
+          (written-on written (at-write-byte .write-byte .ensures) (omega (arith, end-is, write-fields-bound, at-start .pre)))
+          (omega (arith, end-is, at-start .pre)),
+      omega (arith, end-is, write-fields-bound, at-write-byte .write-byte .ensures .end-is),
     )
 
 pub write-line-spec : {M : Type 1} → statement M

@@ -23,7 +23,7 @@ loop-again c =
     copying-goes-on (at-loop .loop .inv) (at-start .pre) (c .before .loop-test .taken)
 
 same-length : tie.Need-same-length Inv-loop μ-loop
-same-length c = (c .before .loop .inv .same-length)
+same-length c = c .before .loop .inv .same-length
 
 returns : tie.Need-returns Inv-loop μ-loop
 returns c = copying-ends (c .before .loop .inv) _ (c .loop-test .left) refl
