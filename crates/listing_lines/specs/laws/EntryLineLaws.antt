@@ -8,14 +8,42 @@ use Rattle.lists.specs.laws.AppendingLaws.{appended-nothing}
 use Rattle.rule.specs.Entries.{Entry}
 use Rattle.rule.specs.Lookup.{entriesIn}
 use Rattle.entry_codec.specs.laws.EntryAtLaws.{entryAt, three-words}
-use Rattle.text.specs.Text.{WrittenAt}
+use Rattle.text.specs.Text.{space, newline, address, fields, WrittenAt}
+use Rattle.text.specs.laws.DigitLaws.{length-digits}
 use Rattle.text.specs.laws.TextLaws.{written-length, written-on, written-as}
-use Rattle.listing_lines.specs.Listing.{entryLine}
+use Rattle.listing_lines.specs.Listing.{entryWord, entryLine}
 
 -- The line of an entry by the numbers read of its words.
 pub line-of-numbers : (b : ℕ) (e : Entry) {vid port addr : ℕ} → vid ≡ e .vid → port ≡ e .port → addr ≡ e .address
     → entryLine b (record { kind = e .kind; vid = vid; port = port; address = addr }) ≡ entryLine b e
 line-of-numbers b e v q a = λ i. entryLine b (record { kind = e .kind; vid = v i; port = q i; address = a i })
+
+-- The texts of an entry line one after the other: the word, three numbers, a space and the address, then the newline.
+module _ (bridge vid port addr : ℕ) {at : ℕ} {out out₁ out₂ out₃ out₄ : List ℕ} {a b d e : ℕ} (W : WrittenAt at out out₁ entryWord a)
+    (N : WrittenAt a out₁ out₂ (fields (bridge ∷ vid ∷ port ∷ [])) b × (b ≤ a + 33)) (S : WrittenAt b out₂ out₃ (space ∷ []) d)
+    (A : WrittenAt d out₃ out₄ (address addr) e) where
+  pub before-newline : e ≤ at + 51
+  before-newline = omega (arith, W .end-is, N, S .end-is, A .end-is, length-digits 16 12 addr)
+
+  pub entry-line-written : {out₅ : List ℕ} {end : ℕ} → WrittenAt e out₄ out₅ (newline ∷ []) end → at + 52 ≤ length out
+      → (entry : Entry) → vid ≡ entry .vid → port ≡ entry .port → addr ≡ entry .address
+      → WrittenAt at out out₅ (entryLine bridge entry) end × (end ≤ at + 52)
+  entry-line-written L room entry v p f =
+      let (numbers, numbers-end) = N
+      in let word-length = written-length W (omega (arith, W .end-is))
+      in let numbers-length = written-length numbers (omega (arith, W .end-is, word-length))
+      in let space-length = written-length S (omega (arith, W .end-is, S .end-is, word-length, numbers-length))
+      in (
+        written-as
+            (written-on W
+            (written-on numbers
+            (written-on S (written-on A L (omega (arith, before-newline, word-length, numbers-length, space-length)))
+            (omega (arith, W .end-is, S .end-is, word-length, numbers-length)))
+            (omega (arith, W .end-is, word-length)))
+            (omega (arith, W .end-is)))
+            _ (line-of-numbers bridge entry v p f),
+        omega (arith, before-newline, L .end-is),
+      )
 
 -- The lines of the entries before the word `i` are written.
 pub record EntryListing (b : ℕ) (ws before : List ℕ) (at : ℕ) (out : List ℕ) (next i : ℕ) : Type 0 where

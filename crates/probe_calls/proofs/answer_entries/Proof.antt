@@ -13,11 +13,9 @@ array-share-prefix-line c =
 slice-aggregate-write-all : tie.Need-slice-aggregate-write-all
 slice-aggregate-write-all c =
     let at-write-asked-entries = c .before .before in
-    let (_, write-asked-entries-bound) = at-write-asked-entries .write-asked-entries .ensures in
-    simp length-take (omega (arith, write-asked-entries-bound))
+    simp length-take (omega (arith, at-write-asked-entries .write-asked-entries .ensures))
 
 pub answer-entries-spec : {M : Type 1} → statement M
-answer-entries-spec =
-    tie.close
+answer-entries-spec = tie.close
     (tie.spec (λ c. search needs) (λ c κs. search needs) array-share-prefix-line slice-aggregate-write-all (λ c κs. search needs)
     (λ c. search needs))

@@ -8,11 +8,9 @@ use Rattle.probe_calls.proofs.answer_path.Tie as tie
 slice-aggregate-write-all : tie.Need-slice-aggregate-write-all
 slice-aggregate-write-all c =
     let at-write-asked-path = c .before .before in
-    let (_, write-asked-path-bound) = at-write-asked-path .write-asked-path .ensures in
-    simp length-take (omega (arith, write-asked-path-bound))
+    simp length-take (omega (arith, at-write-asked-path .write-asked-path .ensures))
 
 pub answer-path-spec : {M : Type 1} → statement M
-answer-path-spec =
-    tie.close
+answer-path-spec = tie.close
     (tie.spec (λ c. search needs) (λ c κs. search needs) (λ c. search needs) slice-aggregate-write-all (λ c κs. search needs)
     (λ c. search needs))

@@ -8,11 +8,9 @@ use Rattle.probe_calls.proofs.answer_tree.Tie as tie
 slice-aggregate-write-all : tie.Need-slice-aggregate-write-all
 slice-aggregate-write-all c =
     let at-write-asked-tree = c .before .before in
-    let (_, write-asked-tree-bound) = at-write-asked-tree .write-asked-tree .ensures in
-    simp length-take (omega (arith, write-asked-tree-bound))
+    simp length-take (omega (arith, at-write-asked-tree .write-asked-tree .ensures))
 
 pub answer-tree-spec : {M : Type 1} → statement M
-answer-tree-spec =
-    tie.close
+answer-tree-spec = tie.close
     (tie.spec (λ c. search needs) (λ c κs. search needs) (λ c. search needs) slice-aggregate-write-all (λ c κs. search needs)
     (λ c. search needs))

@@ -36,9 +36,7 @@ abbrev start-of : tie.At-loop Inv-loop μ-loop → tie.Start Inv-loop μ-loop
 start-of c = c .before .before .before .before .before .before
 
 hops-at-requires : tie.Need-hops-at-requires Inv-loop μ-loop
-hops-at-requires c κs =
-    let (_, labels-room, _) = start-of c .pre in
-    omega (arith, walking-inside (c .loop .inv), labels-room)
+hops-at-requires c κs = omega (arith, walking-inside (c .loop .inv), start-of c .pre)
 
 -- Where the walk goes on, hops are left.
 hops-left : (c : tie.Then2 Inv-loop μ-loop) → c .before .before .hops-at .result .0 ≡ 0 → ⊥
@@ -47,8 +45,7 @@ hops-left c = differ (c .before .differs .ensures) (c .if2 .taken)
 next-number-requires : tie.Need-next-number-requires Inv-loop μ-loop
 next-number-requires c κs =
     let at-loop = c .before .before .before in
-    let (_, labels-room, _) = start-of at-loop .pre in
-    omega (arith, walking-inside (at-loop .loop .inv), labels-room)
+    omega (arith, walking-inside (at-loop .loop .inv), start-of at-loop .pre)
 
 mul-result : tie.Need-mul-result Inv-loop μ-loop
 mul-result c =
@@ -58,8 +55,7 @@ mul-result c =
 shared-slice-read-result : tie.Need-shared-slice-read-result Inv-loop μ-loop
 shared-slice-read-result c =
     let at-loop = c .before .before .before .before .before .before in
-    let (_, _, hops-room) = start-of at-loop .pre in
-    omega (arith, walking-inside (at-loop .loop .inv), hops-room)
+    omega (arith, walking-inside (at-loop .loop .inv), start-of at-loop .pre)
 
 returns-2 : tie.Need-returns-2 Inv-loop μ-loop
 returns-2 c =

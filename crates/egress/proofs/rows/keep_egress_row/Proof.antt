@@ -29,14 +29,12 @@ start-of c = c .before .before .before .before .before .before .before .before .
 add-write-egress-row : tie.Need-add-write-egress-row
 add-write-egress-row c =
     let at-kept-tree = c .before .before .before .before in
-    let (_, (kept-tree-bound, _)) = at-kept-tree .kept-tree .ensures in
-    omega (arith, kept-tree-bound, c .before .store .given, start-of at-kept-tree .good)
+    omega (arith, at-kept-tree .kept-tree .ensures, c .before .store .given, start-of at-kept-tree .good)
 
 mul-write-egress-row : tie.Need-mul-write-egress-row
 mul-write-egress-row c =
     let at-kept-tree = c .before .before .before .before in
-    let (_, (kept-tree-bound, _)) = at-kept-tree .kept-tree .ensures in
-    omega (arith, kept-tree-bound, c .before .store .given, start-of at-kept-tree .good)
+    omega (arith, at-kept-tree .kept-tree .ensures, c .before .store .given, start-of at-kept-tree .good)
 
 abbrev kept-tree-of : tie.After-write-egress-row-arg → tie.After-kept-tree
 kept-tree-of c = c .before .before .before .before .before .before
@@ -82,9 +80,7 @@ row-kept c =
     (c .write-egress-row .ensures)
 
 add-result : tie.Need-add-result
-add-result c =
-    let (_, (_, _, _, count-bound, _)) = row-start-of (c .before .before) .pre in
-    omega (arith, count-bound)
+add-result c = omega (arith, row-start-of (c .before .before) .pre)
 
 same-length-3 : tie.Need-same-length-3
 same-length-3 c =

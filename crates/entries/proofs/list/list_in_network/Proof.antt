@@ -50,8 +50,7 @@ keep-egress-rows-requires c κs =
 
 slice-aggregate-whole-list-2 : tie.Need-slice-aggregate-whole-list-2
 slice-aggregate-whole-list-2 c =
-    let (_, rising-ports-bound) = rising-ports-of (c .before .before .before .before .before .before .before) .rising-ports .ensures in
-    simp length-take (omega (arith, rising-ports-bound))
+    simp length-take (omega (arith, rising-ports-of (c .before .before .before .before .before .before .before) .rising-ports .ensures))
 
 whole-list-requires : tie.Need-whole-list-requires
 whole-list-requires c κs =

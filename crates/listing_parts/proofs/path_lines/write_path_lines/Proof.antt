@@ -76,17 +76,13 @@ add-write-path-line : tie.Need-add-write-path-line Inv-loop μ-loop
 add-write-path-line c =
     let at-kept-tree = c .before .before .before .before in
     let at-loop = turn-of at-kept-tree .before .before in
-    let (_, (kept-tree-bound, _)) = at-kept-tree .kept-tree .ensures in
-    let (_, _, _, store-length) = at-loop .loop .inv in
-    omega (arith, kept-tree-bound, c .before .store .given, store-length, start-of at-loop .good)
+    omega (arith, at-kept-tree .kept-tree .ensures, c .before .store .given, at-loop .loop .inv, start-of at-loop .good)
 
 mul-write-path-line : tie.Need-mul-write-path-line Inv-loop μ-loop
 mul-write-path-line c =
     let at-kept-tree = c .before .before .before .before in
     let at-loop = turn-of at-kept-tree .before .before in
-    let (_, (kept-tree-bound, _)) = at-kept-tree .kept-tree .ensures in
-    let (_, _, _, store-length) = at-loop .loop .inv in
-    omega (arith, kept-tree-bound, c .before .store .given, store-length, start-of at-loop .good)
+    omega (arith, at-kept-tree .kept-tree .ensures, c .before .store .given, at-loop .loop .inv, start-of at-loop .good)
 
 abbrev kept-tree-of : tie.After-write-path-line-arg Inv-loop μ-loop → tie.After-kept-tree Inv-loop μ-loop
 kept-tree-of c = c .before .before .before .before .before .before

@@ -24,8 +24,7 @@ network-length c = c .loop .inv .same-length ∙ length-set (start-of c .args .n
 loop-holds : tie.Need-loop-holds Inv-loop μ-loop
 loop-holds c =
     let at-start = c .before .before in
-    let (_, network-room) = at-start .pre in
-    filling-starts (at-start .args .pairs .now) (at-start .args .n) (at-start .args .network .now) (omega (arith, network-room))
+    filling-starts (at-start .args .pairs .now) (at-start .args .n) (at-start .args .network .now) (omega (arith, at-start .pre))
 
 list-hops-requires : tie.Need-list-hops-requires Inv-loop μ-loop
 list-hops-requires c κs =

@@ -22,8 +22,7 @@ slice-write-words-2 c =
     let at-if1 = c .before .before .before in
     let at-loop = at-if1 .before .before in
     let at-start = at-loop .before .before .before in
-    let (_, words-room) = at-start .pre in
-    simp length-set (omega (arith, at-loop .loop .inv .same-length, at-if1 .if1 .taken, words-room))
+    simp length-set (omega (arith, at-loop .loop .inv .same-length, at-if1 .if1 .taken, at-start .pre))
 
 loop-again : tie.Need-loop-again Inv-loop μ-loop
 loop-again c =

@@ -5,8 +5,9 @@ use mathlib.Core.List.{List}
 use Prim.Native.Nat.{ℕ}
 use Rattle.rule.specs.Outcome.{Outcome}
 use Rattle.rule.specs.Answers.{CostAndHops}
-use Rattle.text.specs.laws.TextLaws.{written-on, written-as}
+use Rattle.text.specs.laws.TextLaws.{written-as}
 use Rattle.probe_calls.specs.AnswerText.{pathText}
+use Rattle.probe_calls.specs.laws.LineLaws.{list-line}
 use native.Mathlib.Omega.{arith}
 use Rattle.probe_calls.proofs.line.write_path.Statement.{statement}
 use Rattle.probe_calls.proofs.line.write_path.Tie as tie
@@ -18,19 +19,12 @@ returns c =
     let at-write-path-answer = at-write-fields .before .before .before .before .before in
     let at-path = at-write-path-answer .before .before .before .before in
     let at-start = at-path .before .before .before .before .before in
-    let (written, write-path-answer-bound) = at-write-path-answer .write-path-answer .ensures in
-    let (the-written, write-fields-bound) = at-write-fields .write-fields .ensures in (
-      written-as
-          (written-on written
-          (written-on the-written (at-write-byte .write-byte .ensures)
-          (omega (arith, write-path-answer-bound, write-fields-bound, at-start .pre)))
-          (omega (arith, write-path-answer-bound, at-start .pre)))
-          _ (ap (λ (o : Outcome CostAndHops × List ℕ). pathText o) (at-path .path .ensures)),
-      omega (arith, write-path-answer-bound, write-fields-bound, at-write-byte .write-byte .ensures .end-is, at-start .pre),
-    )
+    let (written, end-inside) =
+    list-line (at-write-path-answer .write-path-answer .ensures) _ (at-write-fields .write-fields .ensures)
+    (at-write-byte .write-byte .ensures) (omega (arith, at-start .pre, at-path .path .kept)) in
+    (written-as written _ (ap (λ (o : Outcome CostAndHops × List ℕ). pathText o) (at-path .path .ensures)), end-inside)
 
 pub write-path-spec : {M : Type 1} → statement M
-write-path-spec =
-    tie.close
+write-path-spec = tie.close
     (tie.spec (λ c κs. search needs) (λ c κs. search needs) (λ c κs. search needs) (λ c κs. search needs) (λ c. search needs)
     (λ c. search needs) returns)

@@ -4,8 +4,9 @@ use mathlib.Core.Path.{ap}
 use mathlib.Core.List.{List}
 use Prim.Native.Nat.{ℕ}
 use Rattle.rule.specs.Outcome.{Outcome}
-use Rattle.text.specs.laws.TextLaws.{written-on, written-as}
+use Rattle.text.specs.laws.TextLaws.{written-as}
 use Rattle.probe_calls.specs.AnswerText.{treeText}
+use Rattle.probe_calls.specs.laws.LineLaws.{three-lists-line}
 use native.Mathlib.Omega.{arith}
 use Rattle.probe_calls.proofs.line.write_tree.Statement.{statement}
 use Rattle.probe_calls.proofs.line.write_tree.Tie as tie
@@ -19,33 +20,13 @@ returns c =
     let at-write-tree-answer = at-write-fields .before .before .before .before .before in
     let at-tree = at-write-tree-answer .before .before .before .before .before .before .before .before in
     let at-start = at-tree .before .before .before .before .before .before .before .before .before in
-    let (written, write-tree-answer-bound) = at-write-tree-answer .write-tree-answer .ensures in
-    let (the-written, write-fields-bound) = at-write-fields .write-fields .ensures in
-    let (written-3, write-fields2-bound) = at-write-fields2 .write-fields2 .ensures in
-    let (written-4, write-fields3-bound) = at-write-fields3 .write-fields3 .ensures in (
-      written-as
-          (written-on written
-          (written-on the-written
-          (written-on written-3
-          (written-on written-4 (at-write-byte .write-byte .ensures)
-          (omega (arith, write-tree-answer-bound, write-fields-bound, write-fields2-bound, write-fields3-bound, at-start .pre)))
-          (omega (arith, write-tree-answer-bound, write-fields-bound, write-fields2-bound, at-start .pre)))
-          (omega (arith, write-tree-answer-bound, write-fields-bound, at-start .pre)))
-          (omega (arith, write-tree-answer-bound, at-start .pre)))
-          _ (ap (λ (o : Outcome ℕ × List ℕ × List ℕ × List ℕ). treeText o) (at-tree .tree .ensures)),
-      omega (
-        arith,
-        write-tree-answer-bound,
-        write-fields-bound,
-        write-fields2-bound,
-        write-fields3-bound,
-        at-write-byte .write-byte .ensures .end-is,
-        at-start .pre,
-      ),
-    )
+    let (written, end-inside) =
+    three-lists-line (at-write-tree-answer .write-tree-answer .ensures) _ _ _ (at-write-fields .write-fields .ensures)
+    (at-write-fields2 .write-fields2 .ensures) (at-write-fields3 .write-fields3 .ensures) (at-write-byte .write-byte .ensures)
+    (omega (arith, at-start .pre, at-tree .tree .kept)) in
+    (written-as written _ (ap (λ (o : Outcome ℕ × List ℕ × List ℕ × List ℕ). treeText o) (at-tree .tree .ensures)), end-inside)
 
 pub write-tree-spec : {M : Type 1} → statement M
-write-tree-spec =
-    tie.close
+write-tree-spec = tie.close
     (tie.spec (λ c κs. search needs) (λ c κs. search needs) (λ c κs. search needs) (λ c κs. search needs) (λ c κs. search needs)
     (λ c κs. search needs) (λ c. search needs) (λ c. search needs) (λ c. search needs) (λ c. search needs) returns)

@@ -12,23 +12,20 @@ use Rattle.probe_calls.specs.laws.UntouchedLaws.{front-untouched}
 use Rattle.probe_calls.proofs.question.write_asked_entries.Statement.{statement}
 use Rattle.probe_calls.proofs.question.write_asked_entries.Tie as tie
 
+abbrev start-of : tie.After-set-untouched → tie.Start
+start-of c = c .before .before .before .before
+
 slice-aggregate-write-entries : tie.Need-slice-aggregate-write-entries
-slice-aggregate-write-entries c =
-    let at-start = c .before .before .before .before .before .before in
-    let (places-bound, _) = at-start .pre in
-    simp length-take (omega (arith, places-bound))
+slice-aggregate-write-entries c = simp length-take (omega (arith, start-of (c .before .before) .pre))
 
 write-entries-requires : tie.Need-write-entries-requires
-write-entries-requires c κs =
-    let at-start = c .before .before .before .before .before .before .before in
-    let (places-bound, out-room) = at-start .pre in
-    simp length-take (omega (arith, places-bound, out-room))
+write-entries-requires c κs = simp length-take (omega (arith, start-of (c .before .before .before) .pre))
 
 returns : tie.Need-returns
 returns c =
     let at-write-entries = c .before .before .before in
     let at-set-untouched = at-write-entries .before .before .before .before in
-    let at-start = at-set-untouched .before .before .before .before in
+    let at-start = start-of at-set-untouched in
     let (written, write-entries-bound) = at-write-entries .write-entries .ensures in
     let (places-bound, _) = at-start .pre in (
       written-as written _
@@ -38,7 +35,6 @@ returns c =
     )
 
 pub write-asked-entries-spec : {M : Type 1} → statement M
-write-asked-entries-spec =
-    tie.close
+write-asked-entries-spec = tie.close
     (tie.spec (λ c. search needs) (λ c κs. search needs) (λ c. search needs) slice-aggregate-write-entries write-entries-requires
     (λ c. search needs) returns)

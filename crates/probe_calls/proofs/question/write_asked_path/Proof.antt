@@ -12,23 +12,20 @@ use Rattle.probe_calls.specs.laws.UntouchedLaws.{front-untouched}
 use Rattle.probe_calls.proofs.question.write_asked_path.Statement.{statement}
 use Rattle.probe_calls.proofs.question.write_asked_path.Tie as tie
 
+abbrev start-of : tie.After-set-untouched → tie.Start
+start-of c = c .before .before .before .before
+
 slice-aggregate-write-path : tie.Need-slice-aggregate-write-path
-slice-aggregate-write-path c =
-    let at-start = c .before .before .before .before .before .before in
-    let (places-bound, _) = at-start .pre in
-    simp length-take (omega (arith, places-bound))
+slice-aggregate-write-path c = simp length-take (omega (arith, start-of (c .before .before) .pre))
 
 write-path-requires : tie.Need-write-path-requires
-write-path-requires c κs =
-    let at-start = c .before .before .before .before .before .before .before in
-    let (places-bound, out-room) = at-start .pre in
-    simp length-take (omega (arith, places-bound, out-room))
+write-path-requires c κs = simp length-take (omega (arith, start-of (c .before .before .before) .pre))
 
 returns : tie.Need-returns
 returns c =
     let at-write-path = c .before .before .before in
     let at-set-untouched = at-write-path .before .before .before .before in
-    let at-start = at-set-untouched .before .before .before .before in
+    let at-start = start-of at-set-untouched in
     let (written, write-path-bound) = at-write-path .write-path .ensures in
     let (places-bound, _) = at-start .pre in (
       written-as written _
@@ -40,7 +37,6 @@ returns c =
     )
 
 pub write-asked-path-spec : {M : Type 1} → statement M
-write-asked-path-spec =
-    tie.close
+write-asked-path-spec = tie.close
     (tie.spec (λ c. search needs) (λ c κs. search needs) (λ c. search needs) slice-aggregate-write-path write-path-requires
     (λ c. search needs) returns)
