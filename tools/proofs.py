@@ -11,7 +11,7 @@ import tempfile
 FACT = re.compile(r"^(\S+) : tie\.Need-(\S+)(.*)$", re.M)
 CHAIN = re.compile(r"(?<![\w.·-])c((?: \.before)*) \.([^\s().,]+)")
 # The list of answers at the end of a proof file.
-CLOSING = re.compile(r"tie\.close\s+\(tie\.spec\s((?:[^()]|\([^()]*\))*)\)")
+CLOSING = re.compile(r"\s+tie\.close\s+\(tie\.spec\s((?:[^()]|\([^()]*\))*)\)")
 WIDTH = 140
 
 
@@ -95,7 +95,7 @@ def listed(text):
 
 def filled(words):
     """The list at the end, `words` being the answers in their order."""
-    whole = f" (tie.spec {' '.join(words)})"
+    whole = f" tie.close (tie.spec {' '.join(words)})"
     if len(whole) <= 100:
         return whole
     lines, line = [], "    (tie.spec"
@@ -105,7 +105,7 @@ def filled(words):
             line = "    " + word
         else:
             line += " " + word
-    return "\n" + "\n".join([*lines, line]) + ")"
+    return "\n    tie.close\n" + "\n".join([*lines, line]) + ")"
 
 
 def by_search(lifetimes):

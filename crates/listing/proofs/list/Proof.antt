@@ -16,6 +16,7 @@ print-parts-requires c κs =
     (underway, (omega arith, omega arith, omega arith))
 
 pub list-spec : {M : Type 1} → statement M
-list-spec = tie.close
+list-spec =
+    tie.close
     (tie.spec (λ c. search needs) (λ c. search needs) begin-listing-requires (λ c. search needs) (λ c. search needs) (λ c. search needs)
     (λ c. search needs) (λ c. search needs) print-parts-requires (λ c. search needs))

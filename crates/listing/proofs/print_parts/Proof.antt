@@ -83,7 +83,8 @@ loop-again c =
     )
 
 pub print-parts-spec : {M : Type 1} → statement M
-print-parts-spec = tie.close
+print-parts-spec =
+    tie.close
     (tie.spec Inv-loop μ-loop loop-holds next-part-requires (λ c. search needs) slice-reshare-prefix-print slice-aggregate-print
     (λ c κs. search needs) (λ c. search needs) (λ c. search needs) (λ c. search needs) (λ c. search needs) (λ c. search needs) loop-less
     loop-again (λ c. search needs) (λ c. search needs) (λ c. search needs) (λ c. search needs) (λ c. search needs) (λ c. search needs))

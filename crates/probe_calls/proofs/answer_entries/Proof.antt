@@ -16,6 +16,7 @@ slice-aggregate-write-all c =
     simp length-take (omega (arith, at-write-asked-entries .write-asked-entries .ensures))
 
 pub answer-entries-spec : {M : Type 1} → statement M
-answer-entries-spec = tie.close
+answer-entries-spec =
+    tie.close
     (tie.spec (λ c. search needs) (λ c κs. search needs) array-share-prefix-line slice-aggregate-write-all (λ c κs. search needs)
     (λ c. search needs))

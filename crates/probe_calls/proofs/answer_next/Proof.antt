@@ -16,6 +16,7 @@ slice-aggregate-answer-table : tie.Need-slice-aggregate-answer-table
 slice-aggregate-answer-table c = simp length-take (omega (arith, array-share-prefix-table (c .before)))
 
 pub answer-next-spec : {M : Type 1} → statement M
-answer-next-spec = tie.close
+answer-next-spec =
+    tie.close
     (tie.spec (λ c. search needs) (λ c. search needs) (λ c κs. search needs) (λ c. search needs) array-share-prefix-table
     slice-aggregate-answer-table (λ c κs. search needs) (λ c. search needs) (λ c. search needs) (λ c. search needs))

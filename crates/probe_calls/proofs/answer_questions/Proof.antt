@@ -16,7 +16,8 @@ loop-again : tie.Need-loop-again Inv-loop μ-loop
 loop-again c = tt
 
 pub answer-questions-spec : {M : Type 1} → statement M
-answer-questions-spec = tie.close
+answer-questions-spec =
+    tie.close
     (tie.spec Inv-loop μ-loop loop-holds (λ c. search needs) (λ c κs. search needs) (λ c. search needs) (λ c. search needs)
     (λ c. search needs) (λ c. search needs) (λ c κs. search needs) (λ c. search needs) (λ c. search needs) (λ c. search needs) loop-again
     (λ c. search needs))

@@ -11,6 +11,7 @@ slice-aggregate-write-all c =
     simp length-take (omega (arith, at-write-asked-tree .write-asked-tree .ensures))
 
 pub answer-tree-spec : {M : Type 1} → statement M
-answer-tree-spec = tie.close
+answer-tree-spec =
+    tie.close
     (tie.spec (λ c. search needs) (λ c κs. search needs) (λ c. search needs) slice-aggregate-write-all (λ c κs. search needs)
     (λ c. search needs))

@@ -21,4 +21,5 @@ returns-2 c =
 
 pub branch-hops-spec : {M : Type 1} → statement M
 branch-hops-spec =
-    tie.close (tie.spec (λ c κs. search needs) (λ c κs. search needs) returns (λ c κs. search needs) returns-2)
+    tie.close
+    (tie.spec (λ c κs. search needs) (λ c κs. search needs) returns (λ c κs. search needs) returns-2)

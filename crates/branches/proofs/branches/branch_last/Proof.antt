@@ -21,4 +21,5 @@ returns-2 c =
 
 pub branch-last-spec : {M : Type 1} → statement M
 branch-last-spec =
-    tie.close (tie.spec (λ c κs. search needs) (λ c κs. search needs) returns (λ c κs. search needs) returns-2)
+    tie.close
+    (tie.spec (λ c κs. search needs) (λ c κs. search needs) returns (λ c κs. search needs) returns-2)

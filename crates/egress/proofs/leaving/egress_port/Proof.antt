@@ -93,6 +93,7 @@ returns-3 c =
     walking-ends (at-loop .loop .inv) (at-hops-at .hops-at .ensures) (agree (c .before .differs .ensures) (c .if2 .left))
 
 pub egress-port-spec : {M : Type 1} → statement M
-egress-port-spec = tie.close
+egress-port-spec =
+    tie.close
     (tie.spec Inv-loop μ-loop cost-at-requires (λ c κs. search needs) returns loop-holds hops-at-requires (λ c κs. search needs)
     next-number-requires mul-result shared-slice-read-result returns-2 cast-c loop-less loop-again returns-3)

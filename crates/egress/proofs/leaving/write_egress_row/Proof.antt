@@ -40,6 +40,7 @@ returns : tie.Need-returns Inv-loop μ-loop
 returns c = rowing-ends (c .before .loop .inv) (c .loop-test .left)
 
 pub write-egress-row-spec : {M : Type 1} → statement M
-write-egress-row-spec = tie.close
+write-egress-row-spec =
+    tie.close
     (tie.spec Inv-loop μ-loop loop-holds egress-port-requires (λ c. search needs) (λ c. search needs) slice-write-egress-rows
     (λ c. search needs) (λ c. search needs) loop-again same-length returns)

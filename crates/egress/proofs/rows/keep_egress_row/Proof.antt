@@ -94,7 +94,8 @@ returns-2 c =
     (egress-rows-kept, ((kept, has-egress-row, omega arith), trees-kept))
 
 pub keep-egress-row-spec : {M : Type 1} → statement M
-keep-egress-row-spec = tie.close
+keep-egress-row-spec =
+    tie.close
     (tie.spec (λ c. search needs) (λ c. search needs) (λ c. search needs) (λ c. search needs) (λ c. search needs) returns
     kept-tree-requires (λ c. search needs) (λ c. search needs) (λ c. search needs) (λ c. search needs) (λ c. search needs)
     add-write-egress-row mul-write-egress-row (λ c. search needs) (λ c. search needs) (λ c. search needs) bridges-requires

@@ -32,6 +32,7 @@ returns : tie.Need-returns Inv-loop μ-loop
 returns c = copying-ends (c .before .loop .inv) (c .loop-test .left)
 
 pub copy-spec : {M : Type 1} → statement M
-copy-spec = tie.close
+copy-spec =
+    tie.close
     (tie.spec Inv-loop μ-loop loop-holds (λ c. search needs) (λ c. search needs) (λ c. search needs) slice-write-list (λ c. search needs)
     (λ c. search needs) loop-again same-length returns)

@@ -47,6 +47,7 @@ returns-2 c =
     (answer-made checked (at-start .args .bridge) (at-if1 .if1 .left) (at-list-of-table .list-of-table .ensures))
 
 pub entries-in-table-spec : {M : Type 1} → statement M
-entries-in-table-spec = tie.close
+entries-in-table-spec =
+    tie.close
     (tie.spec returns (λ c. search needs) (λ c κs. search needs) array-share-prefix-words slice-aggregate-fitted fitted-requires
     (λ c. search needs) returns-2)

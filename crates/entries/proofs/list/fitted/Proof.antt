@@ -18,4 +18,6 @@ returns-2 c =
     fits-in (at-start .args .words .now) (at-start .args .list .now) (at-if1 .if1 .left) (at-copy .copy .ensures)
 
 pub fitted-spec : {M : Type 1} → statement M
-fitted-spec = tie.close (tie.spec returns (λ c κs. search needs) (λ c. search needs) (λ c. search needs) returns-2)
+fitted-spec =
+    tie.close
+    (tie.spec returns (λ c κs. search needs) (λ c. search needs) (λ c. search needs) returns-2)

@@ -82,7 +82,8 @@ returns c =
     )
 
 pub list-in-network-spec : {M : Type 1} → statement M
-list-in-network-spec = tie.close
+list-in-network-spec =
+    tie.close
     (tie.spec (λ c. search needs) hop-ports-requires (λ c. search needs) (λ c. search needs) rising-ports-requires (λ c. search needs)
     (λ c. search needs) keep-egress-rows-requires (λ c. search needs) (λ c. search needs) slice-aggregate-whole-list-2 whole-list-requires
     (λ c. search needs) (λ c. search needs) (λ c. search needs) returns)

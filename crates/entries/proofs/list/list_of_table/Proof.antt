@@ -20,6 +20,7 @@ list-in-network-requires c κs =
     )
 
 pub list-of-table-spec : {M : Type 1} → statement M
-list-of-table-spec = tie.close
+list-of-table-spec =
+    tie.close
     (tie.spec (λ c. search needs) (λ c κs. search needs) (λ c. search needs) (λ c. search needs) (λ c. search needs)
     list-in-network-requires (λ c. search needs) (λ c. search needs))

@@ -153,7 +153,8 @@ returns c =
     (members-end hops-ready keeping-members (c .if1 .left), trees-kept)
 
 pub keep-egress-rows-spec : {M : Type 1} → statement M
-keep-egress-rows-spec = tie.close
+keep-egress-rows-spec =
+    tie.close
     (tie.spec Inv-loop μ-loop keep-own-egress-rows-requires loop-holds member-requires (λ c. search needs) transmitter-index-requires
     (λ c. search needs) (λ c. search needs) loop-again cast-keep-egress-row keep-egress-row-requires (λ c. search needs)
     (λ c. search needs) loop-again-2 (λ c. search needs) (λ c. search needs) same-length-3 returns)

@@ -91,6 +91,7 @@ returns c =
     (keeping-own .held, ((keeping-own .kept, own-egress-rows, count-bound), trees-kept))
 
 pub keep-own-egress-rows-spec : {M : Type 1} → statement M
-keep-own-egress-rows-spec = tie.close
+keep-own-egress-rows-spec =
+    tie.close
     (tie.spec Inv-loop μ-loop loop-holds vid-requires cast-keep-egress-row keep-egress-row-requires (λ c. search needs) (λ c. search needs)
     loop-again (λ c. search needs) (λ c. search needs) same-length-3 returns)

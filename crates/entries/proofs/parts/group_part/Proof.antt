@@ -49,5 +49,6 @@ returns c =
     appending-ends (at-loop .loop .inv) (c .if1 .left)
 
 pub group-part-spec : {M : Type 1} → statement M
-group-part-spec = tie.close
+group-part-spec =
+    tie.close
     (tie.spec Inv-loop μ-loop loop-holds member-words-requires (λ c. search needs) (λ c. search needs) loop-again same-length returns)

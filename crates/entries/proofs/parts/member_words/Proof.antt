@@ -56,5 +56,6 @@ returns-3 c =
     (at-if2 .if2 .left) (at-transmitter-words .transmitter-words .ensures)
 
 pub member-words-spec : {M : Type 1} → statement M
-member-words-spec = tie.close
+member-words-spec =
+    tie.close
     (tie.spec (λ c κs. search needs) returns returns-2 transmitter-words-requires (λ c. search needs) returns-3)

@@ -105,7 +105,8 @@ returns c =
     (at-group-words .group-words .ensures)
 
 pub transmitter-words-spec : {M : Type 1} → statement M
-transmitter-words-spec = tie.close
+transmitter-words-spec =
+    tie.close
     (tie.spec (λ c. search needs) (λ c κs. search needs) group-address-requires (λ c. search needs) egress-row-at-requires mul-ports-behind
     sub-ports-behind part-ports-behind-start (λ c. search needs) (λ c. search needs) ports-behind-requires array-share-prefix-behind
     slice-aggregate-group-words group-words-requires (λ c. search needs) returns)

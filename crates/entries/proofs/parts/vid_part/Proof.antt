@@ -94,6 +94,7 @@ returns c =
     (at-individual-words .individual-words .ensures) (at-group-part .group-part .ensures)
 
 pub vid-part-spec : {M : Type 1} → statement M
-vid-part-spec = tie.close
+vid-part-spec =
+    tie.close
     (tie.spec (λ c κs. search needs) egress-row-at-requires mul-individual-words sub-individual-words part-individual-words-start
     (λ c. search needs) individual-words-requires group-part-requires (λ c. search needs) returns)

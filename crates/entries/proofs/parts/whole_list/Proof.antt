@@ -46,5 +46,6 @@ returns c =
     appending-ends (at-loop .loop .inv) (c .if1 .left)
 
 pub whole-list-spec : {M : Type 1} → statement M
-whole-list-spec = tie.close
+whole-list-spec =
+    tie.close
     (tie.spec Inv-loop μ-loop loop-holds vid-part-requires (λ c. search needs) (λ c. search needs) loop-again same-length returns)

@@ -20,5 +20,6 @@ returns c =
     (sym (how-many memberOf 2 (membersFrom s) ws (s .members)))
 
 pub counts-spec : {M : Type 1} → statement M
-counts-spec = tie.close
+counts-spec =
+    tie.close
     (tie.spec (λ c. search needs) (λ c. search needs) (λ c κs. search needs) (λ c. search needs) (λ c. search needs) returns)

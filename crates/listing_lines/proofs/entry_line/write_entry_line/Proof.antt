@@ -38,7 +38,8 @@ returns c =
     (at-address-of .address-of .ensures)
 
 pub write-entry-line-spec : {M : Type 1} → statement M
-write-entry-line-spec = tie.close
+write-entry-line-spec =
+    tie.close
     (tie.spec (λ c κs. search needs) (λ c κs. search needs) (λ c. search needs) (λ c κs. search needs) (λ c. search needs)
     (λ c κs. search needs) (λ c κs. search needs) (λ c κs. search needs) (λ c κs. search needs) write-byte-requires-2 (λ c. search needs)
     returns)

@@ -43,7 +43,8 @@ returns : tie.Need-returns Inv-loop μ-loop
 returns c = entry-listing-ends (c .before .loop .inv) (c .loop-test .left)
 
 pub write-entry-lines-spec : {M : Type 1} → statement M
-write-entry-lines-spec = tie.close
+write-entry-lines-spec =
+    tie.close
     (tie.spec Inv-loop μ-loop loop-holds (λ c. search needs) (λ c. search needs) (λ c. search needs) (λ c. search needs)
     (λ c. search needs) shared-slice-read-write-entry-line-2 (λ c. search needs) (λ c. search needs) shared-slice-read-write-entry-line-3
     write-entry-line-requires (λ c. search needs) (λ c. search needs) loop-again (λ c. search needs) returns)

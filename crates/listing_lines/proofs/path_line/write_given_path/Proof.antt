@@ -19,6 +19,7 @@ returns c =
     (at-write-byte .write-byte .ensures) bridges-length out-room
 
 pub write-given-path-spec : {M : Type 1} → statement M
-write-given-path-spec = tie.close
+write-given-path-spec =
+    tie.close
     (tie.spec (λ c. search needs) (λ c κs. search needs) (λ c. search needs) (λ c κs. search needs) (λ c κs. search needs)
     (λ c κs. search needs) (λ c. search needs) returns)

@@ -59,6 +59,7 @@ returns-2 c =
     )
 
 pub write-path-answer-spec : {M : Type 1} → statement M
-write-path-answer-spec = tie.close
+write-path-answer-spec =
+    tie.close
     (tie.spec (λ c. search needs) (λ c κs. search needs) slice-aggregate-write-given-path write-given-path-requires (λ c. search needs)
     (λ c κs. search needs) (λ c. search needs) returns (λ c. search needs) returns-2)

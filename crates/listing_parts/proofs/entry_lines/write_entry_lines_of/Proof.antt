@@ -53,6 +53,7 @@ returns c =
     )
 
 pub write-entry-lines-of-spec : {M : Type 1} → statement M
-write-entry-lines-of-spec = tie.close
+write-entry-lines-of-spec =
+    tie.close
     (tie.spec (λ c κs. search needs) slice-reshare-prefix-write-entry-lines slice-aggregate-write-entry-lines cast-write-entry-lines
     write-entry-lines-requires (λ c. search needs) (λ c. search needs) (λ c. search needs) (λ c. search needs) returns)

@@ -33,5 +33,6 @@ returns c =
     )
 
 pub write-path-line-spec : {M : Type 1} → statement M
-write-path-line-spec = tie.close
+write-path-line-spec =
+    tie.close
     (tie.spec (λ c. search needs) (λ c κs. search needs) (λ c. search needs) write-path-answer-requires (λ c. search needs) returns)

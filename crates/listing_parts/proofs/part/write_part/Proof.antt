@@ -95,7 +95,8 @@ returns-3 c =
     (trees-kept, (entry-lines-part _ _ _ (at-if1 .if1 .left) (at-if2 .if2 .left) written, write-entry-lines-of-bound))
 
 pub write-part-spec : {M : Type 1} → statement M
-write-part-spec = tie.close
+write-part-spec =
+    tie.close
     (tie.spec (λ c κs. search needs) (λ c. search needs) returns (λ c. search needs) mul-pairs div-write-path-lines rem-write-path-lines
     write-path-lines-requires (λ c. search needs) (λ c. search needs) (λ c. search needs) returns-2 write-entry-lines-of-requires
     (λ c. search needs) (λ c. search needs) (λ c. search needs) (λ c. search needs) returns-3)

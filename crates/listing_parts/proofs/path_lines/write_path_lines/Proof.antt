@@ -154,7 +154,8 @@ returns c =
     )
 
 pub write-path-lines-spec : {M : Type 1} → statement M
-write-path-lines-spec = tie.close
+write-path-lines-spec =
+    tie.close
     (tie.spec Inv-loop μ-loop vid-requires loop-holds (λ c. search needs) (λ c. search needs) loop-again kept-tree-requires
     add-write-path-line mul-write-path-line (λ c. search needs) (λ c. search needs) (λ c. search needs) cast-write-path-line
     cast-write-path-line-2 write-path-line-requires (λ c. search needs) (λ c. search needs) loop-again-2 (λ c. search needs)

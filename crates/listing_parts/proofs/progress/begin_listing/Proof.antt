@@ -48,6 +48,7 @@ returns-2 c =
     begun-refused (start-of at-examine .args .table .now) (at-examine .examine .result) examine-is _ _ _ (c .before .examined2 .given .1) _
 
 pub begin-listing-spec : {M : Type 1} → statement M
-begin-listing-spec = tie.close
+begin-listing-spec =
+    tie.close
     (tie.spec (λ c. search needs) examine-requires (λ c. search needs) (λ c. search needs) make-network-requires (λ c. search needs)
     counts-requires (λ c. search needs) (λ c. search needs) returns returns-2)

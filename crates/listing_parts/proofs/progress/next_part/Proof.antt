@@ -116,7 +116,8 @@ returns-4 c =
     (omega (arith, write-refused-bound, same-length-5 c, out-room)) (c .part-given2 .result) (c .part-given2 .ensures)
 
 pub next-part-spec : {M : Type 1} → statement M
-next-part-spec = tie.close
+next-part-spec =
+    tie.close
     (tie.spec (λ c. search needs) part-count-requires returns write-part-requires part-given-requires (λ c. search needs) returns-2
     (λ c κs. search needs) (λ c κs. search needs) (λ c. search needs) (λ c. search needs) (λ c. search needs) same-length-4 returns-3
     same-length-5 returns-4)

@@ -95,7 +95,8 @@ returns : tie.Need-returns Inv-loop μ-loop
 returns c = row-ends (c .before .loop .inv) (c .loop-test .left)
 
 pub list-hops-spec : {M : Type 1} → statement M
-list-hops-spec = tie.close
+list-hops-spec =
+    tie.close
     (tie.spec Inv-loop μ-loop (λ c. search needs) (λ c. search needs) (λ c. search needs) loop-holds (λ c. search needs)
     (λ c. search needs) (λ c. search needs) (λ c. search needs) loop-again (λ c. search needs) add-network mul-network slice-write-network
     cost-of-hop-requires add-network-2 mul-network-2 slice-write-network-2 (λ c κs. search needs) add-network-3 mul-network-3

@@ -71,6 +71,7 @@ returns : tie.Need-returns Inv-loop μ-loop
 returns c = (filling-ends (c .before .loop .inv) (c .loop-test .left), network-length (c .before))
 
 pub list-neighbours-spec : {M : Type 1} → statement M
-list-neighbours-spec = tie.close
+list-neighbours-spec =
+    tie.close
     (tie.spec Inv-loop μ-loop (λ c. search needs) loop-holds list-hops-requires (λ c. search needs) cast-network (λ c. search needs)
     (λ c. search needs) slice-write-network-2 (λ c. search needs) loop-again same-length returns)

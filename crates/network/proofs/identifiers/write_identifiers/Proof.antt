@@ -39,7 +39,8 @@ returns c =
     identifying-ends (at-loop .loop .inv) (c .if1 .left)
 
 pub write-identifiers-spec : {M : Type 1} → statement M
-write-identifiers-spec = tie.close
+write-identifiers-spec =
+    tie.close
     (tie.spec Inv-loop μ-loop loop-holds (λ c κs. search needs) (λ c. search needs) (λ c. search needs) (λ c. search needs)
     (λ c. search needs) (λ c. search needs) (λ c. search needs) (λ c. search needs) (λ c. search needs) slice-write-words-2
     (λ c. search needs) (λ c. search needs) loop-again (λ c. search needs) returns)

@@ -35,6 +35,7 @@ returns c =
     masking-ends (c .before .loop .inv) keys-room (omega (arith, at-bridges .bridges .ensures))
 
 pub write-keys-spec : {M : Type 1} → statement M
-write-keys-spec = tie.close
+write-keys-spec =
+    tie.close
     (tie.spec Inv-loop μ-loop (λ c κs. search needs) loop-holds (λ c κs. search needs) (λ c κs. search needs) (λ c. search needs)
     (λ c. search needs) (λ c. search needs) (λ c. search needs) loop-again (λ c. search needs) returns)

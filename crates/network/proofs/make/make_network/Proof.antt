@@ -66,6 +66,7 @@ returns c =
     }
 
 pub make-network-spec : {M : Type 1} → statement M
-make-network-spec = tie.close
+make-network-spec =
+    tie.close
     (tie.spec (λ c. search needs) lowest-hops-requires (λ c. search needs) list-neighbours-requires (λ c. search needs) (λ c. search needs)
     (λ c. search needs) write-identifiers-requires (λ c. search needs) (λ c. search needs) same-length returns)

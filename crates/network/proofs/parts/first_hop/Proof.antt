@@ -13,5 +13,6 @@ returns c =
     c .wide .ensures ∙ sym (part-at (at-start .args .network .now) startsAt 65 (at-start .args .u) (omega arith))
 
 pub first-hop-spec : {M : Type 1} → statement M
-first-hop-spec = tie.close
+first-hop-spec =
+    tie.close
     (tie.spec (λ c. search needs) (λ c. search needs) (λ c. search needs) (λ c κs. search needs) returns)

@@ -13,5 +13,6 @@ returns c =
     c .wide .ensures ∙ sym (part-at (at-start .args .network .now) neighboursAt 512 (at-start .args .i) (omega arith))
 
 pub neighbour-spec : {M : Type 1} → statement M
-neighbour-spec = tie.close
+neighbour-spec =
+    tie.close
     (tie.spec (λ c. search needs) (λ c. search needs) (λ c. search needs) (λ c κs. search needs) returns)

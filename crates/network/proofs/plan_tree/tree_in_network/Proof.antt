@@ -30,7 +30,8 @@ returns c =
     (at-bridges .bridges .ensures) _ _ (at-tree .tree .ensures)
 
 pub tree-in-network-spec : {M : Type 1} → statement M
-tree-in-network-spec = tie.close
+tree-in-network-spec =
+    tie.close
     (tie.spec (λ c κs. search needs) (λ c. search needs) (λ c κs. search needs) (λ c κs. search needs) (λ c. search needs)
     (λ c. search needs) (λ c. search needs) (λ c. search needs) (λ c. search needs) (λ c. search needs) (λ c. search needs)
     (λ c. search needs) (λ c. search needs) (λ c. search needs) tree-requires (λ c. search needs) (λ c. search needs) returns)

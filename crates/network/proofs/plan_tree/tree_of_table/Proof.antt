@@ -20,6 +20,7 @@ returns c =
     at-tree-in-network .tree-in-network .ensures .of-plan _ (at-make-network .make-network .ensures .network)
 
 pub tree-of-table-spec : {M : Type 1} → statement M
-tree-of-table-spec = tie.close
+tree-of-table-spec =
+    tie.close
     (tie.spec (λ c. search needs) (λ c κs. search needs) (λ c. search needs) (λ c. search needs) tree-in-network-requires
     (λ c. search needs) returns)

@@ -31,7 +31,8 @@ returns-2 c =
     (omega (arith, at-tree-in-network .tree-in-network .kept)) (at-tree-in-network .tree-in-network .ensures)
 
 pub kept-tree-spec : {M : Type 1} → statement M
-kept-tree-spec = tie.close
+kept-tree-spec =
+    tie.close
     (tie.spec (λ c. search needs) (λ c. search needs) (λ c. search needs) (λ c κs. search needs) (λ c. search needs) (λ c. search needs)
     (λ c. search needs) (λ c. search needs) (λ c. search needs) (λ c. search needs) returns (λ c. search needs) (λ c. search needs)
     (λ c. search needs) (λ c. search needs) (λ c. search needs) (λ c κs. search needs) (λ c. search needs) (λ c. search needs)

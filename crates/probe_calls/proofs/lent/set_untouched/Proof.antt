@@ -27,6 +27,7 @@ returns : tie.Need-returns Inv-loop μ-loop
 returns c = all-untouched (c .before .loop .inv) (omega (arith, c .loop-test .left, c .before .loop .inv .same-length))
 
 pub set-untouched-spec : {M : Type 1} → statement M
-set-untouched-spec = tie.close
+set-untouched-spec =
+    tie.close
     (tie.spec Inv-loop μ-loop loop-holds (λ c. search needs) (λ c. search needs) (λ c. search needs) (λ c. search needs)
     (λ c. search needs) (λ c. search needs) loop-again (λ c. search needs) returns)

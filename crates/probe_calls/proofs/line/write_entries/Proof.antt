@@ -24,6 +24,7 @@ returns c =
     (written-as written _ (ap (λ (o : Outcome ℕ × List ℕ). entriesText o) (at-entries .entries .ensures)), end-inside)
 
 pub write-entries-spec : {M : Type 1} → statement M
-write-entries-spec = tie.close
+write-entries-spec =
+    tie.close
     (tie.spec (λ c κs. search needs) (λ c κs. search needs) (λ c κs. search needs) (λ c κs. search needs) (λ c. search needs)
     (λ c. search needs) returns)

@@ -20,5 +20,6 @@ returns c =
     )
 
 pub write-given-path-spec : {M : Type 1} → statement M
-write-given-path-spec = tie.close
+write-given-path-spec =
+    tie.close
     (tie.spec (λ c. search needs) (λ c κs. search needs) (λ c κs. search needs) (λ c κs. search needs) (λ c. search needs) returns)

@@ -17,5 +17,6 @@ returns c =
     )
 
 pub write-given-tree-spec : {M : Type 1} → statement M
-write-given-tree-spec = tie.close
+write-given-tree-spec =
+    tie.close
     (tie.spec (λ c. search needs) (λ c κs. search needs) (λ c κs. search needs) (λ c. search needs) returns)

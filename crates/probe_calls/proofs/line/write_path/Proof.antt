@@ -25,6 +25,7 @@ returns c =
     (written-as written _ (ap (λ (o : Outcome CostAndHops × List ℕ). pathText o) (at-path .path .ensures)), end-inside)
 
 pub write-path-spec : {M : Type 1} → statement M
-write-path-spec = tie.close
+write-path-spec =
+    tie.close
     (tie.spec (λ c κs. search needs) (λ c κs. search needs) (λ c κs. search needs) (λ c κs. search needs) (λ c. search needs)
     (λ c. search needs) returns)

@@ -27,6 +27,7 @@ returns c =
     (written-as written _ (ap (λ (o : Outcome ℕ × List ℕ × List ℕ × List ℕ). treeText o) (at-tree .tree .ensures)), end-inside)
 
 pub write-tree-spec : {M : Type 1} → statement M
-write-tree-spec = tie.close
+write-tree-spec =
+    tie.close
     (tie.spec (λ c κs. search needs) (λ c κs. search needs) (λ c κs. search needs) (λ c κs. search needs) (λ c κs. search needs)
     (λ c κs. search needs) (λ c. search needs) (λ c. search needs) (λ c. search needs) (λ c. search needs) returns)

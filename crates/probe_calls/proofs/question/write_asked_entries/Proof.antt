@@ -35,6 +35,7 @@ returns c =
     )
 
 pub write-asked-entries-spec : {M : Type 1} → statement M
-write-asked-entries-spec = tie.close
+write-asked-entries-spec =
+    tie.close
     (tie.spec (λ c. search needs) (λ c κs. search needs) (λ c. search needs) slice-aggregate-write-entries write-entries-requires
     (λ c. search needs) returns)

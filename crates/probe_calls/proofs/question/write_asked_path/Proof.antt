@@ -37,6 +37,7 @@ returns c =
     )
 
 pub write-asked-path-spec : {M : Type 1} → statement M
-write-asked-path-spec = tie.close
+write-asked-path-spec =
+    tie.close
     (tie.spec (λ c. search needs) (λ c κs. search needs) (λ c. search needs) slice-aggregate-write-path write-path-requires
     (λ c. search needs) returns)

@@ -43,7 +43,8 @@ returns c =
     )
 
 pub write-asked-tree-spec : {M : Type 1} → statement M
-write-asked-tree-spec = tie.close
+write-asked-tree-spec =
+    tie.close
     (tie.spec (λ c. search needs) (λ c κs. search needs) (λ c. search needs) (λ c κs. search needs) (λ c. search needs)
     (λ c κs. search needs) (λ c. search needs) slice-aggregate-write-tree (λ c. search needs) slice-aggregate-write-tree-2
     (λ c. search needs) slice-aggregate-write-tree-3 write-tree-requires (λ c. search needs) returns)

@@ -9,5 +9,4 @@ returns : tie.Need-returns
 returns c = same-half-link (omega arith) (omega arith) (omega arith) (omega arith) (omega arith)
 
 pub half-link-of-spec : {M : Type 1} → statement M
-half-link-of-spec =
-    tie.close (tie.spec (λ c κs. search needs) (λ c κs. search needs) (λ c κs. search needs) returns)
+half-link-of-spec = tie.close (tie.spec (λ c κs. search needs) (λ c κs. search needs) (λ c κs. search needs) returns)

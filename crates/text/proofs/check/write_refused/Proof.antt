@@ -16,5 +16,4 @@ returns c =
     )
 
 pub write-refused-spec : {M : Type 1} → statement M
-write-refused-spec =
-    tie.close (tie.spec (λ c κs. search needs) (λ c κs. search needs) (λ c. search needs) returns)
+write-refused-spec = tie.close (tie.spec (λ c κs. search needs) (λ c κs. search needs) (λ c. search needs) returns)

@@ -17,5 +17,4 @@ returns c =
     )
 
 pub write-field-spec : {M : Type 1} → statement M
-write-field-spec =
-    tie.close (tie.spec (λ c κs. search needs) (λ c κs. search needs) (λ c. search needs) returns)
+write-field-spec = tie.close (tie.spec (λ c κs. search needs) (λ c κs. search needs) (λ c. search needs) returns)

@@ -30,4 +30,5 @@ returns-2 c =
 
 pub after-end-spec : {M : Type 1} → statement M
 after-end-spec =
-    tie.close (tie.spec (λ c κs. search needs) (λ c κs. search needs) (λ c κs. search needs) returns returns-2)
+    tie.close
+    (tie.spec (λ c κs. search needs) (λ c κs. search needs) (λ c κs. search needs) returns returns-2)
