@@ -6,17 +6,17 @@
 // anything: that C's read and write keep their contracts.
 use entries::list::LONGEST_LIST;
 use listing_parts::part::LONGEST_PART;
-use listing_parts::progress::NextPart;
-use listing_parts::progress::Progress;
-use listing_parts::progress::begin_listing;
-use listing_parts::progress::next_part;
+use listing_progress::progress::NextPart;
+use listing_progress::progress::Progress;
+use listing_progress::progress::begin_listing;
+use listing_progress::progress::next_part;
 use network::parts::NETWORK;
 use network::store::EVERY_TREE;
 use rule::kinds::LONGEST_TABLE;
 use tree::search::PATH_IDS;
 ghost use Prim.Native.Nat.{_≤_};
 ghost use lib.ListN.{length};
-ghost use Rattle.listing_parts.specs.Remaining.{Underway};
+ghost use Rattle.listing_progress.specs.Remaining.{Underway};
 
 // Whether the text was written.
 fn print(text: &[u8]) -> bool {

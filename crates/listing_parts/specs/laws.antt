@@ -5,4 +5,3 @@ pub mod PathLineLaws
 pub mod EntryLines
 pub mod PartLaws
 pub mod TableParts
-pub mod RemainingLaws

@@ -4,4 +4,3 @@ pub mod entry_lines;
 pub mod labelled_line;
 pub mod part;
 pub mod path_lines;
-pub mod progress;

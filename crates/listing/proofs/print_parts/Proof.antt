@@ -4,8 +4,8 @@ use native.Mathlib.Omega.{arith}
 use mathlib.Core.Path.{_≡_, refl}
 use Prim.Native.Nat.{_<_}
 use lib.ListN.{length, length-take}
-use Rattle.listing_parts.specs.Remaining.{partsLeft, Underway}
-use Rattle.listing_parts.specs.laws.RemainingLaws.{part-fits, part-goes-on}
+use Rattle.listing_progress.specs.Remaining.{partsLeft, Underway}
+use Rattle.listing_progress.specs.laws.RemainingLaws.{part-fits, part-goes-on}
 use Rattle.listing.proofs.print_parts.Statement.{statement}
 use Rattle.listing.proofs.print_parts.Tie as tie
 

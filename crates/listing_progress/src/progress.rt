@@ -1,7 +1,7 @@
 // A listing given part by part (01, "Listing program"): begun with the verdict on the table, then one part after the other until none is
 // left. The parts given are together the listing of the table (`listing-given`).
-use crate::part::part_count;
-use crate::part::write_part;
+use listing_parts::part::part_count;
+use listing_parts::part::write_part;
 use key_index::chain::INDEX;
 use links::counts::counts;
 use listing_lines::refusal::write_refused;
@@ -15,7 +15,7 @@ ghost use lib.ListN.{length};
 ghost use Rattle.network.specs.Layout.{networkWords};
 ghost use Rattle.network.specs.Store.{lineWords};
 ghost use Rattle.listing_lines.specs.Listing.{listing};
-ghost use Rattle.listing_parts.specs.Remaining.{AllZero, remaining, NextOf, Underway, GoesOn};
+ghost use Rattle.listing_progress.specs.Remaining.{AllZero, remaining, NextOf, Underway, GoesOn};
 
 // How far a listing is given: the verdict on its table, the table's counts where it was accepted, and how many parts were given.
 pub struct Progress {

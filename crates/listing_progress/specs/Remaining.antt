@@ -17,9 +17,9 @@ use Rattle.network.specs.Networks.{TableNetwork}
 use Rattle.network.specs.Store.{TreesKept}
 use Rattle.text.specs.Text.{line}
 use Rattle.text.specs.CheckText.{refusedWord}
-use Rattle.listing_parts.specs.declared.progress.Progress.{Progress}
-use Rattle.listing_parts.specs.declared.progress.NextPart.{NextPart}
+use Rattle.listing_progress.specs.declared.progress.Progress.{Progress}
+use Rattle.listing_progress.specs.declared.progress.NextPart.{NextPart}
 use Rattle.listing_parts.specs.Parts.{partCount, listingPart}
 
 -- The parts of a listing by the verdict on the table, in order: those of an accepted plan, or the one line of a refusal.
 unfoldable pub partsOf : Outcome Plan → List (List ℕ)

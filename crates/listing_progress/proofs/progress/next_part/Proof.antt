@@ -1,17 +1,17 @@
--- `listing_parts::progress::next_part` writes the part that comes next, or says that none is left. Assumes nothing.
+-- `listing_progress::progress::next_part` writes the part that comes next, or says that none is left. Assumes nothing.
 use native.Mathlib.Omega.{arith}
 use Prim.Native.Nat.{_≤_, _<_}
 use Rattle.rule.specs.Words.{wordsOf}
 use Rattle.table.specs.Positions.{planAt}
 use Rattle.verdict.specs.laws.CheckedLaws.{few-bridges}
 use Rattle.entries.specs.laws.NeededLaws.{few-vids}
 use Rattle.listing_parts.specs.Parts.{partCount}
-use Rattle.listing_parts.specs.Remaining.{PartsReady}
+use Rattle.listing_progress.specs.Remaining.{PartsReady}
 use Rattle.listing_parts.specs.laws.TableParts.{few-pairs, parts-are}
-use Rattle.listing_parts.specs.laws.RemainingLaws.{accepted-ended, refused-ended, next-accepted, next-refused}
+use Rattle.listing_progress.specs.laws.RemainingLaws.{accepted-ended, refused-ended, next-accepted, next-refused}
 use borrow.Author.Needs.{needs}
-use Rattle.listing_parts.proofs.progress.next_part.Statement.{statement}
-use Rattle.listing_parts.proofs.progress.next_part.Tie as tie
+use Rattle.listing_progress.proofs.progress.next_part.Statement.{statement}
+use Rattle.listing_progress.proofs.progress.next_part.Tie as tie
 
 abbrev start-of : tie.After-counts → tie.Start
 start-of c = c .before .before .before .before .before .before .before

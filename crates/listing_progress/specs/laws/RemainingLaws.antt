@@ -30,11 +30,11 @@ use Rattle.entries.specs.laws.PartLaws.{front-is}
 use Rattle.text.specs.Text.{line}
 use Rattle.text.specs.CheckText.{refusedWord}
 use Rattle.listing_lines.specs.Listing.{verdictListing, listing}
-use Rattle.listing_parts.specs.declared.progress.Progress.{Progress}
-use Rattle.listing_parts.specs.declared.progress.NextPart.{NextPart}
+use Rattle.listing_progress.specs.declared.progress.Progress.{Progress}
+use Rattle.listing_progress.specs.declared.progress.NextPart.{NextPart}
 use Rattle.listing_parts.specs.Parts.{partCount, listingPart}
-use Rattle.listing_parts.specs.Remaining.{partsOf, together, partsLeft, remaining, Gives, NextOf, GivenParts, PartsReady, Underway, GoesOn}
+use Rattle.listing_progress.specs.Remaining.{partsOf, together, partsLeft, remaining, Gives, NextOf, GivenParts, PartsReady, Underway, GoesOn}
 use Rattle.listing_parts.specs.laws.PartLaws.{listing-parts}
 
 -- The parts by the verdict, one after the other, are the listing by the verdict.
 parts-listed : (o : Outcome Plan) → together (partsOf o) ≡ verdictListing o

@@ -1,10 +1,10 @@
--- `listing_parts::progress::begin_listing` begins with the verdict on the table, and makes the network of an accepted one. Assumes nothing.
+-- `listing_progress::progress::begin_listing` begins with the verdict on the table, and makes the network of an accepted one. Assumes nothing.
 use Rattle.key_index.specs.laws.IndexLaws.{no-keys-yet}
 use Rattle.network.specs.laws.StoreLaws.{no-trees}
-use Rattle.listing_parts.specs.laws.RemainingLaws.{begun-accepted, begun-refused}
+use Rattle.listing_progress.specs.laws.RemainingLaws.{begun-accepted, begun-refused}
 use borrow.Author.Needs.{needs}
-use Rattle.listing_parts.proofs.progress.begin_listing.Statement.{statement}
-use Rattle.listing_parts.proofs.progress.begin_listing.Tie as tie
+use Rattle.listing_progress.proofs.progress.begin_listing.Statement.{statement}
+use Rattle.listing_progress.proofs.progress.begin_listing.Tie as tie
 
 examine-requires : tie.Need-examine-requires
 examine-requires c κs = no-keys-yet

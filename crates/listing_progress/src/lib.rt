@@ -1,0 +1,2 @@
+// A listing given part by part (01, "Listing program").
+pub mod progress;
