@@ -1,10 +1,10 @@
 // A listing given part by part (01, "Listing program"): begun with the verdict on the table, then one part after the other until none is
 // left. The parts given are together the listing of the table (`listing-given`).
-use listing_parts::part::part_count;
-use listing_parts::part::write_part;
 use key_index::chain::INDEX;
 use links::counts::counts;
 use listing_lines::refusal::write_refused;
+use listing_parts::part::part_count;
+use listing_parts::part::write_part;
 use network::make::make_network;
 use rule::answer::Counts;
 use verdict::examine::Examined;

@@ -100,6 +100,14 @@ module _ {t : List ℕ} {s : Shape} (R : Checked t s) (j : ℕ) (l : j < s .memb
   pub member-index : (i ≡ 0 → ⊥) → i ≡ indexFor R j
   member-index d = index-is ∙ transmitter-index (planAt (wordsOf t) s) (memberNumber (wordsOf t) s j) (λ z. d (index-is ∙ z))
 
+  -- What the row of a transmitter needs: its index is one of 16, its bridge is in the table.
+  pub member-known : (i ≡ 0 → ⊥) → (1 ≤ i) × (i ≤ 16) × (m .bridge < s .bridges)
+  member-known d =
+      let (least, greatest) = index-fits R j l
+      in let i-is = member-index d
+      in let known = member-fits R j l .bridge-known
+      in (omega (arith, least, i-is), omega (arith, greatest, i-is), omega (arith, ap (λ (x : Member). x .bridge) e, known, bridges-counted R))
+
 pub row-of : {rows : List ℕ} {index index′ a a′ : ℕ} → index ≡ index′ → a ≡ a′ → HasEgressRow rows index a → HasEgressRow rows index′ a′
 row-of e f H = rw (← e, ← f) H
 

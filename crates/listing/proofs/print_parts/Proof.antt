@@ -46,7 +46,7 @@ slice-reshare-prefix-print c =
     let at-next-part = next-part-of (c .before) in
     let at-loop = loop-of at-next-part in
     let (next-of, _) = at-next-part .next-part .ensures in
-    part-fits (start-of at-loop .args .table .now) (at-loop .loop .progress) (c .before .next .given .1) _ next-of
+    part-fits _ _ (c .before .next .given .1) _ next-of
 
 slice-aggregate-print : tie.Need-slice-aggregate-print Inv-loop μ-loop
 slice-aggregate-print c = simp length-take (omega (arith, slice-reshare-prefix-print (c .before)))
@@ -62,7 +62,7 @@ part-given c =
     let at-next-part = next-part-of c in
     let at-loop = loop-of at-next-part in
     let (_, goes-on) = at-next-part .next-part .ensures in
-    part-goes-on (start-of at-loop .args .table .now) (at-loop .loop .progress) (c .next .given .1) _ _ goes-on
+    part-goes-on _ _ (c .next .given .1) _ _ goes-on
 
 loop-less : tie.Need-loop-less Inv-loop μ-loop
 loop-less c =

@@ -6,9 +6,7 @@ use Rattle.probe_calls.proofs.answer_entries.Statement.{statement}
 use Rattle.probe_calls.proofs.answer_entries.Tie as tie
 
 array-share-prefix-line : tie.Need-array-share-prefix-line
-array-share-prefix-line c =
-    let (_, write-asked-entries-bound) = c .before .write-asked-entries .ensures in
-    omega (arith, write-asked-entries-bound)
+array-share-prefix-line c = omega (arith, c .before .write-asked-entries .ensures)
 
 slice-aggregate-write-all : tie.Need-slice-aggregate-write-all
 slice-aggregate-write-all c =

@@ -47,12 +47,11 @@ bridges-requires c κs =
 write-egress-row-requires : tie.Need-write-egress-row-requires
 write-egress-row-requires c κs =
     let at-kept-tree = kept-tree-of (c .before .before) in
-    let at-start = start-of at-kept-tree in
-    let ((is-network, hops-room, _, _), (_, _, _, count-bound, egress-rows-kept)) = at-start .pre in
+    let ((is-network, hops-room, _, _), (_, _, _, count-bound, egress-rows-kept)) = start-of at-kept-tree .pre in
     let (_, (kept-tree-bound, tree-in)) = at-kept-tree .kept-tree .ensures in
     let network = is-network .network in (
-      walkable-by network (at-start .args .index) _
-          (lent-tree _ (at-kept-tree .kept-tree .result) tree-in .of-plan (is-network .plan) network) _ (c .before .bridges .ensures),
+      walkable-by network _ _ (lent-tree _ (at-kept-tree .kept-tree .result) tree-in .of-plan (is-network .plan) network) _
+          (c .before .bridges .ensures),
       simp (length-take, length-drop) (omega (arith, kept-tree-bound)),
       hops-room,
       simp length-set (omega (arith, egress-rows-kept .size, count-bound, c .before .bridges .ensures, network .represents .most)),
@@ -72,12 +71,10 @@ row-kept : (c : tie.After-write-egress-row) → let args = row-start-of c .args 
 row-kept c =
     let at-bridges = c .before .before in
     let at-kept-tree = kept-tree-of (at-bridges .before) in
-    let at-start = start-of at-kept-tree in
-    let ((is-network, _, _, _), (index-least, index-bound, a-bound, count-bound, egress-rows-kept)) = at-start .pre in
+    let ((is-network, _, _, _), (index-least, index-bound, a-bound, count-bound, egress-rows-kept)) = start-of at-kept-tree .pre in
     let (_, (_, tree-in)) = at-kept-tree .kept-tree .ensures in
-    row-made egress-rows-kept (is-network .network .represents .most) count-bound (at-start .args .index) (at-start .args .a) index-least
-    index-bound a-bound (lent-tree _ (at-kept-tree .kept-tree .result) tree-in) _ (at-bridges .bridges .ensures) _ _
-    (c .write-egress-row .ensures)
+    row-made egress-rows-kept (is-network .network .represents .most) count-bound _ _ index-least index-bound a-bound
+    (lent-tree _ (at-kept-tree .kept-tree .result) tree-in) _ (at-bridges .bridges .ensures) _ _ (c .write-egress-row .ensures)
 
 add-result : tie.Need-add-result
 add-result c = omega (arith, row-start-of (c .before .before) .pre)

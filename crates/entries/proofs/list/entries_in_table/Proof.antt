@@ -13,7 +13,7 @@ returns : tie.Need-returns
 returns c =
     let at-start = c .before .before .before .before .before in
     let (checked, _) = at-start .pre in
-    lacks-bridge checked (at-start .args .bridge) (c .if1 .taken) (at-start .args .list .now)
+    lacks-bridge checked _ (c .if1 .taken) (at-start .args .list .now)
 
 abbrev start-of : tie.Else1 → tie.Start
 start-of c = c .before .before .before .before .before
@@ -22,9 +22,8 @@ start-of c = c .before .before .before .before .before
 words-few : (c : tie.After-list-of-table) → c .list-of-table .result ≤ 14931
 words-few c =
     let at-if1 = c .before .before in
-    let at-start = start-of at-if1 in
-    let (checked, _) = at-start .pre in
-    few-made checked (at-start .args .bridge) (at-if1 .if1 .left) (c .list-of-table .ensures)
+    let (checked, _) = start-of at-if1 .pre in
+    few-made checked _ (at-if1 .if1 .left) (c .list-of-table .ensures)
 
 array-share-prefix-words : tie.Need-array-share-prefix-words
 array-share-prefix-words c = omega (arith, words-few (c .before))
@@ -44,7 +43,7 @@ returns-2 c =
     let (checked, _) = at-start .pre in
     at-fitted .fitted .ensures
     ∙ ap (λ (o : Outcome (Written ℕ)). lentTo (at-start .args .list .now) o)
-    (answer-made checked (at-start .args .bridge) (at-if1 .if1 .left) (at-list-of-table .list-of-table .ensures))
+    (answer-made checked _ (at-if1 .if1 .left) (at-list-of-table .list-of-table .ensures))
 
 pub entries-in-table-spec : {M : Type 1} → statement M
 entries-in-table-spec =

@@ -15,7 +15,7 @@ hop-ports-requires c κs =
     let at-start = c .before .before .before .before .before .before in
     let (table-network, b-bound, _, _, _) = at-start .pre in (
       is-network table-network,
-      in-network table-network (at-start .args .b) b-bound,
+      in-network table-network _ b-bound,
       omega (arith, bridges-in-table table-network, few-bridges (table-network .checked)),
     )
 
@@ -31,17 +31,15 @@ rising-ports-of c = c .before .before .before .before .before .before
 rising-ports-requires : tie.Need-rising-ports-requires
 rising-ports-requires c κs =
     let at-hop-ports = c .before .before .before in
-    let at-start = start-of at-hop-ports in
-    let (table-network, b-bound, _, _, _) = at-start .pre in
+    let (table-network, b-bound, _, _, _) = start-of at-hop-ports .pre in
     let few = few-bridges (table-network .checked) in
-    (in-range table-network (at-start .args .b) b-bound (at-hop-ports .hop-ports .ensures), few, omega (arith, few), omega (arith, few))
+    (in-range table-network _ b-bound (at-hop-ports .hop-ports .ensures), few, omega (arith, few), omega (arith, few))
 
 keep-egress-rows-requires : tie.Need-keep-egress-rows-requires
 keep-egress-rows-requires c κs =
     let at-hop-ports = hop-ports-of (c .before .before .before .before .before) in
-    let at-start = start-of at-hop-ports in
-    let (table-network, b-bound, path-ids-room, trees-kept, _) = at-start .pre in (
-      hops-ready table-network (at-start .args .b) b-bound (at-hop-ports .hop-ports .ensures) (omega arith),
+    let (table-network, b-bound, path-ids-room, trees-kept, _) = start-of at-hop-ports .pre in (
+      hops-ready table-network _ b-bound (at-hop-ports .hop-ports .ensures) (omega arith),
       path-ids-room,
       trees-kept,
       no-rows _ _ _ _ (omega arith) (omega (arith, bridges-in-table table-network, few-bridges (table-network .checked)))
@@ -62,8 +60,8 @@ whole-list-requires c κs =
     let (egress-rows-ready, _) = at-keep-egress-rows .keep-egress-rows .ensures in
     let (rising-ports, _) = at-rising-ports .rising-ports .ensures in (
       (table-network .checked, egress-rows-ready .places, b-bound),
-      whole-room table-network (at-start .args .b) b-bound (at-hop-ports .hop-ports .ensures) rising-ports egress-rows-ready
-          (at-start .args .words .now) words-room,
+      whole-room table-network _ b-bound (at-hop-ports .hop-ports .ensures) rising-ports egress-rows-ready (at-start .args .words .now)
+          words-room,
     )
 
 returns : tie.Need-returns
@@ -72,11 +70,10 @@ returns c =
     let at-keep-egress-rows = at-whole-list .before .before .before .before .before .before .before .before .before in
     let at-rising-ports = rising-ports-of at-keep-egress-rows in
     let at-hop-ports = hop-ports-of at-rising-ports in
-    let at-start = start-of at-hop-ports in
-    let (table-network, b-bound, _, _, _) = at-start .pre in
+    let (table-network, b-bound, _, _, _) = start-of at-hop-ports .pre in
     let (rising-ports, _) = at-rising-ports .rising-ports .ensures in
     let (egress-rows-ready, trees-kept) = at-keep-egress-rows .keep-egress-rows .ensures in (
-      whole-written table-network (at-start .args .b) b-bound (at-hop-ports .hop-ports .ensures) rising-ports egress-rows-ready
+      whole-written table-network _ b-bound (at-hop-ports .hop-ports .ensures) rising-ports egress-rows-ready
           (at-whole-list .whole-list .ensures),
       trees-kept,
     )

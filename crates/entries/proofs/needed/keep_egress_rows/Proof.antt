@@ -5,11 +5,11 @@ use mathlib.Core.Path.{_≡_, refl, ap, _∙_}
 use Prim.Native.Nat.{_-_}
 use lib.ListN.{length}
 use Rattle.rule.specs.Records.{Member}
-use Rattle.verdict.specs.laws.CheckedLaws.{bridges-counted, few-bridges}
+use Rattle.verdict.specs.laws.CheckedLaws.{few-bridges}
 use Rattle.network.specs.Store.{TreesKept}
 use Rattle.network.specs.laws.NetworkLaws.{bridges-in-table, is-network}
 use Rattle.egress.specs.laws.RowLaws.{kept-all}
-use Rattle.entries.specs.laws.NeededLaws.{index-fits, member-fits, member-silent, member-index, indexFor, row-of, transmitter-has, silent, KeepingMembers, members-start, members-room, members-go-on, members-end}
+use Rattle.entries.specs.laws.NeededLaws.{member-silent, member-index, member-known, row-of, transmitter-has, silent, KeepingMembers, members-start, members-room, members-go-on, members-end}
 use Rattle.entries.proofs.needed.keep_egress_rows.Statement.{statement}
 use Rattle.entries.proofs.needed.keep_egress_rows.Tie as tie
 
@@ -60,7 +60,7 @@ loop-again c =
     let (keeping-members, path-ids-length, store-length, trees-kept) = at-loop .loop .inv in (
       members-go-on hops-ready keeping-members (at-if1 .if1 .taken) (keeping-members .held) (kept-all _)
           (silent
-          (member-silent (hops-ready .table-network .checked) (at-loop .loop .j) (at-if1 .if1 .taken) _ (at-member .member .ensures) _
+          (member-silent (hops-ready .table-network .checked) _ (at-if1 .if1 .taken) _ (at-member .member .ensures) _
           (c .before .transmitter-index .ensures) (c .if2 .taken)))
           (omega arith),
       path-ids-length,
@@ -73,30 +73,19 @@ cast-keep-egress-row c =
     let (hops-ready, _, _, _) = start-of (c .before .before .before .before .before .before) .pre in
     omega (arith, hops-ready .known, few-bridges (hops-ready .table-network .checked))
 
--- The index of a member that transmits is that of its VID.
-index-of-member : (c : tie.Else2 Inv-loop μ-loop) → let at-loop = c .before .before .before .before .before .before in
-    let (hops-ready, _, _, _) = start-of at-loop .pre in
-    c .before .transmitter-index .result ≡ indexFor (hops-ready .table-network .checked) (at-loop .loop .j)
-index-of-member c =
-    let at-member = c .before .before .before in
-    let at-if1 = at-member .before in
-    let at-loop = at-if1 .before .before in
-    let (hops-ready, _, _, _) = start-of at-loop .pre in
-    member-index (hops-ready .table-network .checked) (at-loop .loop .j) (at-if1 .if1 .taken) _ (at-member .member .ensures) _
-    (c .before .transmitter-index .ensures) (c .if2 .left)
-
 keep-egress-row-requires : tie.Need-keep-egress-row-requires Inv-loop μ-loop
 keep-egress-row-requires c κs =
-    let at-member = c .before .before .before .before .before .before in
+    let at-if2 = c .before .before .before in
+    let at-transmitter-index = at-if2 .before in
+    let at-member = at-transmitter-index .before .before in
     let at-if1 = at-member .before in
     let at-loop = at-if1 .before .before in
     let (hops-ready, path-ids-room, _, _) = start-of at-loop .pre in
     let (keeping-members, path-ids-length, _, trees-kept) = at-loop .loop .inv in
     let table-network = hops-ready .table-network in
-    let checked = table-network .checked in
-    let if1-taken = at-if1 .if1 .taken in
-    let (index-least, index-bound) = index-fits checked (at-loop .loop .j) if1-taken in
-    let index-is = index-of-member (c .before .before .before) in (
+    let (index-least, index-bound, bridge-bound) =
+    member-known (table-network .checked) _ (at-if1 .if1 .taken) _ (at-member .member .ensures) _
+    (at-transmitter-index .transmitter-index .ensures) (at-if2 .if2 .left) in (
       (
         is-network table-network,
         hops-ready .has-hops,
@@ -104,16 +93,10 @@ keep-egress-row-requires c κs =
         trees-kept,
       ),
       (
-        omega (arith, index-least, index-is),
-        omega (arith, index-bound, index-is),
-        omega (
-          arith,
-          ap (λ (m : Member). m .bridge) (at-member .member .ensures),
-          member-fits checked (at-loop .loop .j) if1-taken .bridge-known,
-          bridges-counted checked,
-          bridges-in-table table-network,
-        ),
-        members-room hops-ready keeping-members if1-taken,
+        index-least,
+        index-bound,
+        omega (arith, bridge-bound, bridges-in-table table-network),
+        members-room hops-ready keeping-members (at-if1 .if1 .taken),
         keeping-members .held,
       ),
     )
@@ -121,17 +104,20 @@ keep-egress-row-requires c κs =
 loop-again-2 : tie.Need-loop-again-2 Inv-loop μ-loop
 loop-again-2 c =
     let at-keep-egress-row = c .before .before .before .before .before .before in
-    let at-member = at-keep-egress-row .before .before .before .before .before .before .before in
+    let at-if2 = at-keep-egress-row .before .before .before .before in
+    let at-transmitter-index = at-if2 .before in
+    let at-member = at-transmitter-index .before .before in
     let at-if1 = at-member .before in
     let at-loop = at-if1 .before .before in
     let (hops-ready, _, _, _) = start-of at-loop .pre in
     let (keeping-members, path-ids-length, store-length, _) = at-loop .loop .inv in
     let (egress-rows-kept, ((kept, has-egress-row, keep-egress-row-bound), trees-kept)) = at-keep-egress-row .keep-egress-row .ensures in
-    let lengths-kept = at-keep-egress-row .keep-egress-row .kept in (
+    let lengths-kept = at-keep-egress-row .keep-egress-row .kept in
+    let index-is =
+    member-index (hops-ready .table-network .checked) _ (at-if1 .if1 .taken) _ (at-member .member .ensures) _
+    (at-transmitter-index .transmitter-index .ensures) (at-if2 .if2 .left) in (
       members-go-on hops-ready keeping-members (at-if1 .if1 .taken) egress-rows-kept kept
-          (transmitter-has
-          (row-of (index-of-member (at-keep-egress-row .before .before .before .before))
-          (ap (λ (m : Member). m .bridge) (at-member .member .ensures)) has-egress-row))
+          (transmitter-has (row-of index-is (ap (λ (m : Member). m .bridge) (at-member .member .ensures)) has-egress-row))
           keep-egress-row-bound,
       omega (arith, lengths-kept, path-ids-length),
       omega (arith, lengths-kept, store-length),

@@ -47,7 +47,7 @@ keep-egress-row-requires c κs =
     let (hops-ready, path-ids-room, _, _) = start-of at-loop .pre in
     let (keeping-own, path-ids-length, _, trees-kept) = at-loop .loop .inv in
     let table-network = hops-ready .table-network in
-    let fits = vid-fits (table-network .checked) (at-loop .loop .k) (at-if1 .if1 .taken) in
+    let fits = vid-fits (table-network .checked) _ (at-if1 .if1 .taken) in
     let index-is = ap (λ (v : Vid). v .index) (at-vid .vid .ensures) in (
       (is-network table-network, hops-ready .has-hops, omega (arith, path-ids-room, path-ids-length), trees-kept),
       (

@@ -9,7 +9,8 @@ use Rattle.entries.proofs.parts.group_part.Statement.{statement}
 use Rattle.entries.proofs.parts.group_part.Tie as tie
 
 abbrev Inv-loop : tie.InvT-loop
-Inv-loop table s rows ports v words₀ at end₀ j₀ words end j = Appending (memberPart (wordsOf table) s rows ports (vidValues v)) (s .members) words₀ at j words end
+Inv-loop table s rows ports v words₀ at end₀ j₀ words end j =
+    Appending (memberPart (wordsOf table) s rows ports (vidValues v)) (s .members) words₀ at j words end
 
 abbrev μ-loop : tie.MeasureT-loop
 μ-loop table s rows ports v words₀ at end₀ j₀ words end j = s .members - j

@@ -3,9 +3,7 @@ use native.Mathlib.Omega.{arith}
 use Prim.Native.Nat.{_+_, _≤_}
 use mathlib.Core.Path.{ap}
 use lib.ListN.{length, length-take}
-use Rattle.rule.specs.Words.{wordsOf}
 use Rattle.rule.specs.Records.{Bridge}
-use Rattle.readers.specs.Readers.{vidValues, memberValues}
 use Rattle.verdict.specs.laws.CheckedLaws.{few-bridges}
 use Rattle.entry_words.specs.laws.Receivers.{behind-few}
 use Rattle.entries.specs.laws.PartLaws.{source-fits, row-lent, transmitter-room, transmitter-written}
@@ -86,11 +84,9 @@ group-words-requires c κs =
     let at-bridge = at-group-address .before in
     let at-start = start-of at-bridge in
     let ((_, _, _, _, vid-bound, _, _), room) = at-start .pre in (
-      transmitter-room (wordsOf (at-start .args .table .now)) (at-start .args .s) (at-start .args .egress-rows .now)
-          (at-start .args .ports .now) (vidValues (at-start .args .v)) (memberValues (at-start .args .m)) _
-          (at-egress-row-at .egress-row-at .ensures) _ _ _ (at-ports-behind .ports-behind .ensures) _
+      transmitter-room _ _ _ _ _ _ _ (at-egress-row-at .egress-row-at .ensures) _ _ _ (at-ports-behind .ports-behind .ensures) _
           (ap (λ (x : Bridge). x .spSourceId) (at-bridge .bridge .ensures)) _ (at-group-address .group-address .ensures)
-          (at-start .args .words .now) (at-start .args .at) room,
+          (at-start .args .words .now) _ room,
       vid-bound,
     )
 

@@ -3,7 +3,6 @@ use native.Mathlib.Omega.{arith}
 use Prim.Native.Nat.{_+_, _≤_, _<_}
 use mathlib.Core.Path.{ap}
 use lib.ListN.{length}
-use Rattle.rule.specs.Words.{wordsOf}
 use Rattle.rule.specs.Records.{Vid}
 use Rattle.readers.specs.Readers.{vidValues}
 use Rattle.verdict.specs.laws.CheckedLaws.{few-bridges}
@@ -19,9 +18,8 @@ start-of c = c .before .before .before .before .before
 -- What a VID may say: its index is one of 16, and its number fits.
 index-fits : (c : tie.After-vid) → (1 ≤ c .vid .result .index) × (c .vid .result .index ≤ 16) × (c .vid .result .vid < 4096)
 index-fits c =
-    let at-start = start-of c in
-    let ((checked, _, _, k-bound), _) = at-start .pre in
-    let fits = vid-fits checked (at-start .args .k) k-bound in
+    let ((checked, _, _, k-bound), _) = start-of c .pre in
+    let fits = vid-fits checked _ k-bound in
     let index-is = ap (λ (v : Vid). v .index) (c .vid .ensures) in (
       omega (arith, index-is, fits .least-index),
       omega (arith, index-is, fits .greatest-index),
@@ -64,9 +62,7 @@ individual-words-requires c κs =
             (row-inside at-egress-row-at) (few-bridges checked),
         vid-bound,
       ),
-      first-room (wordsOf (at-start .args .table .now)) (at-start .args .s) (at-start .args .egress-rows .now) (at-start .args .ports .now)
-          (at-start .args .b) (at-start .args .k) _ (at-vid .vid .ensures) _ (at-egress-row-at .egress-row-at .ensures)
-          (at-start .args .words .now) (at-start .args .at) room,
+      first-room _ _ _ _ _ _ _ (at-vid .vid .ensures) _ (at-egress-row-at .egress-row-at .ensures) (at-start .args .words .now) _ room,
     )
 
 group-part-requires : tie.Need-group-part-requires
@@ -78,9 +74,8 @@ group-part-requires c κs =
     let ((checked, egress-rows-inside, _, _), room) = at-start .pre in
     let (index-least, index-bound, vid-bound) = index-fits at-vid in (
       (checked, egress-rows-inside, index-least, index-bound, vid-bound),
-      second-room (wordsOf (at-start .args .table .now)) (at-start .args .s) (at-start .args .egress-rows .now) (at-start .args .ports .now)
-          (at-start .args .b) (at-start .args .k) _ (at-vid .vid .ensures) _ (at-egress-row-at .egress-row-at .ensures)
-          (at-start .args .words .now) (at-start .args .at) room _ _ (at-individual-words .individual-words .ensures),
+      second-room _ _ _ _ _ _ _ (at-vid .vid .ensures) _ (at-egress-row-at .egress-row-at .ensures) (at-start .args .words .now) _ room _ _
+          (at-individual-words .individual-words .ensures),
     )
 
 returns : tie.Need-returns

@@ -38,10 +38,10 @@ returns c =
     let at-bridges = at-write-given-path .before .before .before in
     let at-answer = at-bridges .before .before in
     let args = start-of at-answer .args in
-    let (written, write-given-path-bound) = at-write-given-path .write-given-path .ensures in
-    let given = ap pathValues (at-answer .answer .given .1) in (
+    let (written, write-given-path-bound) = at-write-given-path .write-given-path .ensures in (
       written-as written _
-          (ap (pathLine (args .vid) (args .from) (args .to)) (given-bridges _ (args .list .now) given (at-bridges .bridges .ensures))),
+          (ap (pathLine (args .vid) (args .from) (args .to))
+          (given-bridges _ (args .list .now) (ap pathValues (at-answer .answer .given .1)) (at-bridges .bridges .ensures))),
       write-given-path-bound,
     )
 

@@ -16,10 +16,9 @@ list-of c = c .before .before .before .before .before .before
 slice-reshare-prefix-write-entry-lines : tie.Need-slice-reshare-prefix-write-entry-lines
 slice-reshare-prefix-write-entry-lines c =
     let at-list-in-network = list-of c in
-    let at-start = start-of at-list-in-network in
-    let ((table-network, b-bound, words-room, _), _) = at-start .pre in
+    let ((table-network, b-bound, words-room, _), _) = start-of at-list-in-network .pre in
     let (appended, _) = at-list-in-network .list-in-network .ensures in
-    omega (arith, few-listed (table-network .checked) (at-start .args .b) b-bound appended, words-room)
+    omega (arith, few-listed (table-network .checked) _ b-bound appended, words-room)
 
 slice-aggregate-write-entry-lines : tie.Need-slice-aggregate-write-entry-lines
 slice-aggregate-write-entry-lines c = simp length-take (omega (arith, slice-reshare-prefix-write-entry-lines (c .before)))
@@ -32,23 +31,21 @@ cast-write-entry-lines c =
 write-entry-lines-requires : tie.Need-write-entry-lines-requires
 write-entry-lines-requires c κs =
     let at-list-in-network = list-of (c .before .before) in
-    let at-start = start-of at-list-in-network in
-    let ((table-network, b-bound, _, out-room), _) = at-start .pre in
+    let ((table-network, b-bound, _, out-room), _) = start-of at-list-in-network .pre in
     let (appended, _) = at-list-in-network .list-in-network .ensures in
-    omega (arith, few-bytes (table-network .checked) (at-start .args .b) b-bound appended, out-room)
+    omega (arith, few-bytes (table-network .checked) _ b-bound appended, out-room)
 
 returns : tie.Need-returns
 returns c =
     let at-write-entry-lines = c .before .before in
     let at-list-in-network = list-of (at-write-entry-lines .before .before .before) in
-    let at-start = start-of at-list-in-network in
     let (appended, trees-kept) = at-list-in-network .list-in-network .ensures in
-    let ((table-network, b-bound, _, _), _) = at-start .pre in
+    let ((table-network, b-bound, _, _), _) = start-of at-list-in-network .pre in
     let (written, write-entry-lines-bound) = at-write-entry-lines .write-entry-lines .ensures in (
       trees-kept,
       (
-        lines-listed (table-network .checked) (at-start .args .b) b-bound appended written,
-        omega (arith, write-entry-lines-bound, few-bytes (table-network .checked) (at-start .args .b) b-bound appended),
+        lines-listed (table-network .checked) _ b-bound appended written,
+        omega (arith, write-entry-lines-bound, few-bytes (table-network .checked) _ b-bound appended),
       ),
     )
 

@@ -13,10 +13,11 @@ write-path-answer-requires : tie.Need-write-path-answer-requires
 write-path-answer-requires c κs =
     let at-labelled-path = c .before .before .before in
     let at-start = at-labelled-path .before .before .before .before in
+    let (_, followable, out-room) = at-start .pre in
     let answer =
-    labels-answer (at-start .args .labels .now) (at-start .args .from) (at-start .pre .1) (replicate 64 0) _
-    (length-replicate {A = ℕ} 64 0) _ (at-labelled-path .labelled-path .ensures) in
-    (answer .0, search needs, at-start .pre .2)
+    labels-answer (at-start .args .labels .now) (at-start .args .from) followable (replicate 64 0) _ (length-replicate {A = ℕ} 64 0) _
+    (at-labelled-path .labelled-path .ensures) in
+    (answer .0, search needs, out-room)
 
 returns : tie.Need-returns
 returns c =

@@ -15,13 +15,8 @@ returns c =
     let at-if1 = at-write-counts .before .before in
     let at-start = at-if1 .before .before .before .before .before .before .before in
     let ((_, counts-is, _), (_, trees-kept, _, _)) = at-start .pre in
-    let (written, write-counts-bound) = at-write-counts .write-counts .ensures in (
-      trees-kept,
-      (
-        counts-part (wordsOf (at-start .args .table .now)) (at-start .args .s) (at-if1 .if1 .taken) counts-is written,
-        omega (arith, write-counts-bound),
-      ),
-    )
+    let (written, write-counts-bound) = at-write-counts .write-counts .ensures in
+    (trees-kept, (counts-part _ _ (at-if1 .if1 .taken) counts-is written, omega (arith, write-counts-bound)))
 
 abbrev start-of : tie.Else1 → tie.Start
 start-of c = c .before .before .before .before .before .before .before

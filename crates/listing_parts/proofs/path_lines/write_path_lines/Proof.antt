@@ -43,14 +43,9 @@ start-of c = c .before .before .before .before .before .before .before
 loop-again : tie.Need-loop-again Inv-loop μ-loop
 loop-again c =
     let at-loop = c .before .before .before in
-    let at-start = start-of at-loop in
     let (appending-few, trees-kept, path-ids-length, store-length) = at-loop .loop .inv in
-    let (_, (_, _, out-room)) = at-start .pre in (
-      few-goes-on appending-few (omega (arith, out-room)) (c .before .if1 .taken)
-          (one-bridge (planAt (wordsOf (at-start .args .table .now)) (at-start .args .s))
-          (vidNumber (wordsOf (at-start .args .table .now)) (at-start .args .s) (at-start .args .k) .vid) (at-start .args .from)
-          (at-loop .loop .to) (c .if2 .taken) _ _)
-          (omega arith),
+    let (_, (_, _, out-room)) = start-of at-loop .pre in (
+      few-goes-on appending-few (omega (arith, out-room)) (c .before .if1 .taken) (one-bridge _ _ _ _ (c .if2 .taken) _ _) (omega arith),
       trees-kept,
       path-ids-length,
       store-length,
@@ -61,10 +56,9 @@ kept-tree-requires c κs =
     let at-if1 = c .before .before .before in
     let at-loop = at-if1 .before .before in
     let at-vid = at-loop .before in
-    let at-start = start-of at-loop in
-    let ((table-network, k-bound, _), (path-ids-room, _, _)) = at-start .pre in
+    let ((table-network, k-bound, _), (path-ids-room, _, _)) = start-of at-loop .pre in
     let (_, trees-kept, path-ids-length, _) = at-loop .loop .inv in
-    let (index-least, index-bound) = index-fits table-network (at-start .args .k) k-bound _ (at-vid .vid .ensures) in (
+    let (index-least, index-bound) = index-fits table-network _ k-bound _ (at-vid .vid .ensures) in (
       (is-network table-network, index-least, index-bound, omega (arith, at-if1 .if1 .taken, bridges-in-table table-network)),
       (omega (arith, path-ids-room, path-ids-length), trees-kept),
     )
@@ -109,8 +103,8 @@ write-path-line-requires c κs =
     let ((table-network, k-bound, from-bound), (_, _, out-room)) = at-start .pre in
     let (appending-few, _, _, _) = at-loop .loop .inv in (
       simp (length-take, length-drop) (omega (arith, kept-tree-bound)),
-      pair-followable table-network (at-start .args .k) k-bound _ (at-loop .before .vid .ensures) (at-start .args .from) (at-loop .loop .to)
-          from-bound (at-if1 .if1 .taken) (lent-tree _ (at-kept-tree .kept-tree .result) tree-in),
+      pair-followable table-network _ k-bound _ (at-loop .before .vid .ensures) _ _ from-bound (at-if1 .if1 .taken)
+          (lent-tree _ (at-kept-tree .kept-tree .result) tree-in),
       few-room appending-few (omega (arith, out-room)) (at-if1 .if1 .taken),
     )
 
@@ -120,16 +114,14 @@ loop-again-2 c =
     let at-kept-tree = kept-tree-of (at-write-path-line .before .before) in
     let at-if1 = turn-of at-kept-tree in
     let at-loop = at-if1 .before .before in
-    let at-start = start-of at-loop in
     let (appending-few, _, path-ids-length, store-length) = at-loop .loop .inv in
-    let ((table-network, k-bound, from-bound), (_, _, out-room)) = at-start .pre in
+    let ((table-network, k-bound, from-bound), (_, _, out-room)) = start-of at-loop .pre in
     let (trees-kept, (_, tree-in)) = at-kept-tree .kept-tree .ensures in
     let lengths-kept = at-kept-tree .kept-tree .kept in
     let (written, write-path-line-bound) = at-write-path-line .write-path-line .ensures in (
       few-goes-on appending-few (omega (arith, out-room)) (at-if1 .if1 .taken)
-          (pair-written table-network (at-start .args .k) k-bound _ (at-loop .before .vid .ensures) (at-start .args .from) (at-loop .loop .to)
-          from-bound (at-if1 .if1 .taken) (lent-tree _ (at-kept-tree .kept-tree .result) tree-in)
-          (at-kept-tree .before .before .before .if2 .left) written)
+          (pair-written table-network _ k-bound _ (at-loop .before .vid .ensures) _ _ from-bound (at-if1 .if1 .taken)
+          (lent-tree _ (at-kept-tree .kept-tree .result) tree-in) (at-kept-tree .before .before .before .if2 .left) written)
           write-path-line-bound,
       trees-kept,
       omega (arith, lengths-kept, path-ids-length),
@@ -145,13 +137,9 @@ same-length-3 c =
 returns : tie.Need-returns Inv-loop μ-loop
 returns c =
     let at-loop = c .before .before in
-    let at-start = start-of at-loop in
     let (appending-few, trees-kept, _, _) = at-loop .loop .inv in
-    let ((table-network, _, _), (_, _, out-room)) = at-start .pre in (
-      trees-kept,
-      pairs-written table-network (vidNumber (wordsOf (at-start .args .table .now)) (at-start .args .s) (at-start .args .k) .vid)
-          (at-start .args .from) appending-few out-room (c .if1 .left),
-    )
+    let ((table-network, _, _), (_, _, out-room)) = start-of at-loop .pre in
+    (trees-kept, pairs-written table-network _ _ appending-few out-room (c .if1 .left))
 
 pub write-path-lines-spec : {M : Type 1} → statement M
 write-path-lines-spec =

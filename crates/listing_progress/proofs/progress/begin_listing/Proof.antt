@@ -35,17 +35,16 @@ returns c =
     let at-make-network = c .before .before .before .before in
     let at-examined = at-make-network .before .before .before .before in
     let at-examine = examine-of at-examined in
-    let at-start = start-of at-examine in
     let (examine-is, _) = at-examine .examine .ensures in
-    let (_, store-room, all-zero) = at-start .pre in
-    begun-accepted (at-start .args .table .now) (at-examine .examine .result) examine-is _ (at-examined .examined .given .1)
-    (at-make-network .make-network .ensures) (no-trees _ _ store-room all-zero) (c .counts .result) (c .counts .ensures)
+    let (_, store-room, all-zero) = start-of at-examine .pre in
+    begun-accepted _ _ examine-is _ (at-examined .examined .given .1) (at-make-network .make-network .ensures)
+    (no-trees _ _ store-room all-zero) _ (c .counts .ensures)
 
 returns-2 : tie.Need-returns-2
 returns-2 c =
     let at-examine = c .before .before .before .before in
     let (examine-is, _) = at-examine .examine .ensures in
-    begun-refused (start-of at-examine .args .table .now) (at-examine .examine .result) examine-is _ _ _ (c .before .examined2 .given .1) _
+    begun-refused _ _ examine-is _ _ _ (c .before .examined2 .given .1) _
 
 pub begin-listing-spec : {M : Type 1} → statement M
 begin-listing-spec =

@@ -41,7 +41,7 @@ returns c =
     let at-start = accepted-start at-examined in
     let (underway, _) = at-start .pre in
     let parts = parts-are (wordsOf (at-start .args .table .now)) (at-examined .examined .given .0 .0) in (
-      accepted-ended (at-start .args .table .now) (at-start .args .progress) (underway .of-table) _ (at-examined .examined .given .1)
+      accepted-ended _ _ (underway .of-table) _ (at-examined .examined .given .1)
           (omega (arith, c .if1 .taken, c .before .part-count .ensures, parts)),
       tt,
     )
@@ -83,12 +83,8 @@ part-given-requires c κs =
 returns-2 : tie.Need-returns-2
 returns-2 c =
     let at-examined2 = c .before .before in
-    let at-start = start-of (at-examined2 .before .before) in
-    let (underway, _) = at-start .pre in (
-      refused-ended (at-start .args .table .now) (at-start .args .progress) (underway .of-table) _ _ _ (at-examined2 .examined2 .given .1)
-          (c .if2 .taken),
-      tt,
-    )
+    let (underway, _) = start-of (at-examined2 .before .before) .pre in
+    (refused-ended _ _ (underway .of-table) _ _ _ (at-examined2 .examined2 .given .1) (c .if2 .taken), tt)
 
 same-length-4 : tie.Need-same-length-4
 same-length-4 c = search needs
@@ -100,7 +96,7 @@ returns-3 c =
     let (underway, (_, _, out-room)) = accepted-start at-examined .pre in
     let (trees-kept, (written, write-part-bound)) = at-write-part .write-part .ensures in
     next-accepted underway _ (at-examined .examined .given .1) (part-left (at-write-part .before .before .before .before .before)) written
-    (omega (arith, write-part-bound, same-length-4 c, out-room)) trees-kept (c .part-given .result) (c .part-given .ensures)
+    (omega (arith, write-part-bound, same-length-4 c, out-room)) trees-kept _ (c .part-given .ensures)
 
 same-length-5 : tie.Need-same-length-5
 same-length-5 c = search needs
@@ -113,7 +109,7 @@ returns-4 c =
     let (underway, (_, _, out-room)) = start-of (at-examined2 .before .before) .pre in
     let (written, write-refused-bound) = at-write-refused .write-refused .ensures in
     next-refused underway _ _ _ (at-examined2 .examined2 .given .1) (omega (arith, at-if2 .if2 .left)) written
-    (omega (arith, write-refused-bound, same-length-5 c, out-room)) (c .part-given2 .result) (c .part-given2 .ensures)
+    (omega (arith, write-refused-bound, same-length-5 c, out-room)) _ (c .part-given2 .ensures)
 
 pub next-part-spec : {M : Type 1} → statement M
 next-part-spec =

@@ -1,4 +1,4 @@
--- `network::make::make_network` lists the hops, then writes the identifiers behind them and the number of bridges in front. Assumes nothing.
+-- `network::make::make_network` lists the hops, writes the identifiers behind them and the number of bridges in front. Assumes nothing.
 use Prim.Native.Nat.{ℕ}
 use lib.ListN.{length-replicate, getD-replicate, length-take, length-drop}
 use Rattle.links.specs.Pairs.{noHop}

@@ -25,9 +25,8 @@ returns c =
     let at-bridges = at-tree .before .before .before .before .before .before .before in
     let at-write-keys = at-bridges .before .before in
     let at-mask-of = at-write-keys .before .before in
-    let at-start = at-mask-of .before .before .before .before in
-    tree-in-network (at-start .args .index) _ _ (at-mask-of .mask-of .ensures) (at-write-keys .write-keys .ensures) _
-    (at-bridges .bridges .ensures) _ _ (at-tree .tree .ensures)
+    tree-in-network _ _ _ (at-mask-of .mask-of .ensures) (at-write-keys .write-keys .ensures) _ (at-bridges .bridges .ensures) _ _
+    (at-tree .tree .ensures)
 
 pub tree-in-network-spec : {M : Type 1} → statement M
 tree-in-network-spec =

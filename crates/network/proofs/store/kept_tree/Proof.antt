@@ -14,8 +14,7 @@ returns c =
       trees-kept,
       (
         omega (arith, trees-kept .has-line, line-of-bound),
-        tree-there trees-kept (at-start .args .index) (at-start .args .root) index-least index-bound root-bound
-            (at-line-of .line-of .result) line-of-is (c .if1 .taken),
+        tree-there trees-kept _ _ index-least index-bound root-bound _ line-of-is (c .if1 .taken),
       ),
     )
 
@@ -26,8 +25,7 @@ returns-2 c =
     let at-start = at-line-of .before .before .before .before in
     let ((is-network, index-least, index-bound, root-bound), (_, trees-kept)) = at-start .pre in
     let (_, line-of-bound) = at-line-of .line-of .ensures in
-    tree-added trees-kept (at-start .args .index) (at-start .args .root) index-least index-bound root-bound
-    (is-network .network .represents .most) (at-line-of .line-of .result) line-of-bound _
+    tree-added trees-kept _ _ index-least index-bound root-bound (is-network .network .represents .most) _ line-of-bound _
     (omega (arith, at-tree-in-network .tree-in-network .kept)) (at-tree-in-network .tree-in-network .ensures)
 
 pub kept-tree-spec : {M : Type 1} → statement M

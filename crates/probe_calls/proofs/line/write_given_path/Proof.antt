@@ -11,11 +11,12 @@ returns c =
     let at-write-field = at-write-field2 .before .before .before .before in
     let at-write-word = at-write-field .before .before .before .before in
     let at-start = at-write-word .before .before .before .before in
-    let (written, write-field-bound) = at-write-field .write-field .ensures in
-    let (the-written, write-field2-bound) = at-write-field2 .write-field2 .ensures in
+    let (cost-written, write-field-bound) = at-write-field .write-field .ensures in
+    let (hops-written, write-field2-bound) = at-write-field2 .write-field2 .ensures in
     let end-is = at-write-word .write-word .ensures .end-is in (
       written-on (at-write-word .write-word .ensures)
-          (written-on written the-written (omega (arith, end-is, write-field-bound, at-start .pre))) (omega (arith, end-is, at-start .pre)),
+          (written-on cost-written hops-written (omega (arith, end-is, write-field-bound, at-start .pre)))
+          (omega (arith, end-is, at-start .pre)),
       omega (arith, end-is, write-field-bound, write-field2-bound),
     )
 
