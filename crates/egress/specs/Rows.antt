@@ -6,7 +6,7 @@ use mathlib.Core.List.{List}
 use lib.ListN.{length, getD, drop}
 use Rattle.network.specs.Layout.{bridgesIn}
 use Rattle.network.specs.Networks.{TreeIn}
-use Rattle.network.specs.Store.{slotOf}
+use Rattle.trees.specs.Store.{slotOf}
 use Rattle.egress.specs.Leaving.{leavingBy}
 
 -- Where the row of an index and a bridge begins.

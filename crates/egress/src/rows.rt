@@ -2,16 +2,16 @@
 use crate::leaving::write_egress_row;
 use labels::label::LABELS;
 use network::parts::bridges;
-use network::store::kept_tree;
 use rule::kinds::MOST_BRIDGES;
 use rule::kinds::MOST_MEMBERS;
 use rule::kinds::MOST_VIDS;
+use trees::store::kept_tree;
 ghost use mathlib.Core.Path.{_≡_};
 ghost use Prim.Native.Nat.{_+_, _≤_, _<_};
 ghost use lib.ListN.{length};
 ghost use Rattle.network.specs.Layout.{bridgesIn};
 ghost use Rattle.network.specs.Networks.{IsNetwork};
-ghost use Rattle.network.specs.Store.{TreesKept};
+ghost use Rattle.trees.specs.Store.{TreesKept};
 ghost use Rattle.egress.specs.Rows.{egressRowAt, HasEgressRow, EgressRowsKept, Kept};
 
 // The places that say where the row of an ECT index and a bridge begins.

@@ -1,5 +1,4 @@
 -- Theorems: nothing here is cited by a contract.
 pub mod PlanWords
-pub mod NeededLaws
 pub mod PartLaws
 pub mod WholeLaws

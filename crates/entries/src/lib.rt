@@ -1,4 +1,3 @@
 // Filtering entries of a bridge (01, "Entries"): the rows that they need, the parts of its list, and the list of a table.
 pub mod list;
-pub mod needed;
 pub mod parts;

@@ -1,19 +1,19 @@
 // The entries of a bridge of a table that passed the check (01, "Calls"): the words are made in an array of their own and copied when
 // they fit, so that a refusal writes nothing.
-use crate::needed::keep_egress_rows;
 use crate::parts::whole_list;
 use egress::hops::hop_ports;
 use egress::hops::rising_ports;
 use egress::rows::ROWS;
+use entry_rows::needed::keep_egress_rows;
 use network::make::make_network;
 use network::parts::NETWORK;
-use network::store::LINE;
 use rule::answer::EntriesAnswer;
 use rule::answer::RecordKind;
 use rule::kinds::MOST_BRIDGES;
 use rule::kinds::MOST_VIDS;
 use table::shape::Shape;
 use tree::search::PATH_IDS;
+use trees::store::LINE;
 ghost use mathlib.Core.Path.{_≡_};
 ghost use mathlib.Core.List.{List};
 ghost use Prim.Native.Nat.{ℕ, _≤_, _<_};
@@ -28,7 +28,7 @@ ghost use Rattle.rule.specs.Entries.{entryListOf};
 ghost use Rattle.table.specs.Positions.{planAt};
 ghost use Rattle.verdict.specs.Examination.{Checked, LinkIndex};
 ghost use Rattle.network.specs.Networks.{TableNetwork};
-ghost use Rattle.network.specs.Store.{TreesKept};
+ghost use Rattle.trees.specs.Store.{TreesKept};
 ghost use Rattle.entries.specs.Whole.{listAnswer};
 
 // "No bridge's list exceeds 14,931 words": individual entries for the other bridges in each VID, and group entries as `ListBound` counts

@@ -15,7 +15,7 @@ ghost use Rattle.lists.specs.Appending.{Appended, Room};
 ghost use Rattle.rule.specs.Words.{wordsOf};
 ghost use Rattle.readers.specs.Readers.{vidValues, memberValues};
 ghost use Rattle.verdict.specs.Examination.{Checked};
-ghost use Rattle.entries.specs.Needed.{EgressRowsInside};
+ghost use Rattle.entry_rows.specs.Needed.{EgressRowsInside};
 ghost use Rattle.entries.specs.Parts.{transmitterPart, memberPart, groupPart, vidPart, wholeList};
 
 // Writes the group entries for the transmitter `m`.

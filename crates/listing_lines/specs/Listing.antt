@@ -13,7 +13,7 @@ use Rattle.rule.specs.Entries.{Entry}
 use Rattle.rule.specs.Lookup.{entriesIn}
 use Rattle.rule.specs.Calls.{countsOf, planPath, planEntries}
 use Rattle.text.specs.Text.{space, newline, address, fields, line, pathWord}
-use Rattle.text.specs.CheckText.{countsWord, refusedWord, countsFields}
+use Rattle.check_text.specs.CheckText.{countsWord, refusedWord, countsFields}
 
 -- `none`
 abbrev pub noneWord : List ℕ

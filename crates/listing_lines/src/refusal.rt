@@ -4,7 +4,7 @@ ghost use mathlib.Core.List.{_∷_, []};
 ghost use Prim.Native.Nat.{_+_, _≤_};
 ghost use lib.ListN.{length};
 ghost use Rattle.text.specs.Text.{line, WrittenAt};
-ghost use Rattle.text.specs.CheckText.{refusedWord};
+ghost use Rattle.check_text.specs.CheckText.{refusedWord};
 
 // "A refused table prints `refused`, number, word."
 pub fn write_refused(number: u32, word: u32, out: &mut [u8], at: usize) -> usize

@@ -8,7 +8,7 @@ use lib.ListN.{length}
 use Rattle.rule.specs.Plan.{Plan, vidAt}
 use Rattle.rule.specs.Calls.{countsOf, planEntries}
 use Rattle.text.specs.Text.{line}
-use Rattle.text.specs.CheckText.{countsWord, countsFields}
+use Rattle.check_text.specs.CheckText.{countsWord, countsFields}
 use Rattle.listing_lines.specs.Listing.{pathLines, entryLines}
 
 -- How many pairs of a VID record and a from there are.

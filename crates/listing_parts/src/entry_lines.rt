@@ -8,7 +8,7 @@ ghost use Rattle.rule.specs.Words.{wordsOf};
 ghost use Rattle.rule.specs.Calls.{planEntries};
 ghost use Rattle.table.specs.Positions.{planAt};
 ghost use Rattle.network.specs.Networks.{TableNetwork};
-ghost use Rattle.network.specs.Store.{TreesKept};
+ghost use Rattle.trees.specs.Store.{TreesKept};
 ghost use Rattle.text.specs.Text.{WrittenAt};
 ghost use Rattle.listing_lines.specs.Listing.{entryLines};
 

@@ -1,10 +1,10 @@
 // The parts of a listing by their numbers, in order (01, "Listing program").
 use crate::entry_lines::write_entry_lines_of;
 use crate::path_lines::write_path_lines;
+use check_text::check::write_counts;
 use entries::list::LONGEST_LIST;
 use rule::answer::Counts;
 use table::shape::Shape;
-use text::check::write_counts;
 ghost use mathlib.Core.Path.{_≡_};
 ghost use Prim.Native.Nat.{_+_, _*_, _≤_, _<_};
 ghost use lib.ListN.{length};
@@ -12,7 +12,7 @@ ghost use Rattle.rule.specs.Words.{wordsOf};
 ghost use Rattle.rule.specs.Calls.{countsOf};
 ghost use Rattle.table.specs.Positions.{planAt};
 ghost use Rattle.network.specs.Networks.{TableNetwork};
-ghost use Rattle.network.specs.Store.{TreesKept};
+ghost use Rattle.trees.specs.Store.{TreesKept};
 ghost use Rattle.text.specs.Text.{WrittenAt};
 ghost use Rattle.listing_parts.specs.Parts.{partCount, listingPart};
 

@@ -1,16 +1,16 @@
 // The path lines of one VID and from (01, "Listing program").
 use crate::labelled_line::write_path_line;
 use labels::label::LABELS;
-use network::store::kept_tree;
 use table::records::vid;
 use table::shape::Shape;
+use trees::store::kept_tree;
 ghost use Prim.Native.Nat.{_*_, _≤_, _<_};
 ghost use lib.ListN.{length};
 ghost use Rattle.rule.specs.Words.{wordsOf};
 ghost use Rattle.table.specs.Positions.{planAt};
 ghost use Rattle.table.specs.Numbered.{vidNumber};
 ghost use Rattle.network.specs.Networks.{TableNetwork};
-ghost use Rattle.network.specs.Store.{TreesKept};
+ghost use Rattle.trees.specs.Store.{TreesKept};
 ghost use Rattle.text.specs.Text.{WrittenAt};
 ghost use Rattle.listing_lines.specs.Listing.{pathLines};
 

@@ -14,9 +14,9 @@ use Rattle.table.specs.Positions.{planAt}
 use Rattle.verdict.specs.declared.examine.Examined.{Examined}
 use Rattle.verdict.specs.Examination.{examinedValues}
 use Rattle.network.specs.Networks.{TableNetwork}
-use Rattle.network.specs.Store.{TreesKept}
+use Rattle.trees.specs.Store.{TreesKept}
 use Rattle.text.specs.Text.{line}
-use Rattle.text.specs.CheckText.{refusedWord}
+use Rattle.check_text.specs.CheckText.{refusedWord}
 use Rattle.listing_progress.specs.declared.progress.Progress.{Progress}
 use Rattle.listing_progress.specs.declared.progress.NextPart.{NextPart}
 use Rattle.listing_parts.specs.Parts.{partCount, listingPart}

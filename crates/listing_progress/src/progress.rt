@@ -13,7 +13,7 @@ ghost use mathlib.Core.Path.{_≡_};
 ghost use Prim.Native.Nat.{_+_, _≤_, _<_};
 ghost use lib.ListN.{length};
 ghost use Rattle.network.specs.Layout.{networkWords};
-ghost use Rattle.network.specs.Store.{lineWords};
+ghost use Rattle.trees.specs.Store.{lineWords};
 ghost use Rattle.listing_lines.specs.Listing.{listing};
 ghost use Rattle.listing_progress.specs.Remaining.{AllZero, remaining, NextOf, Underway, GoesOn};
 

@@ -3,5 +3,4 @@ pub mod Layout
 pub mod Numbering
 pub mod Neighbours
 pub mod Networks
-pub mod Store
 pub mod laws

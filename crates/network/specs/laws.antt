@@ -5,4 +5,3 @@ pub mod NeighbourListLaws
 pub mod NeighbourLaws
 pub mod IdentifierLaws
 pub mod NetworkLaws
-pub mod StoreLaws

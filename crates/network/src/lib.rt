@@ -4,5 +4,3 @@ pub mod hops;
 pub mod identifiers;
 pub mod make;
 pub mod parts;
-pub mod plan_tree;
-pub mod store;

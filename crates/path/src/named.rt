@@ -1,7 +1,7 @@
 // The tree for what a call names: a VID and two bridges (01, "Refusals in checking order", 11).
-use network::plan_tree::tree_of_table;
 use table::records::index_of;
 use table::shape::Shape;
+use trees::plan_tree::tree_of_table;
 ghost use mathlib.Core.Path.{_≡_};
 ghost use Prim.Native.Nat.{_≤_};
 ghost use lib.ListN.{length};

@@ -6,7 +6,7 @@ use Rattle.lists.specs.Lists.{rising}
 use Rattle.rule.specs.Outcome.{Outcome, answered, refused}
 use Rattle.rule.specs.Answers.{CostAndHops}
 use Rattle.text.specs.Text.{newline, fieldText, fields, pathWord}
-use Rattle.text.specs.CheckText.{refusalText}
+use Rattle.check_text.specs.CheckText.{refusalText}
 
 -- `tree`
 abbrev pub treeWord : List ℕ

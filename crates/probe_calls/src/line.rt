@@ -1,4 +1,5 @@
 // The outcomes of path, tree and entries as lines: the answer, and every place of the lent lists after the call.
+use check_text::check::write_refusal;
 use measures::measure::Cost;
 use measures::measure::Hops;
 use rule::answer::EntriesAnswer;
@@ -7,7 +8,6 @@ use rule::answer::TreeAnswer;
 use spb::entry_lists::entries;
 use spb::paths::path;
 use spb::trees::tree;
-use text::check::write_refusal;
 use text::fields::write_byte;
 use text::fields::write_field;
 use text::fields::write_fields;

@@ -1,11 +1,11 @@
 // A table's check as one line.
+use check_text::check::write_check;
 use spb::check::check;
-use text::check::write_check;
 ghost use Prim.Native.Nat.{_≤_};
 ghost use lib.ListN.{length};
 ghost use Rattle.rule.specs.Calls.{checkOutcome};
 ghost use Rattle.text.specs.Text.{WrittenAt};
-ghost use Rattle.text.specs.CheckText.{checkText};
+ghost use Rattle.check_text.specs.CheckText.{checkText};
 
 // The bytes of a line at most.
 pub const LONGEST_LINE: usize = 62;

@@ -1,4 +1,3 @@
 // Numbers, fields and lines as text, written into lent bytes (01, "Listing program").
-pub mod check;
 pub mod digits;
 pub mod fields;

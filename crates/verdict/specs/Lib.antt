@@ -1,4 +1,3 @@
 -- What reading one record and examining a table come to, and the laws that link them to the verdict.
-pub mod Steps
 pub mod Examination
 pub mod laws

@@ -1,10 +1,10 @@
 // A table examined record by record: the verdict, and what the layers above need of an accepted table, the numbers of its records
 // and the index of its link numbers.
-use crate::step::Step;
-use crate::step::read_record;
 use key_index::chain::INDEX;
 use rule::answer::RecordKind;
 use rule::kinds::LONGEST_TABLE;
+use steps::step::Step;
+use steps::step::read_record;
 use table::shape::Shape;
 ghost use mathlib.Core.Path.{_≡_};
 ghost use Rattle.rule.specs.Words.{wordsOf};

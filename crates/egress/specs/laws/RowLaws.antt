@@ -16,8 +16,8 @@ use Rattle.lists.specs.Appending.{Appended}
 use Rattle.rule.specs.Plan.{Plan}
 use Rattle.network.specs.Layout.{bridgesIn}
 use Rattle.network.specs.Networks.{NetworkOf, TreeIn}
-use Rattle.network.specs.Store.{slotOf}
-use Rattle.network.specs.laws.StoreLaws.{slot-tells}
+use Rattle.trees.specs.Store.{slotOf}
+use Rattle.trees.specs.laws.StoreLaws.{slot-tells}
 use Rattle.egress.specs.Leaving.{PlanHops, EgressRow, leavingBy, egressRowBy}
 use Rattle.egress.specs.laws.LeavingLaws.{leaving-is}
 use Rattle.egress.specs.Rows.{egressRowAt, HasEgressRow, EgressRowOf, EgressRowsKept, Kept}

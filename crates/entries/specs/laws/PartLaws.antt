@@ -30,8 +30,8 @@ use Rattle.verdict.specs.Examination.{Checked}
 use Rattle.verdict.specs.laws.CheckedLaws.{bridges-counted}
 use Rattle.entry_words.specs.Words.{individualWords, portsBehind, groupWords}
 use Rattle.entries.specs.laws.PlanWords.{vidWords, memberWords, bridge-is, individual-words, group-words}
-use Rattle.entries.specs.Needed.{EgressRowsInside, EgressRowsReady}
-use Rattle.entries.specs.laws.NeededLaws.{vid-fits, member-fits}
+use Rattle.entry_rows.specs.Needed.{EgressRowsInside, EgressRowsReady}
+use Rattle.entry_rows.specs.laws.NeededLaws.{vid-fits, member-fits}
 use Rattle.entries.specs.Parts.{transmitterPart, memberPart, groupPart, vidPart, wholeList}
 
 module _ {t : List ℕ} {s : Shape} (R : Checked t s) {b : ℕ} {rows : List ℕ} (W : EgressRowsReady t s b rows) {ports : List ℕ}

@@ -27,7 +27,7 @@ use Rattle.egress.specs.Hops.{HopPorts, InRange, RisingPorts}
 use Rattle.egress.specs.Leaving.{PlanHops}
 use Rattle.egress.specs.laws.PlanPortLaws.{plan-hops, hops-in-range, plan-ports}
 use Rattle.verdict.specs.laws.CheckedLaws.{bridges-counted}
-use Rattle.entries.specs.Needed.{HopsReady, EgressRowsReady}
+use Rattle.entry_rows.specs.Needed.{HopsReady, EgressRowsReady}
 use Rattle.entries.specs.Parts.{wholeList}
 use Rattle.entries.specs.laws.PartLaws.{whole-is, front-is}
 use Rattle.entries.specs.Whole.{listAnswer}

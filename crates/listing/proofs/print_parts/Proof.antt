@@ -44,7 +44,6 @@ loop-of c = c .before .before .before .before .before
 slice-reshare-prefix-print : tie.Need-slice-reshare-prefix-print Inv-loop μ-loop
 slice-reshare-prefix-print c =
     let at-next-part = next-part-of (c .before) in
-    let at-loop = loop-of at-next-part in
     let (next-of, _) = at-next-part .next-part .ensures in
     part-fits _ _ (c .before .next .given .1) _ next-of
 
@@ -60,7 +59,6 @@ part-given : (c : tie.After-next Inv-loop μ-loop) → let at-next-part = next-p
     × (partsLeft (args .table .now) after < partsLeft (args .table .now) (at-loop .loop .progress))
 part-given c =
     let at-next-part = next-part-of c in
-    let at-loop = loop-of at-next-part in
     let (_, goes-on) = at-next-part .next-part .ensures in
     part-goes-on _ _ (c .next .given .1) _ _ goes-on
 

@@ -25,7 +25,7 @@ use Rattle.path.specs.Labelled.{labelledPath, Followable}
 use Rattle.path.specs.laws.LabelledLaws.{labelled-path, tree-followable}
 use Rattle.table.specs.Numbered.{vidNumber}
 use Rattle.verdict.specs.laws.CheckedLaws.{bridges-counted}
-use Rattle.entries.specs.laws.NeededLaws.{vid-listed}
+use Rattle.entry_rows.specs.laws.NeededLaws.{vid-listed}
 use Rattle.listing_lines.specs.Listing.{pathLine, pathLines}
 use Rattle.listing_parts.specs.laws.PairLines.{pairLine}
 

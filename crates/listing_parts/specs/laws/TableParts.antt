@@ -14,7 +14,7 @@ use Rattle.table.specs.declared.shape.Shape.{Shape}
 use Rattle.table.specs.Positions.{vidsFrom, planAt}
 use Rattle.table.specs.laws.PositionLaws.{how-many, record-at}
 use Rattle.text.specs.Text.{line}
-use Rattle.text.specs.CheckText.{countsWord, countsFields}
+use Rattle.check_text.specs.CheckText.{countsWord, countsFields}
 use Rattle.table.specs.Numbered.{vidNumber}
 use Rattle.listing_lines.specs.Listing.{pathLines, entryLines}
 use Rattle.listing_parts.specs.Parts.{pairCount, partCount, listingPart}

@@ -23,8 +23,8 @@ use Rattle.table.specs.laws.PositionLaws.{no-records}
 use Rattle.readers.specs.laws.WordLaws.{count-of-words}
 use Rattle.earlier.specs.HalfLinks.{portKey, numberKey}
 use Rattle.earlier.specs.laws.HalfLinkLaws.{keyed-none}
-use Rattle.verdict.specs.Steps.{stepValues, Indexes, Stepped, Kept}
-use Rattle.verdict.specs.declared.step.Step.{Step}
+use Rattle.steps.specs.Steps.{stepValues, Indexes, Stepped, Kept}
+use Rattle.steps.specs.declared.step.Step.{Step}
 use Rattle.verdict.specs.declared.examine.Examined.{Examined}
 use Rattle.verdict.specs.Examination.{Checked, LinkIndex, Passed}
 

@@ -4,7 +4,7 @@ use native.Mathlib.Omega.{arith}
 use Prim.Native.Nat.{ℕ, _+_}
 use mathlib.Core.List.{List}
 use lib.ListN.{length-set, length-take, length-drop}
-use Rattle.network.specs.laws.StoreLaws.{lent-tree}
+use Rattle.trees.specs.laws.StoreLaws.{lent-tree}
 use Rattle.egress.specs.Rows.{EgressRowsKept, Kept, HasEgressRow}
 use Rattle.egress.specs.laws.LeavingLaws.{walkable-by}
 use Rattle.egress.specs.laws.RowLaws.{kept-all, row-made}

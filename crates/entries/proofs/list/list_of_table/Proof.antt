@@ -2,7 +2,7 @@
 use native.Mathlib.Omega.{arith}
 use Prim.Native.Nat.{ℕ}
 use lib.ListN.{getD-replicate}
-use Rattle.network.specs.laws.StoreLaws.{no-trees}
+use Rattle.trees.specs.laws.StoreLaws.{no-trees}
 use borrow.Author.Needs.{needs}
 use Rattle.entries.proofs.list.list_of_table.Statement.{statement}
 use Rattle.entries.proofs.list.list_of_table.Tie as tie

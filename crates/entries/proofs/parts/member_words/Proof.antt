@@ -4,7 +4,7 @@ use mathlib.Core.Path.{ap}
 use borrow.Author.Tests.{not-true, not-false}
 use Rattle.rule.specs.Records.{Member}
 use Rattle.verdict.specs.laws.CheckedLaws.{bridges-counted}
-use Rattle.entries.specs.laws.NeededLaws.{member-fits}
+use Rattle.entry_rows.specs.laws.NeededLaws.{member-fits}
 use Rattle.entries.specs.laws.PartLaws.{silent-part, other-part, member-room, member-written}
 use borrow.Author.Needs.{needs}
 use Rattle.entries.proofs.parts.member_words.Statement.{statement}

@@ -6,7 +6,7 @@ use lib.ListN.{length}
 use Rattle.rule.specs.Records.{Vid}
 use Rattle.readers.specs.Readers.{vidValues}
 use Rattle.verdict.specs.laws.CheckedLaws.{few-bridges}
-use Rattle.entries.specs.laws.NeededLaws.{vid-fits}
+use Rattle.entry_rows.specs.laws.NeededLaws.{vid-fits}
 use Rattle.entries.specs.laws.PartLaws.{row-lent, row-place-inside, first-room, second-room, vid-written}
 use borrow.Author.Needs.{needs}
 use Rattle.entries.proofs.parts.vid_part.Statement.{statement}

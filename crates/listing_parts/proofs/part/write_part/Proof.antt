@@ -3,7 +3,7 @@ use native.Mathlib.Omega.{arith}
 use Prim.Native.Nat.{_<_}
 use Rattle.rule.specs.Words.{wordsOf}
 use Rattle.verdict.specs.laws.CheckedLaws.{few-bridges}
-use Rattle.entries.specs.laws.NeededLaws.{few-vids}
+use Rattle.entry_rows.specs.laws.NeededLaws.{few-vids}
 use Rattle.listing_parts.specs.laws.TableParts.{few-pairs, counts-part, some-bridge, known-vid, known-from, path-lines-part, known-bridge, entry-lines-part}
 use borrow.Author.Needs.{needs}
 use Rattle.listing_parts.proofs.part.write_part.Statement.{statement}

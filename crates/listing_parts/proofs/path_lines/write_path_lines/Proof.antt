@@ -9,9 +9,9 @@ use Rattle.rule.specs.Words.{wordsOf}
 use Rattle.table.specs.Positions.{planAt}
 use Rattle.table.specs.Numbered.{vidNumber}
 use Rattle.verdict.specs.laws.CheckedLaws.{few-bridges}
-use Rattle.network.specs.Store.{TreesKept}
+use Rattle.trees.specs.Store.{TreesKept}
 use Rattle.network.specs.laws.NetworkLaws.{bridges-in-table, is-network}
-use Rattle.network.specs.laws.StoreLaws.{lent-tree}
+use Rattle.trees.specs.laws.StoreLaws.{lent-tree}
 use Rattle.listing_parts.specs.laws.PairLines.{pairLine}
 use Rattle.listing_parts.specs.laws.PathLineLaws.{one-bridge, index-fits, pair-followable, pair-written, pairs-written}
 use Rattle.listing_parts.proofs.path_lines.write_path_lines.Statement.{statement}

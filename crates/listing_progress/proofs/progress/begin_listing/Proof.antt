@@ -1,6 +1,6 @@
 -- `listing_progress::progress::begin_listing` begins with the verdict on the table, and makes the network of an accepted one. Assumes nothing.
 use Rattle.key_index.specs.laws.IndexLaws.{no-keys-yet}
-use Rattle.network.specs.laws.StoreLaws.{no-trees}
+use Rattle.trees.specs.laws.StoreLaws.{no-trees}
 use Rattle.listing_progress.specs.laws.RemainingLaws.{begun-accepted, begun-refused}
 use borrow.Author.Needs.{needs}
 use Rattle.listing_progress.proofs.progress.begin_listing.Statement.{statement}

@@ -4,7 +4,7 @@ use Prim.Native.Nat.{_≤_, _<_}
 use Rattle.rule.specs.Words.{wordsOf}
 use Rattle.table.specs.Positions.{planAt}
 use Rattle.verdict.specs.laws.CheckedLaws.{few-bridges}
-use Rattle.entries.specs.laws.NeededLaws.{few-vids}
+use Rattle.entry_rows.specs.laws.NeededLaws.{few-vids}
 use Rattle.listing_parts.specs.Parts.{partCount}
 use Rattle.listing_progress.specs.Remaining.{PartsReady}
 use Rattle.listing_parts.specs.laws.TableParts.{few-pairs, parts-are}

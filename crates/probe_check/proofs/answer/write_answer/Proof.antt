@@ -3,7 +3,7 @@ use mathlib.Core.Path.{ap}
 use Rattle.rule.specs.Outcome.{Outcome}
 use Rattle.rule.specs.declared.answer.Counts.{Counts}
 use Rattle.text.specs.laws.TextLaws.{written-as}
-use Rattle.text.specs.CheckText.{checkText}
+use Rattle.check_text.specs.CheckText.{checkText}
 use borrow.Author.Needs.{needs}
 use Rattle.probe_check.proofs.answer.write_answer.Statement.{statement}
 use Rattle.probe_check.proofs.answer.write_answer.Tie as tie

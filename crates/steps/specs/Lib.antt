@@ -1,0 +1,3 @@
+-- What reading one record comes to.
+pub mod Steps
+pub mod laws

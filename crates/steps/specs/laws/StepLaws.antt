@@ -1,0 +1,344 @@
+-- The step that a record comes to: refused with its lowest fault, or taken into the plan at the position where it stands.
+-- Assumes nothing.
+use Prim.Native.Nat.{ℕ, zero, suc, _+_, _*_, _-_, _≤_, _<_}
+use native.Mathlib.Omega.{arith}
+use mathlib.Core.Path.{_≡_, refl, sym, ap, subst, _∙_}
+use mathlib.Core.List.{List, [], _∷_, _++_}
+use mathlib.Core.Option.{none, some}
+use mathlib.Core.Logic.{_⊎_, inl, inr}
+use mathlib.Core.Bool.{Bool, true, false, cond}
+use lib.Dec.{eqb, leb, ltb}
+use lib.ListN.{length, drop, length-drop}
+use borrow.Author.Tests.{lt-ltb, le-ltb, ltb-false, leb-false}
+use Rattle.lists.specs.laws.NumberLaws.{is-false}
+use Rattle.rule.specs.declared.answer.RecordKind.{RecordKind}
+use Rattle.rule.specs.Records.{Bridge, HalfLink, Vid, Member, bridgeOf, halfLinkOf, vidOf, memberOf, Layout, bridgeLayout, halfLinkLayout, vidLayout, memberLayout, endLayout}
+use Rattle.rule.specs.Words.{wordsOf}
+use Rattle.rule.specs.Outcome.{refused}
+use Rattle.rule.specs.Answers.{kindNumber}
+use Rattle.rule.specs.Plan.{Plan, alike}
+use Rattle.rule.specs.laws.Accepted.{NoFault, no-fault}
+use Rattle.rule.specs.Check.{faults, kindConcerned, goesOn, stops, judged}
+use Rattle.key_index.specs.Index.{Entered}
+use Rattle.table.specs.declared.shape.Shape.{Shape}
+use Rattle.table.specs.Positions.{recordAt, recordsAt, halfLinksFrom, vidsFrom, membersFrom, wordsRead, lastKind, planAt, readingAt}
+use Rattle.readers.specs.laws.WordLaws.{count-of-words}
+use Rattle.table.specs.laws.PositionLaws.{how-many, one-more, none-anywhere}
+use Rattle.faults.specs.Faults.{numbered, faultAt}
+use Rattle.earlier.specs.HalfLinks.{portKey, numberKey}
+use Rattle.earlier.specs.laws.HalfLinkLaws.{keyed-more, keyed-none}
+use Rattle.steps.specs.Steps.{concerned, stepValues, Indexes, Stepped, stepAs, Stands, Still, Kept}
+use Rattle.steps.specs.declared.step.Step.{Step}
+
+-- Refused
+
+kind-concerned : (f k : ℕ) (kind : RecordKind) → kindNumber kind ≡ some k → kindNumber (concerned f kind) ≡ kindConcerned f k
+kind-concerned f k kind e = go (eqb f 2)
+  where
+    go : (b : Bool) → kindNumber (cond b RecordKind.None kind) ≡ cond b none (some k)
+    go true = refl
+    go false = e
+
+module _ (ws : List ℕ) (s : Shape) (l : Layout) where
+  abbrev words : List ℕ
+  words = drop (wordsRead s) ws
+
+  pub refused-step :
+      (f : ℕ) (kind : RecordKind) (r : Step) →
+      numbered f ≡ faultAt ws s l →
+      (f ≡ 0 → ⊥) →
+      kindNumber kind ≡ some (l .kind) →
+      (at : ℕ) →
+      at ≡ wordsRead s →
+      r ≡ Step.Refused f (concerned f kind) at →
+      Stepped ws s (stepAs ws s l) r
+  refused-step f kind r e h k at a g =
+      record {
+        value =
+            ap (stepValues ws s) g
+            ∙ (λ i. stops (refused f (kind-concerned f (l .kind) kind k i) (a i)))
+            ∙ positive f h
+            ∙ ap (judged (readingAt ws s) l words) e;
+        within = λ t n. let z : _≡_ {A = ℕ} 0 1 = cc in absurd (omega arith);
+      }
+    where
+      positive :
+          (f : ℕ) → (f ≡ 0 → ⊥) →
+          stops (refused f (kindConcerned f (l .kind)) (wordsRead s)) ≡ judged (readingAt ws s) l words (numbered f)
+      positive zero h = absurd (h refl)
+      positive (suc n) h = refl
+
+  -- Taken: no fault
+
+  module _ (sound : numbered 0 ≡ faultAt ws s l) where
+    none-applies : NoFault (faults (readingAt ws s) l words)
+    none-applies = no-fault (faults (readingAt ws s) l words) (sym sound)
+
+    not-lower : lastKind s ≤ l .kind
+    not-lower = ltb-false (l .kind) (lastKind s) (is-false (ltb (l .kind) (lastKind s)) (none-applies .0))
+
+    pub not-cut : l .words ≤ length words
+    not-cut = ltb-false (length words) (l .words) (is-false (ltb (length words) (l .words)) (none-applies .1 .0))
+
+    pub not-full : alike (planAt ws s) (l .decoded words) < l .limit
+    not-full =
+        leb-false (l .limit) (alike (planAt ws s) (l .decoded words))
+        (is-false (leb (l .limit) (alike (planAt ws s) (l .decoded words))) (none-applies .1 .1 .1 .0))
+
+    -- The reading after the record, where the record does not end the table.
+    pub taken-step :
+        (t : Shape) (r : Step) →
+        goesOn (readingAt ws t) ≡ judged (readingAt ws s) l words none →
+        wordsRead t ≡ wordsRead s + l .words →
+        0 < l .words →
+        r ≡ Step.Next t →
+        Stepped ws s (stepAs ws s l) r
+    taken-step t r e w p g =
+        record {
+          value = ap (stepValues ws s) g ∙ e ∙ ap (judged (readingAt ws s) l words) sound;
+          within =
+              λ u n.
+              let z : t ≡ u = cc
+              in omega (arith, not-cut, length-drop (wordsRead s) ws, ap (λ (x : Shape). wordsRead x) z);
+        }
+
+-- Where no kind after `k` came last, no record of a kind after it was read.
+zero-or-more : (n : ℕ) → ((n ≡ 0) × (ltb 0 n ≡ false)) ⊎ (ltb 0 n ≡ true)
+zero-or-more zero = inl (refl, refl)
+zero-or-more (suc n) = inr (lt-ltb 0 (suc n) (omega arith))
+
+pub record NoneAfter (k : ℕ) (s : Shape) : Type 0 where
+  pub no-members : k < 4 → s .members ≡ 0
+  pub no-vids : k < 3 → s .vids ≡ 0
+  pub no-half-links : k < 2 → s .«half_links» ≡ 0
+
+none-after : (k : ℕ) (s : Shape) → lastKind s ≤ k → NoneAfter k s
+none-after k s h =
+    go (s .members) (s .vids) (s .«half_links») (s .bridges) (zero-or-more (s .members)) (zero-or-more (s .vids)) (zero-or-more (s .«half_links»)) h
+  where
+    go :
+        (m v l b : ℕ) →
+        ((m ≡ 0) × (ltb 0 m ≡ false)) ⊎ (ltb 0 m ≡ true) →
+        ((v ≡ 0) × (ltb 0 v ≡ false)) ⊎ (ltb 0 v ≡ true) →
+        ((l ≡ 0) × (ltb 0 l ≡ false)) ⊎ (ltb 0 l ≡ true) →
+        cond (ltb 0 m) 4 (cond (ltb 0 v) 3 (cond (ltb 0 l) 2 (cond (ltb 0 b) 1 0))) ≤ k →
+        NoneAfter k (record { bridges = b; «half_links» = l; vids = v; members = m })
+    go m v l b (inr e) y z h =
+        let n : 4 ≤ k = rw e at h
+        in record { no-members = λ q. absurd (omega arith); no-vids = λ q. absurd (omega arith); no-half-links = λ q. absurd (omega arith) }
+    go m v l b (inl x) (inr e) z h =
+        let n : 3 ≤ k = rw (x .1, e) at h
+        in record { no-members = λ _. x .0; no-vids = λ q. absurd (omega arith); no-half-links = λ q. absurd (omega arith) }
+    go m v l b (inl x) (inl y) (inr e) h =
+        let n : 2 ≤ k = rw (x .1, y .1, e) at h
+        in record { no-members = λ _. x .0; no-vids = λ _. y .0; no-half-links = λ q. absurd (omega arith) }
+    go m v l b (inl x) (inl y) (inl z) h =
+        record { no-members = λ _. x .0; no-vids = λ _. y .0; no-half-links = λ _. z .0 }
+
+same-reading :
+    {a b c d : ℕ} {p q : Plan} →
+    a ≡ b →
+    c ≡ d →
+    p ≡ q →
+    goesOn (record { at = a; last = c; plan = p }) ≡ goesOn (record { at = b; last = d; plan = q })
+same-reading e f g = λ i. goesOn (record { at = e i; last = f i; plan = g i })
+
+same-plan :
+    {a b : List Bridge} {c d : List HalfLink} {e f : List Vid} {g h : List Member} →
+    a ≡ b → c ≡ d → e ≡ f → g ≡ h →
+    _≡_ {A = Plan} (record { bridges = a; halfLinks = c; vids = e; members = g }) (record { bridges = b; halfLinks = d; vids = f; members = h })
+same-plan a b c d = λ i. record { bridges = a i; halfLinks = b i; vids = c i; members = d i }
+
+module _ {A : Type 0} (decoded : List ℕ → A) (width from : ℕ) (ws : List ℕ) where
+  -- The record after `n` of its kind, by the word where the reading stands.
+  grown :
+      (n at : ℕ) → from + width * n ≡ at →
+      recordsAt decoded width from ws (n + 1) ≡ recordsAt decoded width from ws n ++ (decoded (drop at ws) ∷ [])
+  grown n at e =
+      one-more decoded width from ws n
+      ∙ ap (λ (k : ℕ). recordsAt decoded width from ws n ++ (decoded (drop k ws) ∷ [])) e
+
+module _ (ws : List ℕ) (s : Shape) where
+  abbrev withBridge : Shape
+  withBridge = record { bridges = s .bridges + 1; «half_links» = s .«half_links»; vids = s .vids; members = s .members }
+
+  pub bridge-taken : (r : Step) → numbered 0 ≡ faultAt ws s bridgeLayout → r ≡ Step.Next withBridge → Stepped ws s (stepAs ws s bridgeLayout) r
+  bridge-taken r e g =
+      taken-step ws s bridgeLayout e withBridge r
+      (same-reading (omega arith) last
+      (same-plan
+      (grown bridgeOf 3 0 ws (s .bridges) (wordsRead s) (omega (arith, h, v, m)))
+      (none-anywhere halfLinkOf 3 (halfLinksFrom withBridge) ws (halfLinksFrom s) (s .«half_links») h)
+      (none-anywhere vidOf 1 (vidsFrom withBridge) ws (vidsFrom s) (s .vids) v)
+      (none-anywhere memberOf 2 (membersFrom withBridge) ws (membersFrom s) (s .members) m)))
+      (omega arith) (omega arith) g
+    where
+      after : NoneAfter 1 s
+      after = none-after 1 s (not-lower ws s bridgeLayout e)
+
+      h : s .«half_links» ≡ 0
+      h = after .no-half-links (omega arith)
+
+      v : s .vids ≡ 0
+      v = after .no-vids (omega arith)
+
+      m : s .members ≡ 0
+      m = after .no-members (omega arith)
+
+      last : lastKind withBridge ≡ 1
+      last = simp (le-ltb 0 (s .members) (omega (arith, m)), le-ltb 0 (s .vids) (omega (arith, v)), le-ltb 0 (s .«half_links») (omega (arith, h)), lt-ltb 0 (s .bridges + 1) (omega arith))
+
+  abbrev withHalfLink : Shape
+  withHalfLink = record { bridges = s .bridges; «half_links» = s .«half_links» + 1; vids = s .vids; members = s .members }
+
+  pub half-link-taken :
+      (r : Step) → numbered 0 ≡ faultAt ws s halfLinkLayout → r ≡ Step.Next withHalfLink → Stepped ws s (stepAs ws s halfLinkLayout) r
+  half-link-taken r e g =
+      taken-step ws s halfLinkLayout e withHalfLink r
+      (same-reading (omega arith) last
+      (same-plan
+      refl
+      (grown halfLinkOf 3 (halfLinksFrom s) ws (s .«half_links») (wordsRead s) (omega (arith, v, m)))
+      (none-anywhere vidOf 1 (vidsFrom withHalfLink) ws (vidsFrom s) (s .vids) v)
+      (none-anywhere memberOf 2 (membersFrom withHalfLink) ws (membersFrom s) (s .members) m)))
+      (omega arith) (omega arith) g
+    where
+      after : NoneAfter 2 s
+      after = none-after 2 s (not-lower ws s halfLinkLayout e)
+
+      v : s .vids ≡ 0
+      v = after .no-vids (omega arith)
+
+      m : s .members ≡ 0
+      m = after .no-members (omega arith)
+
+      last : lastKind withHalfLink ≡ 2
+      last = simp (le-ltb 0 (s .members) (omega (arith, m)), le-ltb 0 (s .vids) (omega (arith, v)), lt-ltb 0 (s .«half_links» + 1) (omega arith))
+
+  abbrev withVid : Shape
+  withVid = record { bridges = s .bridges; «half_links» = s .«half_links»; vids = s .vids + 1; members = s .members }
+
+  pub vid-taken : (r : Step) → numbered 0 ≡ faultAt ws s vidLayout → r ≡ Step.Next withVid → Stepped ws s (stepAs ws s vidLayout) r
+  vid-taken r e g =
+      taken-step ws s vidLayout e withVid r
+      (same-reading (omega arith) last
+      (same-plan
+      refl
+      refl
+      (grown vidOf 1 (vidsFrom s) ws (s .vids) (wordsRead s) (omega (arith, m)))
+      (none-anywhere memberOf 2 (membersFrom withVid) ws (membersFrom s) (s .members) m)))
+      (omega arith) (omega arith) g
+    where
+      m : s .members ≡ 0
+      m = none-after 3 s (not-lower ws s vidLayout e) .no-members (omega arith)
+
+      last : lastKind withVid ≡ 3
+      last = simp (le-ltb 0 (s .members) (omega (arith, m)), lt-ltb 0 (s .vids + 1) (omega arith))
+
+  abbrev withMember : Shape
+  withMember = record { bridges = s .bridges; «half_links» = s .«half_links»; vids = s .vids; members = s .members + 1 }
+
+  pub member-taken : (r : Step) → numbered 0 ≡ faultAt ws s memberLayout → r ≡ Step.Next withMember → Stepped ws s (stepAs ws s memberLayout) r
+  member-taken r e g =
+      taken-step ws s memberLayout e withMember r
+      (same-reading (omega arith) (simp (lt-ltb 0 (s .members + 1) (omega arith)))
+      (same-plan refl refl refl (grown memberOf 2 (membersFrom s) ws (s .members) (wordsRead s) (omega arith))))
+      (omega arith) (omega arith) g
+
+  -- The end record without a fault.
+  pub end-taken : (r : Step) → numbered 0 ≡ faultAt ws s endLayout → r ≡ Step.End → Stepped ws s (stepAs ws s endLayout) r
+  end-taken r e g =
+      record {
+        value = ap (stepValues ws s) g ∙ ap (judged (readingAt ws s) endLayout (drop (wordsRead s) ws)) e;
+        within = λ t n. let z : _≡_ {A = ℕ} 0 1 = cc in absurd (omega arith);
+      }
+
+  -- The indexes
+
+  pub half-link-kept :
+      {ports links ports′ links′ : List ℕ} →
+      Indexes ports links ws s →
+      (h : HalfLink) (at key : ℕ) →
+      at ≡ wordsRead s →
+      h ≡ halfLinkOf (drop at ws) →
+      numbered 0 ≡ faultAt ws s halfLinkLayout →
+      key ≡ h .near * 65536 + h .port →
+      Entered ports ports′ (s .«half_links») key →
+      Entered links links′ (s .«half_links») (h .link) →
+      Indexes ports′ links′ ws withHalfLink
+  half-link-kept x h at key a e f k p l =
+      record {
+        by-port = keyed-more (x .by-port) key p (k ∙ ap portKey there);
+        by-number = keyed-more (x .by-number) (h .link) l (ap numberKey there);
+      }
+    where
+      after : NoneAfter 2 s
+      after = none-after 2 s (not-lower ws s halfLinkLayout f)
+
+      there : h ≡ recordAt halfLinkOf 3 (halfLinksFrom s) ws (s .«half_links»)
+      there =
+          e
+          ∙ ap (λ (n : ℕ). halfLinkOf (drop n ws))
+          (a ∙ (let z : wordsRead s ≡ halfLinksFrom s + 3 * s .«half_links» = omega (arith, after .no-vids (omega arith), after .no-members (omega arith)) in z))
+
+  -- There is room for a half-link without a fault.
+  pub half-link-room : numbered 0 ≡ faultAt ws s halfLinkLayout → s .«half_links» < 512
+  half-link-room e = omega (arith, not-full ws s halfLinkLayout e, how-many halfLinkOf 3 (halfLinksFrom s) ws (s .«half_links»))
+
+-- and its words are there.
+pub half-link-there : (t : List ℕ) (s : Shape) → numbered 0 ≡ faultAt (wordsOf t) s halfLinkLayout → 4 * wordsRead s + 12 ≤ length t
+half-link-there t s e =
+    omega (arith, not-cut (wordsOf t) s halfLinkLayout e, length-drop (wordsRead s) (wordsOf t), count-of-words t)
+
+-- A refusal keeps nothing.
+pub refused-keeps :
+    {ws ports links : List ℕ} {s : Shape} {number at : ℕ} {kind : RecordKind} {r : Step} →
+    r ≡ Step.Refused number kind at →
+    Kept ws ports links s r
+refused-keeps e =
+    record {
+      next = λ t n. let z : _≡_ {A = ℕ} 0 1 = cc in absurd (omega arith);
+      at-end = λ n. let z : _≡_ {A = ℕ} 0 1 = cc in absurd (omega arith);
+    }
+
+-- A record taken keeps what holds of its shape.
+pub taken-keeps :
+    {ws ports links : List ℕ} {s u : Shape} {r : Step} → Indexes ports links ws u → r ≡ Step.Next u → Kept ws ports links s r
+taken-keeps {ws} {ports} {links} {s} {u} x e =
+    record {
+      next = λ t n. let z : u ≡ t = cc in subst (λ (y : Shape). Indexes ports links ws y) z x;
+      at-end = λ n. let z : _≡_ {A = ℕ} 0 1 = cc in absurd (omega arith);
+    }
+
+-- The half-links stand where they stood
+
+pub refused-still : {s : Shape} {number at : ℕ} {kind : RecordKind} {r : Step} → r ≡ Step.Refused number kind at → Still s r
+refused-still e t n = let z : _≡_ {A = ℕ} 0 1 = cc in absurd (omega arith)
+
+pub end-still : {s : Shape} {r : Step} → r ≡ Step.End → Still s r
+end-still e t n = let z : _≡_ {A = ℕ} 0 1 = cc in absurd (omega arith)
+
+pub taken-still : {s u : Shape} {r : Step} → Stands s u → r ≡ Step.Next u → Still s r
+taken-still {s} {u} h e t n = let z : u ≡ t = cc in subst (λ (y : Shape). Stands s y) z h
+
+pub bridge-stands : (ws : List ℕ) (s : Shape) → numbered 0 ≡ faultAt ws s bridgeLayout → Stands s (withBridge ws s)
+bridge-stands ws s e =
+    record { count = refl; place = inl (none-after 1 s (not-lower ws s bridgeLayout e) .no-half-links (omega arith)) }
+
+pub vid-stands : (ws : List ℕ) (s : Shape) → Stands s (withVid ws s)
+vid-stands ws s = record { count = refl; place = inr refl }
+
+pub member-stands : (ws : List ℕ) (s : Shape) → Stands s (withMember ws s)
+member-stands ws s = record { count = refl; place = inr refl }
+
+-- so the indexes are theirs still.
+pub still-keeps : {ws ports links : List ℕ} {s : Shape} {r : Step} → Indexes ports links ws s → Still s r → Kept ws ports links s r
+still-keeps {ws} {ports} {links} {s} x h = record { next = λ t n. go t (h t n .count) (h t n .place); at-end = λ n. x }
+  where
+    go : (t : Shape) → t .«half_links» ≡ s .«half_links» → (s .«half_links» ≡ 0) ⊎ (t .bridges ≡ s .bridges) → Indexes ports links ws t
+    go t e (inl z) =
+        record {
+          by-port = keyed-none portKey ports ws (halfLinksFrom t) (t .«half_links») (rw e (x .by-port .indexed)) (e ∙ z);
+          by-number = keyed-none numberKey links ws (halfLinksFrom t) (t .«half_links») (rw e (x .by-number .indexed)) (e ∙ z);
+        }
+    go t e (inr b) = record { by-port = rw (e, b) (x .by-port); by-number = rw (e, b) (x .by-number) }

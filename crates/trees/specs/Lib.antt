@@ -1,0 +1,3 @@
+-- A store that keeps trees.
+pub mod Store
+pub mod laws
