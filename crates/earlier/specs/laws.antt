@@ -1,2 +1,3 @@
 -- Theorems: nothing here is cited by a contract.
+pub mod KeyLaws
 pub mod HalfLinkLaws

@@ -29,9 +29,10 @@ use table::shape::Shape;
 ghost use mathlib.Core.Path.{_≡_};
 ghost use Rattle.rule.specs.Words.{wordsOf};
 ghost use Rattle.rule.specs.Records.{bridgeLayout, halfLinkLayout, vidLayout, memberLayout, endLayout};
-ghost use Rattle.table.specs.Positions.{halfLinksFrom};
+ghost use Rattle.table.specs.Positions.{halfLinksFrom, membersFrom};
 ghost use Rattle.table.specs.Whole.{Whole};
 ghost use Rattle.earlier.specs.HalfLinks.{portKey, numberKey, Keyed};
+ghost use Rattle.earlier.specs.Keys.{BridgeIndexes, MemberIndex};
 ghost use Rattle.faults.specs.Faults.{numbered, ownFault, faultAt};
 
 // The lowest of the faults 2 to 6 that a record shows by itself, after a record of the kind `last` and `count` records of its own
@@ -54,9 +55,10 @@ fn own_fault(last: u32, kind: u32, found: u32, count: usize, limit: usize) -> u3
     found
 }
 
-// Of the bridge record after those of `s`.
-pub fn bridge_fault(table: &[u8], s: Shape) -> u32
+// Of the bridge record after those of `s`, whose bridges are in the two indexes.
+pub fn bridge_fault(table: &[u8], s: Shape, source_index: &[u32], address_index: &[u32]) -> u32
     requires { ⌜ Whole (now table) s ⌝ }
+    requires { ⌜ BridgeIndexes (now «source_index») (now «address_index») (wordsOf (now table)) (s .bridges) ⌝ }
     ensures { λ r. ⌜ numbered r ≡ faultAt (wordsOf (now (table .entry))) s bridgeLayout ⌝ }
 {
     let at = 4 * s.words_read();
@@ -71,7 +73,7 @@ pub fn bridge_fault(table: &[u8], s: Shape) -> u32
             if own != 0 {
                 return own;
             }
-            if is_bridge_repeated(table, s.bridges, b) {
+            if is_bridge_repeated(table, source_index, address_index, s.bridges, b) {
                 return 8;
             }
             0
@@ -136,9 +138,10 @@ pub fn vid_fault(table: &[u8], s: Shape) -> u32
     }
 }
 
-// Of the member record after those of `s`.
-pub fn member_fault(table: &[u8], s: Shape) -> u32
+// Of the member record after those of `s`, whose members are in the index.
+pub fn member_fault(table: &[u8], s: Shape, member_index: &[u32]) -> u32
     requires { ⌜ Whole (now table) s ⌝ }
+    requires { ⌜ MemberIndex (now «member_index») (wordsOf (now table)) (membersFrom s) (s .members) ⌝ }
     ensures { λ r. ⌜ numbered r ≡ faultAt (wordsOf (now (table .entry))) s memberLayout ⌝ }
 {
     let at = 4 * s.words_read();
@@ -159,7 +162,7 @@ pub fn member_fault(table: &[u8], s: Shape) -> u32
             if !is_vid_known(table, s.vids_from(), s.vids, m.vid) {
                 return 7;
             }
-            if is_member_repeated(table, s.members_from(), s.members, m) {
+            if is_member_repeated(table, s.members_from(), member_index, s.members, m) {
                 return 8;
             }
             0

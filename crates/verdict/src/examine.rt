@@ -1,16 +1,24 @@
-// A table examined record by record: the verdict, and what the layers above need of an accepted table, the numbers of its records
-// and the index of its link numbers.
-use key_index::chain::INDEX;
+// A table examined kind by kind: the verdict, and what the layers above need of an accepted table, the numbers of its records and the
+// index of its link numbers.
+use faults::lowest::end_fault;
 use rule::answer::RecordKind;
+use rule::kinds::BRIDGE;
+use rule::kinds::END;
 use rule::kinds::LONGEST_TABLE;
+use rule::kinds::MEMBER;
+use runs::kinds::read_kind;
+use runs::run::is_next;
 use steps::step::Step;
-use steps::step::read_record;
+use steps::step::kind_concerned;
 use table::shape::Shape;
 ghost use mathlib.Core.Path.{_≡_};
 ghost use Rattle.rule.specs.Words.{wordsOf};
-ghost use Rattle.rule.specs.Check.{badLength, verdict};
+ghost use Rattle.rule.specs.Check.{badLength, readOn, start, verdict};
+ghost use lib.ListN.{length};
+ghost use Rattle.table.specs.Whole.{Whole};
 ghost use Rattle.key_index.specs.Index.{Indexed};
-ghost use Rattle.verdict.specs.Examination.{examinedValues, Passed};
+ghost use Rattle.runs.specs.Runs.{Reached};
+ghost use Rattle.verdict.specs.Examination.{examinedValues, LowerOnly, AcceptedAs, Passed};
 
 pub enum Examined {
     Accepted(Shape),
@@ -34,6 +42,40 @@ fn has_bad_length(bytes: usize) -> bool
     bytes % 4 != 0
 }
 
+// The end record, or what stands where it is due, after all records of the other kinds: no record at all, or one whose kind is unknown
+// or lower than that of the record before.
+fn read_last(table: &[u8], s: Shape) -> Examined
+    requires { ⌜ Whole (now table) s × Reached (wordsOf (now table)) s × LowerOnly (wordsOf (now table)) s ⌝ }
+    ensures { λ r. ⌜ examinedValues (wordsOf (now (table .entry))) r ≡ readOn (length (wordsOf (now (table .entry)))) (wordsOf (now (table .entry))) start ⌝ }
+    ensures { λ r. ⌜ AcceptedAs s r ⌝ }
+{
+    let at = s.words_read();
+    let words = table.len() / 4;
+    if words <= at {
+        return Examined::Refused {
+            number: 3,
+            kind: RecordKind::None,
+            word: words as u32,
+        };
+    }
+    if !is_next(table, s, END) {
+        return Examined::Refused {
+            number: 2,
+            kind: RecordKind::None,
+            word: at as u32,
+        };
+    }
+    let fault = end_fault(table, s);
+    if fault != 0 {
+        return Examined::Refused {
+            number: fault,
+            kind: kind_concerned(fault, RecordKind::End),
+            word: at as u32,
+        };
+    }
+    Examined::Accepted(s)
+}
+
 // The lent list is an index of no key, and of the link numbers of an accepted table afterwards.
 pub fn examine(table: &[u8], link_index: &mut [u32]) -> Examined
     requires { ⌜ Indexed (now «link_index») 0 ⌝ }
@@ -47,23 +89,18 @@ pub fn examine(table: &[u8], link_index: &mut [u32]) -> Examined
             word: 0,
         };
     }
-    let mut port_index = [0u32; INDEX];
-    let words = table.len() / 4;
     let mut s = Shape {
         bridges: 0,
         half_links: 0,
         vids: 0,
         members: 0,
     };
-    let mut left = words;
-    while 0 < left {
-        let read = read_record(table, s, &mut port_index, link_index);
+    let mut next = BRIDGE;
+    while next <= MEMBER {
+        let read = read_kind(table, s, next, link_index);
         match read {
             Step::Next(t) => {
                 s = t;
-            }
-            Step::End => {
-                return Examined::Accepted(s);
             }
             Step::Refused { number, kind, word } => {
                 return Examined::Refused {
@@ -73,11 +110,7 @@ pub fn examine(table: &[u8], link_index: &mut [u32]) -> Examined
                 };
             }
         }
-        left -= 1;
+        next += 1;
     }
-    Examined::Refused {
-        number: 3,
-        kind: RecordKind::None,
-        word: words as u32,
-    }
+    read_last(table, s)
 }

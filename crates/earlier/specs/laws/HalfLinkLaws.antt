@@ -9,13 +9,13 @@ use lib.Dec.{eqb}
 use lib.ListN.{drop}
 use borrow.Author.Tests.{eq-eqb, ne-eqb, eqb-true}
 use Rattle.lists.specs.Lists.{rising, anyPasses, selected}
-use Rattle.lists.specs.laws.NumberLaws.{same-or-not, le-or-gt}
+use Rattle.lists.specs.laws.NumberLaws.{same-or-not}
 use Rattle.rule.specs.Records.{HalfLink, halfLinkOf}
 use Rattle.rule.specs.Check.{repeatsPort, hasLink, mirrors, wrongHalf}
 use Rattle.key_index.specs.Places.{lastPlace}
 use Rattle.key_index.specs.laws.PlaceLaws.{last-within, last-passes, last-same}
 use Rattle.key_index.specs.laws.Passing.{nothing-passes, last-passing, any-last}
-use Rattle.key_index.specs.Index.{keyAt, holds, Indexed, Entered, earlierPlace}
+use Rattle.key_index.specs.Index.{keyAt, holds, earlierPlace}
 use Rattle.table.specs.Positions.{recordAt, recordsAt}
 use Rattle.table.specs.laws.PositionLaws.{search-records}
 use Rattle.earlier.specs.HalfLinks.{portKey, numberKey, Keyed}
@@ -116,23 +116,3 @@ port-repeated {ports} {ws} {from} {n} k h l =
     ∙ same-key (recordAt halfLinkOf 3 from ws i .near) (recordAt halfLinkOf 3 from ws i .port) (h .near) (h .port) (omega arith) l)
     ∙ sym (any-last (λ i. repeatsPort h (recordAt halfLinkOf 3 from ws i)) n)
     ∙ sym (search-records halfLinkOf 3 from ws (repeatsPort h) n)
-
--- One half-link more, and none
-
-pub keyed-more :
-    {key : HalfLink → ℕ} {s t ws : List ℕ} {from n : ℕ} →
-    Keyed key s ws from n →
-    (k : ℕ) →
-    Entered s t n k →
-    k ≡ key (recordAt halfLinkOf 3 from ws n) →
-    Keyed key t ws from (n + 1)
-keyed-more {key} {s} {t} {ws} {from} {n} K k E e = record { indexed = E .indexed; keys = λ i l. at i l (le-or-gt n i) }
-  where
-    at : (i : ℕ) → i < n + 1 → (n ≤ i) ⊎ (i < n) → keyAt t i ≡ key (recordAt halfLinkOf 3 from ws i)
-    at i l (inl h) =
-        let z : i ≡ n = omega arith
-        in ap (keyAt t) z ∙ E .new ∙ e ∙ ap (λ (j : ℕ). key (recordAt halfLinkOf 3 from ws j)) (sym z)
-    at i l (inr h) = E .kept i h ∙ K .keys i h
-
-pub keyed-none : (key : HalfLink → ℕ) (s ws : List ℕ) (from n : ℕ) → Indexed s n → n ≡ 0 → Keyed key s ws from n
-keyed-none key s ws from n x e = record { indexed = x; keys = λ i l. absurd (omega arith) }

@@ -10,7 +10,7 @@ use lib.Dec.{eqb, leb, ltb}
 use lib.ListN.{length, take, drop, length-drop}
 use borrow.Author.Tests.{lt-ltb, le-ltb}
 use Rattle.lists.specs.laws.NumberLaws.{le-or-gt}
-use Rattle.rule.specs.Records.{Record, HalfLink, Member, halfLink, member, bridgeOf, halfLinkOf, Layout, halfLinkLayout, endCount}
+use Rattle.rule.specs.Records.{Record, HalfLink, Member, halfLink, member, bridgeOf, halfLinkOf, memberOf, Layout, halfLinkLayout, memberLayout, endCount}
 use Rattle.rule.specs.Plan.{alike, knownVid}
 use Rattle.rule.specs.Check.{Reading, Fault, fault, faults, lowestFault, outsideRange, wrongEndCount, unknownName, repeated, wrongLink, wordsFollow}
 use Rattle.rule.specs.Words.{wordsOf}
@@ -233,3 +233,14 @@ pub read-of-16-bits :
 read-of-16-bits {t} {s} {h = h} R e =
     of-16-bits h (drop (wordsRead s) (wordsOf t))
     (cc (whole-decoded halfLinkLayout (drop (wordsRead s) (wordsOf t)) (halfLink h) (sym (R .got-is) ∙ e)))
+
+-- The I-SID of a member has 24 bits, its bridge number 16.
+pub member-bits : (m : Member) (r : List ℕ) → m ≡ memberOf r → (m .isid < 16777216) × (m .bridge < 65536)
+member-bits m r e = rw e (omega arith, omega arith)
+
+pub read-member-bits :
+    {t : List ℕ} {s : Shape} {got : Read} {last count : ℕ} {m : Member} → ReadAt memberLayout t s got last count
+    → got ≡ whole (member m) → (m .isid < 16777216) × (m .bridge < 65536)
+read-member-bits {t} {s} {m = m} R e =
+    member-bits m (drop (wordsRead s) (wordsOf t))
+    (cc (whole-decoded memberLayout (drop (wordsRead s) (wordsOf t)) (member m) (sym (R .got-is) ∙ e)))

@@ -12,7 +12,7 @@ use lib.ListN.{length, drop, length-drop}
 use borrow.Author.Tests.{lt-ltb, le-ltb, ltb-false, leb-false}
 use Rattle.lists.specs.laws.NumberLaws.{is-false}
 use Rattle.rule.specs.declared.answer.RecordKind.{RecordKind}
-use Rattle.rule.specs.Records.{Bridge, HalfLink, Vid, Member, bridgeOf, halfLinkOf, vidOf, memberOf, Layout, bridgeLayout, halfLinkLayout, vidLayout, memberLayout, endLayout}
+use Rattle.rule.specs.Records.{Bridge, HalfLink, Vid, Member, bridgeOf, halfLinkOf, vidOf, memberOf, Layout, bridgeLayout, halfLinkLayout, vidLayout, memberLayout}
 use Rattle.rule.specs.Words.{wordsOf}
 use Rattle.rule.specs.Outcome.{refused}
 use Rattle.rule.specs.Answers.{kindNumber}
@@ -25,14 +25,15 @@ use Rattle.table.specs.Positions.{recordAt, recordsAt, halfLinksFrom, vidsFrom,
 use Rattle.readers.specs.laws.WordLaws.{count-of-words}
 use Rattle.table.specs.laws.PositionLaws.{how-many, one-more, none-anywhere}
 use Rattle.faults.specs.Faults.{numbered, faultAt}
+use Rattle.earlier.specs.Keys.{sourceKey, addressKey, memberKey, BridgeIndexes, MemberIndex}
 use Rattle.earlier.specs.HalfLinks.{portKey, numberKey}
-use Rattle.earlier.specs.laws.HalfLinkLaws.{keyed-more, keyed-none}
-use Rattle.steps.specs.Steps.{concerned, stepValues, Indexes, Stepped, stepAs, Stands, Still, Kept}
+use Rattle.earlier.specs.laws.KeyLaws.{keyed-more}
+use Rattle.steps.specs.Steps.{concerned, withBridge, withHalfLink, withVid, withMember, stepValues, Stepped, stepAs, HalfLinkIndexes, BridgesKept, HalfLinksKept, MembersKept}
 use Rattle.steps.specs.declared.step.Step.{Step}
 
 -- Refused
 
-kind-concerned : (f k : ℕ) (kind : RecordKind) → kindNumber kind ≡ some k → kindNumber (concerned f kind) ≡ kindConcerned f k
+pub kind-concerned : (f k : ℕ) (kind : RecordKind) → kindNumber kind ≡ some k → kindNumber (concerned f kind) ≡ kindConcerned f k
 kind-concerned f k kind e = go (eqb f 2)
   where
     go : (b : Bool) → kindNumber (cond b RecordKind.None kind) ≡ cond b none (some k)
@@ -44,21 +45,22 @@ module _ (ws : List ℕ) (s : Shape) (l : Layout) where
   words = drop (wordsRead s) ws
 
   pub refused-step :
-      (f : ℕ) (kind : RecordKind) (r : Step) →
+      (next : Shape) (f : ℕ) (kind : RecordKind) (r : Step) →
       numbered f ≡ faultAt ws s l →
       (f ≡ 0 → ⊥) →
       kindNumber kind ≡ some (l .kind) →
       (at : ℕ) →
       at ≡ wordsRead s →
       r ≡ Step.Refused f (concerned f kind) at →
-      Stepped ws s (stepAs ws s l) r
-  refused-step f kind r e h k at a g =
+      Stepped ws next (stepAs ws s l) r
+  refused-step next f kind r e h k at a g =
       record {
         value =
-            ap (stepValues ws s) g
+            ap (stepValues ws) g
             ∙ (λ i. stops (refused f (kind-concerned f (l .kind) kind k i) (a i)))
             ∙ positive f h
             ∙ ap (judged (readingAt ws s) l words) e;
+        is-next = λ t n. let z : _≡_ {A = ℕ} 0 1 = cc in absurd (omega arith);
         within = λ t n. let z : _≡_ {A = ℕ} 0 1 = cc in absurd (omega arith);
       }
     where
@@ -92,10 +94,11 @@ module _ (ws : List ℕ) (s : Shape) (l : Layout) where
         wordsRead t ≡ wordsRead s + l .words →
         0 < l .words →
         r ≡ Step.Next t →
-        Stepped ws s (stepAs ws s l) r
+        Stepped ws t (stepAs ws s l) r
     taken-step t r e w p g =
         record {
-          value = ap (stepValues ws s) g ∙ e ∙ ap (judged (readingAt ws s) l words) sound;
+          value = ap (stepValues ws) g ∙ e ∙ ap (judged (readingAt ws s) l words) sound;
+          is-next = λ u n. let z : t ≡ u = cc in sym z;
           within =
               λ u n.
               let z : t ≡ u = cc
@@ -112,7 +115,7 @@ pub record NoneAfter (k : ℕ) (s : Shape) : Type 0 where
   pub no-vids : k < 3 → s .vids ≡ 0
   pub no-half-links : k < 2 → s .«half_links» ≡ 0
 
-none-after : (k : ℕ) (s : Shape) → lastKind s ≤ k → NoneAfter k s
+pub none-after : (k : ℕ) (s : Shape) → lastKind s ≤ k → NoneAfter k s
 none-after k s h =
     go (s .members) (s .vids) (s .«half_links») (s .bridges) (zero-or-more (s .members)) (zero-or-more (s .vids)) (zero-or-more (s .«half_links»)) h
   where
@@ -159,18 +162,15 @@ module _ {A : Type 0} (decoded : List ℕ → A) (width from : ℕ) (ws : List �
       ∙ ap (λ (k : ℕ). recordsAt decoded width from ws n ++ (decoded (drop k ws) ∷ [])) e
 
 module _ (ws : List ℕ) (s : Shape) where
-  abbrev withBridge : Shape
-  withBridge = record { bridges = s .bridges + 1; «half_links» = s .«half_links»; vids = s .vids; members = s .members }
-
-  pub bridge-taken : (r : Step) → numbered 0 ≡ faultAt ws s bridgeLayout → r ≡ Step.Next withBridge → Stepped ws s (stepAs ws s bridgeLayout) r
+  pub bridge-taken : (r : Step) → numbered 0 ≡ faultAt ws s bridgeLayout → r ≡ Step.Next (withBridge s) → Stepped ws (withBridge s) (stepAs ws s bridgeLayout) r
   bridge-taken r e g =
-      taken-step ws s bridgeLayout e withBridge r
+      taken-step ws s bridgeLayout e (withBridge s) r
       (same-reading (omega arith) last
       (same-plan
       (grown bridgeOf 3 0 ws (s .bridges) (wordsRead s) (omega (arith, h, v, m)))
-      (none-anywhere halfLinkOf 3 (halfLinksFrom withBridge) ws (halfLinksFrom s) (s .«half_links») h)
-      (none-anywhere vidOf 1 (vidsFrom withBridge) ws (vidsFrom s) (s .vids) v)
-      (none-anywhere memberOf 2 (membersFrom withBridge) ws (membersFrom s) (s .members) m)))
+      (none-anywhere halfLinkOf 3 (halfLinksFrom (withBridge s)) ws (halfLinksFrom s) (s .«half_links») h)
+      (none-anywhere vidOf 1 (vidsFrom (withBridge s)) ws (vidsFrom s) (s .vids) v)
+      (none-anywhere memberOf 2 (membersFrom (withBridge s)) ws (membersFrom s) (s .members) m)))
       (omega arith) (omega arith) g
     where
       after : NoneAfter 1 s
@@ -185,22 +185,19 @@ module _ (ws : List ℕ) (s : Shape) where
       m : s .members ≡ 0
       m = after .no-members (omega arith)
 
-      last : lastKind withBridge ≡ 1
+      last : lastKind (withBridge s) ≡ 1
       last = simp (le-ltb 0 (s .members) (omega (arith, m)), le-ltb 0 (s .vids) (omega (arith, v)), le-ltb 0 (s .«half_links») (omega (arith, h)), lt-ltb 0 (s .bridges + 1) (omega arith))
 
-  abbrev withHalfLink : Shape
-  withHalfLink = record { bridges = s .bridges; «half_links» = s .«half_links» + 1; vids = s .vids; members = s .members }
-
   pub half-link-taken :
-      (r : Step) → numbered 0 ≡ faultAt ws s halfLinkLayout → r ≡ Step.Next withHalfLink → Stepped ws s (stepAs ws s halfLinkLayout) r
+      (r : Step) → numbered 0 ≡ faultAt ws s halfLinkLayout → r ≡ Step.Next (withHalfLink s) → Stepped ws (withHalfLink s) (stepAs ws s halfLinkLayout) r
   half-link-taken r e g =
-      taken-step ws s halfLinkLayout e withHalfLink r
+      taken-step ws s halfLinkLayout e (withHalfLink s) r
       (same-reading (omega arith) last
       (same-plan
       refl
       (grown halfLinkOf 3 (halfLinksFrom s) ws (s .«half_links») (wordsRead s) (omega (arith, v, m)))
-      (none-anywhere vidOf 1 (vidsFrom withHalfLink) ws (vidsFrom s) (s .vids) v)
-      (none-anywhere memberOf 2 (membersFrom withHalfLink) ws (membersFrom s) (s .members) m)))
+      (none-anywhere vidOf 1 (vidsFrom (withHalfLink s)) ws (vidsFrom s) (s .vids) v)
+      (none-anywhere memberOf 2 (membersFrom (withHalfLink s)) ws (membersFrom s) (s .members) m)))
       (omega arith) (omega arith) g
     where
       after : NoneAfter 2 s
@@ -212,133 +209,140 @@ module _ (ws : List ℕ) (s : Shape) where
       m : s .members ≡ 0
       m = after .no-members (omega arith)
 
-      last : lastKind withHalfLink ≡ 2
+      last : lastKind (withHalfLink s) ≡ 2
       last = simp (le-ltb 0 (s .members) (omega (arith, m)), le-ltb 0 (s .vids) (omega (arith, v)), lt-ltb 0 (s .«half_links» + 1) (omega arith))
 
-  abbrev withVid : Shape
-  withVid = record { bridges = s .bridges; «half_links» = s .«half_links»; vids = s .vids + 1; members = s .members }
-
-  pub vid-taken : (r : Step) → numbered 0 ≡ faultAt ws s vidLayout → r ≡ Step.Next withVid → Stepped ws s (stepAs ws s vidLayout) r
+  pub vid-taken : (r : Step) → numbered 0 ≡ faultAt ws s vidLayout → r ≡ Step.Next (withVid s) → Stepped ws (withVid s) (stepAs ws s vidLayout) r
   vid-taken r e g =
-      taken-step ws s vidLayout e withVid r
+      taken-step ws s vidLayout e (withVid s) r
       (same-reading (omega arith) last
       (same-plan
       refl
       refl
       (grown vidOf 1 (vidsFrom s) ws (s .vids) (wordsRead s) (omega (arith, m)))
-      (none-anywhere memberOf 2 (membersFrom withVid) ws (membersFrom s) (s .members) m)))
+      (none-anywhere memberOf 2 (membersFrom (withVid s)) ws (membersFrom s) (s .members) m)))
       (omega arith) (omega arith) g
     where
       m : s .members ≡ 0
       m = none-after 3 s (not-lower ws s vidLayout e) .no-members (omega arith)
 
-      last : lastKind withVid ≡ 3
+      last : lastKind (withVid s) ≡ 3
       last = simp (le-ltb 0 (s .members) (omega (arith, m)), lt-ltb 0 (s .vids + 1) (omega arith))
 
-  abbrev withMember : Shape
-  withMember = record { bridges = s .bridges; «half_links» = s .«half_links»; vids = s .vids; members = s .members + 1 }
-
-  pub member-taken : (r : Step) → numbered 0 ≡ faultAt ws s memberLayout → r ≡ Step.Next withMember → Stepped ws s (stepAs ws s memberLayout) r
+  pub member-taken : (r : Step) → numbered 0 ≡ faultAt ws s memberLayout → r ≡ Step.Next (withMember s) → Stepped ws (withMember s) (stepAs ws s memberLayout) r
   member-taken r e g =
-      taken-step ws s memberLayout e withMember r
+      taken-step ws s memberLayout e (withMember s) r
       (same-reading (omega arith) (simp (lt-ltb 0 (s .members + 1) (omega arith)))
       (same-plan refl refl refl (grown memberOf 2 (membersFrom s) ws (s .members) (wordsRead s) (omega arith))))
       (omega arith) (omega arith) g
 
-  -- The end record without a fault.
-  pub end-taken : (r : Step) → numbered 0 ≡ faultAt ws s endLayout → r ≡ Step.End → Stepped ws s (stepAs ws s endLayout) r
-  end-taken r e g =
+-- A record without a fault: its words are there, and there is room for its keys
+
+pub record-there :
+    (t : List ℕ) (s : Shape) (l : Layout) →
+    0 < l .words →
+    numbered 0 ≡ faultAt (wordsOf t) s l →
+    4 * wordsRead s + 4 * l .words ≤ length t
+record-there t s l h e =
+    omega (arith, not-cut (wordsOf t) s l e, length-drop (wordsRead s) (wordsOf t), count-of-words t)
+
+module _ (ws : List ℕ) (s : Shape) where
+  pub bridge-room : numbered 0 ≡ faultAt ws s bridgeLayout → s .bridges < 512
+  bridge-room e = omega (arith, not-full ws s bridgeLayout e, how-many bridgeOf 3 0 ws (s .bridges))
+
+  pub half-link-room : numbered 0 ≡ faultAt ws s halfLinkLayout → s .«half_links» < 512
+  half-link-room e = omega (arith, not-full ws s halfLinkLayout e, how-many halfLinkOf 3 (halfLinksFrom s) ws (s .«half_links»))
+
+  pub member-room : numbered 0 ≡ faultAt ws s memberLayout → s .members < 512
+  member-room e = omega (arith, not-full ws s memberLayout e, how-many memberOf 2 (membersFrom s) ws (s .members))
+
+  -- The record that was read at the word `at` is the next of its kind.
+  next-of-kind :
+      {A : Type 0} (decoded : List ℕ → A) (width from n at : ℕ) (x : A) →
+      at ≡ wordsRead s →
+      x ≡ decoded (drop at ws) →
+      wordsRead s ≡ from + width * n →
+      x ≡ recordAt decoded width from ws n
+  next-of-kind decoded width from n at x a e f = e ∙ ap (λ (k : ℕ). decoded (drop k ws)) (a ∙ f)
+
+  -- Its keys entered, it is in the indexes of its kind.
+
+  pub bridges-kept :
+      {sources addresses sources′ addresses′ : List ℕ} {r : Step} →
+      BridgeIndexes sources addresses ws (s .bridges) →
+      (b : Bridge) (at key : ℕ) →
+      at ≡ wordsRead s →
+      b ≡ bridgeOf (drop at ws) →
+      numbered 0 ≡ faultAt ws s bridgeLayout →
+      key ≡ addressKey b →
+      Entered sources sources′ (s .bridges) (b .spSourceId) →
+      Entered addresses addresses′ (s .bridges) key →
+      r ≡ Step.Next (withBridge s) →
+      BridgesKept ws sources′ addresses′ r
+  bridges-kept {sources′ = sources′} {addresses′ = addresses′} x b at key a e f k p q g t n =
+      let z : withBridge s ≡ t = cc
+      in subst (λ (y : Shape). BridgeIndexes sources′ addresses′ ws (y .bridges)) z (
       record {
-        value = ap (stepValues ws s) g ∙ ap (judged (readingAt ws s) endLayout (drop (wordsRead s) ws)) e;
-        within = λ t n. let z : _≡_ {A = ℕ} 0 1 = cc in absurd (omega arith);
+        by-source = keyed-more (x .by-source) (b .spSourceId) p (ap sourceKey there);
+        by-address = keyed-more (x .by-address) key q (k ∙ ap addressKey there);
       }
+      )
+    where
+      after : NoneAfter 1 s
+      after = none-after 1 s (not-lower ws s bridgeLayout f)
 
-  -- The indexes
+      there : b ≡ recordAt bridgeOf 3 0 ws (s .bridges)
+      there =
+          next-of-kind bridgeOf 3 0 (s .bridges) at b a e
+          (omega (arith, after .no-half-links (omega arith), after .no-vids (omega arith), after .no-members (omega arith)))
 
-  pub half-link-kept :
-      {ports links ports′ links′ : List ℕ} →
-      Indexes ports links ws s →
+  pub half-links-kept :
+      {ports links ports′ links′ : List ℕ} {r : Step} →
+      HalfLinkIndexes ports links ws s →
       (h : HalfLink) (at key : ℕ) →
       at ≡ wordsRead s →
       h ≡ halfLinkOf (drop at ws) →
       numbered 0 ≡ faultAt ws s halfLinkLayout →
-      key ≡ h .near * 65536 + h .port →
+      key ≡ portKey h →
       Entered ports ports′ (s .«half_links») key →
       Entered links links′ (s .«half_links») (h .link) →
-      Indexes ports′ links′ ws withHalfLink
-  half-link-kept x h at key a e f k p l =
+      r ≡ Step.Next (withHalfLink s) →
+      HalfLinksKept ws ports′ links′ r
+  half-links-kept {ports′ = ports′} {links′ = links′} x h at key a e f k p l g t n =
+      let z : withHalfLink s ≡ t = cc
+      in subst (λ (y : Shape). HalfLinkIndexes ports′ links′ ws y) z (
       record {
         by-port = keyed-more (x .by-port) key p (k ∙ ap portKey there);
         by-number = keyed-more (x .by-number) (h .link) l (ap numberKey there);
       }
+      )
     where
       after : NoneAfter 2 s
       after = none-after 2 s (not-lower ws s halfLinkLayout f)
 
       there : h ≡ recordAt halfLinkOf 3 (halfLinksFrom s) ws (s .«half_links»)
       there =
-          e
-          ∙ ap (λ (n : ℕ). halfLinkOf (drop n ws))
-          (a ∙ (let z : wordsRead s ≡ halfLinksFrom s + 3 * s .«half_links» = omega (arith, after .no-vids (omega arith), after .no-members (omega arith)) in z))
+          next-of-kind halfLinkOf 3 (halfLinksFrom s) (s .«half_links») at h a e
+          (omega (arith, after .no-vids (omega arith), after .no-members (omega arith)))
 
-  -- There is room for a half-link without a fault.
-  pub half-link-room : numbered 0 ≡ faultAt ws s halfLinkLayout → s .«half_links» < 512
-  half-link-room e = omega (arith, not-full ws s halfLinkLayout e, how-many halfLinkOf 3 (halfLinksFrom s) ws (s .«half_links»))
-
--- and its words are there.
-pub half-link-there : (t : List ℕ) (s : Shape) → numbered 0 ≡ faultAt (wordsOf t) s halfLinkLayout → 4 * wordsRead s + 12 ≤ length t
-half-link-there t s e =
-    omega (arith, not-cut (wordsOf t) s halfLinkLayout e, length-drop (wordsRead s) (wordsOf t), count-of-words t)
+  pub members-kept :
+      {members members′ : List ℕ} {r : Step} →
+      MemberIndex members ws (membersFrom s) (s .members) →
+      (m : Member) (at key : ℕ) →
+      at ≡ wordsRead s →
+      m ≡ memberOf (drop at ws) →
+      key ≡ memberKey m →
+      Entered members members′ (s .members) key →
+      r ≡ Step.Next (withMember s) →
+      MembersKept ws members′ r
+  members-kept {members′ = members′} x m at key a e k p g t n =
+      let z : withMember s ≡ t = cc
+      in subst (λ (y : Shape). MemberIndex members′ ws (membersFrom y) (y .members)) z
+      (keyed-more x key p (k ∙ ap memberKey (next-of-kind memberOf 2 (membersFrom s) (s .members) at m a e refl)))
 
 -- A refusal keeps nothing.
 pub refused-keeps :
-    {ws ports links : List ℕ} {s : Shape} {number at : ℕ} {kind : RecordKind} {r : Step} →
+    (P : Shape → Type 0) {number at : ℕ} {kind : RecordKind} {r : Step} →
     r ≡ Step.Refused number kind at →
-    Kept ws ports links s r
-refused-keeps e =
-    record {
-      next = λ t n. let z : _≡_ {A = ℕ} 0 1 = cc in absurd (omega arith);
-      at-end = λ n. let z : _≡_ {A = ℕ} 0 1 = cc in absurd (omega arith);
-    }
-
--- A record taken keeps what holds of its shape.
-pub taken-keeps :
-    {ws ports links : List ℕ} {s u : Shape} {r : Step} → Indexes ports links ws u → r ≡ Step.Next u → Kept ws ports links s r
-taken-keeps {ws} {ports} {links} {s} {u} x e =
-    record {
-      next = λ t n. let z : u ≡ t = cc in subst (λ (y : Shape). Indexes ports links ws y) z x;
-      at-end = λ n. let z : _≡_ {A = ℕ} 0 1 = cc in absurd (omega arith);
-    }
-
--- The half-links stand where they stood
-
-pub refused-still : {s : Shape} {number at : ℕ} {kind : RecordKind} {r : Step} → r ≡ Step.Refused number kind at → Still s r
-refused-still e t n = let z : _≡_ {A = ℕ} 0 1 = cc in absurd (omega arith)
-
-pub end-still : {s : Shape} {r : Step} → r ≡ Step.End → Still s r
-end-still e t n = let z : _≡_ {A = ℕ} 0 1 = cc in absurd (omega arith)
-
-pub taken-still : {s u : Shape} {r : Step} → Stands s u → r ≡ Step.Next u → Still s r
-taken-still {s} {u} h e t n = let z : u ≡ t = cc in subst (λ (y : Shape). Stands s y) z h
-
-pub bridge-stands : (ws : List ℕ) (s : Shape) → numbered 0 ≡ faultAt ws s bridgeLayout → Stands s (withBridge ws s)
-bridge-stands ws s e =
-    record { count = refl; place = inl (none-after 1 s (not-lower ws s bridgeLayout e) .no-half-links (omega arith)) }
-
-pub vid-stands : (ws : List ℕ) (s : Shape) → Stands s (withVid ws s)
-vid-stands ws s = record { count = refl; place = inr refl }
-
-pub member-stands : (ws : List ℕ) (s : Shape) → Stands s (withMember ws s)
-member-stands ws s = record { count = refl; place = inr refl }
-
--- so the indexes are theirs still.
-pub still-keeps : {ws ports links : List ℕ} {s : Shape} {r : Step} → Indexes ports links ws s → Still s r → Kept ws ports links s r
-still-keeps {ws} {ports} {links} {s} x h = record { next = λ t n. go t (h t n .count) (h t n .place); at-end = λ n. x }
-  where
-    go : (t : Shape) → t .«half_links» ≡ s .«half_links» → (s .«half_links» ≡ 0) ⊎ (t .bridges ≡ s .bridges) → Indexes ports links ws t
-    go t e (inl z) =
-        record {
-          by-port = keyed-none portKey ports ws (halfLinksFrom t) (t .«half_links») (rw e (x .by-port .indexed)) (e ∙ z);
-          by-number = keyed-none numberKey links ws (halfLinksFrom t) (t .«half_links») (rw e (x .by-number .indexed)) (e ∙ z);
-        }
-    go t e (inr b) = record { by-port = rw (e, b) (x .by-port); by-number = rw (e, b) (x .by-number) }
+    (t : Shape) → r ≡ Step.Next t → P t
+refused-keeps P e t n = let z : _≡_ {A = ℕ} 0 1 = cc in absurd (omega arith)

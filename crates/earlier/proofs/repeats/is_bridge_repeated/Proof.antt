@@ -1,53 +1,49 @@
--- `earlier::repeats::is_bridge_repeated` searches the bridges one after the other. Assumes nothing.
-use Prim.Native.Nat.{_-_, _*_}
-use native.Mathlib.Omega.{arith}
-use Rattle.lists.specs.laws.Searching.{search-starts}
-use Rattle.rule.specs.Words.{wordsOf}
-use Rattle.rule.specs.Records.{bridgeOf}
-use Rattle.rule.specs.Check.{repeatsBridge}
+-- `earlier::repeats::is_bridge_repeated` asks the index of SPsourceIDs, then that of addresses, and compares all bridges where one has
+-- the key of the address. Assumes nothing.
+use Prim.Native.Nat.{ℕ}
+use mathlib.Core.Path.{ap, _∙_}
+use Rattle.key_index.specs.Index.{holds}
+use Rattle.key_index.specs.Places.{lastPlace}
 use Rattle.readers.specs.Readers.{bridgeValues}
-use Rattle.table.specs.laws.PositionLaws.{SearchingRecords, record-passed, record-found, no-record-found}
+use Rattle.earlier.specs.laws.KeyLaws.{source-repeated, nothing-repeated}
 use borrow.Author.Needs.{needs}
 use Rattle.earlier.proofs.repeats.is_bridge_repeated.Statement.{statement}
 use Rattle.earlier.proofs.repeats.is_bridge_repeated.Tie as tie
 
-abbrev Inv-loop : tie.InvT-loop
-Inv-loop table bridges b i₀ i = SearchingRecords bridgeOf 3 0 (wordsOf table) (repeatsBridge (bridgeValues b)) bridges i
-
-abbrev μ-loop : tie.MeasureT-loop
-μ-loop table bridges b i₀ i = bridges - i
-
-loop-holds : tie.Need-loop-holds Inv-loop μ-loop
-loop-holds c = search-starts _ _
-
-returns : tie.Need-returns Inv-loop μ-loop
-returns c =
-    let at-bridge-at = c .before .before in
-    let at-loop-test = at-bridge-at .before in
-    let at-loop = at-loop-test .before in
-    let at-start = at-loop .before .before in
-    record-found bridgeOf 3 0 (wordsOf (at-start .args .table .now)) (repeatsBridge (bridgeValues (at-start .args .b))) (at-loop .loop .inv)
-    (3 * at-loop .loop .i) (bridgeValues (at-bridge-at .bridge-at .result)) (c .before .repeats-bridge .result)
-    (at-loop-test .loop-test .taken) (omega arith) (at-bridge-at .bridge-at .ensures) (c .before .repeats-bridge .ensures) (c .if1 .taken)
-
-loop-again : tie.Need-loop-again Inv-loop μ-loop
-loop-again c =
-    let at-bridge-at = c .before .before in
-    let at-loop-test = at-bridge-at .before in
-    let at-loop = at-loop-test .before in
-    let at-start = at-loop .before .before in
-    record-passed bridgeOf 3 0 (wordsOf (at-start .args .table .now)) (repeatsBridge (bridgeValues (at-start .args .b)))
-    (at-loop .loop .inv) (3 * at-loop .loop .i) (bridgeValues (at-bridge-at .bridge-at .result)) (c .before .repeats-bridge .result)
-    (at-loop-test .loop-test .taken) (omega arith) (at-bridge-at .bridge-at .ensures) (c .before .repeats-bridge .ensures) (c .if1 .left)
-
-returns-2 : tie.Need-returns-2 Inv-loop μ-loop
-returns-2 c =
+last-place-requires : tie.Need-last-place-requires
+last-place-requires c κs =
     let at-start = c .before .before .before in
-    no-record-found bridgeOf 3 0 (wordsOf (at-start .args .table .now)) (repeatsBridge (bridgeValues (at-start .args .b)))
-    (c .before .loop .inv) (c .loop-test .left)
+    let (_, bridge-indexes) = at-start .pre in
+    bridge-indexes .by-source .indexed
+
+returns : tie.Need-returns
+returns c =
+    let at-start = c .before .before .before .before .before in
+    let (_, bridge-indexes) = at-start .pre in
+    source-repeated bridge-indexes (bridgeValues (at-start .args .b)) (c .before .last-place .result) (c .before .last-place .ensures)
+    (c .if1 .taken)
+
+last-place-requires-2 : tie.Need-last-place-requires-2
+last-place-requires-2 c κs =
+    let at-start = c .before .before .before .before .before .before in
+    let (_, bridge-indexes) = at-start .pre in
+    bridge-indexes .by-address .indexed
+
+returns-2 : tie.Need-returns-2
+returns-2 c =
+    let at-address-key = c .before .before in
+    let at-if1 = at-address-key .before in
+    let at-last-place = at-if1 .before in
+    let at-start = at-last-place .before .before .before .before in
+    let (_, bridge-indexes) = at-start .pre in
+    nothing-repeated bridge-indexes (bridgeValues (at-start .args .b)) (at-last-place .last-place .result) (c .before .last-place2 .result)
+    (at-last-place .last-place .ensures) (at-if1 .if1 .left)
+    (c .before .last-place2 .ensures
+    ∙ ap (λ (k : ℕ). lastPlace (holds (at-start .args .address-index .now) k) (at-start .args .bridges))
+    (at-address-key .address-key .ensures))
+    (c .if2 .taken)
 
 pub is-bridge-repeated-spec : {M : Type 1} → statement M
 is-bridge-repeated-spec =
     tie.close
-    (tie.spec Inv-loop μ-loop loop-holds (λ c. search needs) (λ c κs. search needs) (λ c κs. search needs) returns (λ c. search needs)
-    (λ c. search needs) loop-again returns-2)
+    (tie.spec last-place-requires returns (λ c κs. search needs) last-place-requires-2 returns-2 (λ c κs. search needs) (λ c. search needs))

@@ -1,55 +1,32 @@
--- `earlier::repeats::is_member_repeated` searches the members one after the other. Assumes nothing.
-use Prim.Native.Nat.{_-_, _+_, _*_}
-use native.Mathlib.Omega.{arith}
-use Rattle.lists.specs.laws.Searching.{search-starts}
-use Rattle.rule.specs.Words.{wordsOf}
-use Rattle.rule.specs.Records.{memberOf}
-use Rattle.rule.specs.Check.{repeatsMember}
+-- `earlier::repeats::is_member_repeated` asks the index, and compares all members where one has the key. Assumes nothing.
+use Prim.Native.Nat.{ℕ}
+use mathlib.Core.Path.{ap, _∙_}
+use Rattle.key_index.specs.Index.{holds}
+use Rattle.key_index.specs.Places.{lastPlace}
 use Rattle.readers.specs.Readers.{memberValues}
-use Rattle.table.specs.laws.PositionLaws.{SearchingRecords, record-passed, record-found, no-record-found}
+use Rattle.earlier.specs.laws.KeyLaws.{no-member-repeated}
 use borrow.Author.Needs.{needs}
 use Rattle.earlier.proofs.repeats.is_member_repeated.Statement.{statement}
 use Rattle.earlier.proofs.repeats.is_member_repeated.Tie as tie
 
-abbrev Inv-loop : tie.InvT-loop
-Inv-loop table from members m i₀ i = SearchingRecords memberOf 2 from (wordsOf table) (repeatsMember (memberValues m)) members i
-
-abbrev μ-loop : tie.MeasureT-loop
-μ-loop table from members m i₀ i = members - i
-
-loop-holds : tie.Need-loop-holds Inv-loop μ-loop
-loop-holds c = search-starts _ _
-
-returns : tie.Need-returns Inv-loop μ-loop
-returns c =
-    let at-member-at = c .before .before in
-    let at-loop-test = at-member-at .before in
-    let at-loop = at-loop-test .before in
-    let at-start = at-loop .before .before in
-    record-found memberOf 2 (at-start .args .from) (wordsOf (at-start .args .table .now)) (repeatsMember (memberValues (at-start .args .m)))
-    (at-loop .loop .inv) (at-start .args .from + 2 * at-loop .loop .i) (memberValues (at-member-at .member-at .result))
-    (c .before .repeats-member .result) (at-loop-test .loop-test .taken) (omega arith) (at-member-at .member-at .ensures)
-    (c .before .repeats-member .ensures) (c .if1 .taken)
-
-loop-again : tie.Need-loop-again Inv-loop μ-loop
-loop-again c =
-    let at-member-at = c .before .before in
-    let at-loop-test = at-member-at .before in
-    let at-loop = at-loop-test .before in
-    let at-start = at-loop .before .before in
-    record-passed memberOf 2 (at-start .args .from) (wordsOf (at-start .args .table .now))
-    (repeatsMember (memberValues (at-start .args .m))) (at-loop .loop .inv) (at-start .args .from + 2 * at-loop .loop .i)
-    (memberValues (at-member-at .member-at .result)) (c .before .repeats-member .result) (at-loop-test .loop-test .taken) (omega arith)
-    (at-member-at .member-at .ensures) (c .before .repeats-member .ensures) (c .if1 .left)
-
-returns-2 : tie.Need-returns-2 Inv-loop μ-loop
-returns-2 c =
+last-place-requires : tie.Need-last-place-requires
+last-place-requires c κs =
     let at-start = c .before .before .before in
-    no-record-found memberOf 2 (at-start .args .from) (wordsOf (at-start .args .table .now))
-    (repeatsMember (memberValues (at-start .args .m))) (c .before .loop .inv) (c .loop-test .left)
+    let (_, _, _, member-index) = at-start .pre in
+    member-index .indexed
+
+returns : tie.Need-returns
+returns c =
+    let at-member-key = c .before .before in
+    let at-start = at-member-key .before .before .before in
+    let (_, _, _, member-index) = at-start .pre in
+    no-member-repeated member-index (memberValues (at-start .args .m)) (c .before .last-place .result)
+    (c .before .last-place .ensures
+    ∙ ap (λ (k : ℕ). lastPlace (holds (at-start .args .member-index .now) k) (at-start .args .members))
+    (at-member-key .member-key .ensures))
+    (c .if1 .taken)
 
 pub is-member-repeated-spec : {M : Type 1} → statement M
 is-member-repeated-spec =
     tie.close
-    (tie.spec Inv-loop μ-loop loop-holds (λ c. search needs) (λ c. search needs) (λ c κs. search needs) (λ c κs. search needs) returns
-    (λ c. search needs) (λ c. search needs) loop-again returns-2)
+    (tie.spec (λ c κs. search needs) last-place-requires returns (λ c κs. search needs) (λ c. search needs))

@@ -15,7 +15,7 @@ use Rattle.faults.proofs.lowest.bridge_fault.Tie as tie
 
 -- The start of the function, seen from where the record is read.
 abbrev start : tie.After-read-bridge → tie.Start
-start c = c .before .before .before .before .before
+start c = c .before .before .before .before .before .before .before
 
 -- The record as it is read.
 as-read :

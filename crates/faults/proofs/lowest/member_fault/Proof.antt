@@ -7,7 +7,7 @@ use Rattle.table.specs.Positions.{membersFrom}
 use Rattle.table.specs.laws.PositionLaws.{how-many}
 use Rattle.readers.specs.Readers.{memberRead, memberValues}
 use Rattle.faults.specs.Faults.{numbered, faultAt}
-use Rattle.faults.specs.laws.FaultLaws.{ReadAt, read-at, own-fault, found-fault, left-fault, unknown-member}
+use Rattle.faults.specs.laws.FaultLaws.{ReadAt, read-at, own-fault, found-fault, left-fault, unknown-member, read-member-bits}
 use borrow.Author.Tests.{lt-ltb, le-ltb, not-true, not-false}
 use Rattle.rule.specs.Records.{memberOf, memberLayout}
 use Rattle.readers.specs.declared.member.MemberRead.{MemberRead}
@@ -17,7 +17,7 @@ use Rattle.faults.proofs.lowest.member_fault.Tie as tie
 
 -- The start of the function, seen from where the record is read.
 abbrev start : tie.After-read-member → tie.Start
-start c = c .before .before .before .before .before
+start c = c .before .before .before .before .before .before
 
 -- The record as it is read.
 as-read :
@@ -67,6 +67,13 @@ returns-3 c =
       sym (rw (at-vids-from .vids-from .ensures) at (c .before .is-vid-known .ensures)) ∙ not-true _ (c .if3 .taken),
     ))
     refl refl refl
+
+is-member-repeated-requires : tie.Need-is-member-repeated-requires
+is-member-repeated-requires c κs =
+    let at-read = c .before .before .before .before .before .before .before .before .before .before in
+    let (_, indexed) = start (at-read .before .before) .pre in
+    let bits = read-member-bits (as-read (at-read .before .before)) (ap (λ (x : MemberRead). memberRead x) (at-read .read .given .1)) in
+    (omega (arith, c .members-from .ensures), bits .0, bits .1, rw (c .members-from .ensures) indexed)
 
 -- The last test decides: 8 where it repeats a member, else no fault.
 by-repeat :
@@ -120,4 +127,4 @@ member-fault-spec =
     (tie.spec (λ c κs. search needs) (λ c. search needs) (λ c κs. search needs) (λ c. search needs) (λ c. search needs) (λ c. search needs)
     (λ c κs. search needs) (λ c. search needs) (λ c κs. search needs) (λ c. search needs) (λ c κs. search needs) (λ c. search needs)
     (λ c κs. search needs) (λ c. search needs) (λ c κs. search needs) returns (λ c. search needs) returns-2 (λ c κs. search needs)
-    (λ c κs. search needs) returns-3 (λ c κs. search needs) (λ c κs. search needs) returns-4 returns-5 returns-6 returns-7 returns-8)
+    (λ c κs. search needs) returns-3 (λ c κs. search needs) is-member-repeated-requires returns-4 returns-5 returns-6 returns-7 returns-8)

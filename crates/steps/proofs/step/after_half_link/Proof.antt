@@ -1,6 +1,6 @@
 -- `steps::step::after_half_link` refuses the record by its lowest fault, or takes it and enters its keys. Assumes nothing.
-use mathlib.Core.Path.{refl, sym, ap, _∙_}
 use native.Mathlib.Omega.{arith}
+use mathlib.Core.Path.{refl, sym, ap, _∙_}
 use lib.ListN.{drop}
 use Rattle.rule.specs.declared.answer.RecordKind.{RecordKind}
 use Rattle.rule.specs.Words.{wordsOf}
@@ -8,7 +8,8 @@ use Rattle.rule.specs.Records.{halfLinkLayout}
 use Rattle.readers.specs.Readers.{halfLinkValues}
 use Rattle.faults.specs.Faults.{numbered}
 use Rattle.faults.specs.laws.FaultLaws.{of-16-bits}
-use Rattle.steps.specs.laws.StepLaws.{refused-step, half-link-taken, half-link-kept, half-link-room, half-link-there, refused-keeps, taken-keeps}
+use Rattle.steps.specs.Steps.{withHalfLink, HalfLinkIndexes}
+use Rattle.steps.specs.laws.StepLaws.{refused-step, refused-keeps, record-there, half-link-room, half-link-taken, half-links-kept}
 use borrow.Author.Needs.{needs}
 use Rattle.steps.proofs.step.after_half_link.Statement.{statement}
 use Rattle.steps.proofs.step.after_half_link.Tie as tie
@@ -18,10 +19,10 @@ returns c =
     let at-words-read = c .before .before in
     let at-half-link-fault = at-words-read .before in
     let at-start = at-half-link-fault .before .before .before .before .before .before in (
-      refused-step (wordsOf (at-start .args .table .now)) (at-start .args .s) halfLinkLayout (at-half-link-fault .half-link-fault .result)
-          RecordKind.HalfLink _ (at-half-link-fault .half-link-fault .ensures) (c .before .if1 .taken) refl
-          (at-words-read .words-read .result) (at-words-read .words-read .ensures) (c .refusal .ensures),
-      refused-keeps (c .refusal .ensures),
+      refused-step (wordsOf (at-start .args .table .now)) (at-start .args .s) halfLinkLayout (withHalfLink (at-start .args .s))
+          (at-half-link-fault .half-link-fault .result) RecordKind.HalfLink _ (at-half-link-fault .half-link-fault .ensures)
+          (c .before .if1 .taken) refl (at-words-read .words-read .result) (at-words-read .words-read .ensures) (c .refusal .ensures),
+      refused-keeps (λ t. HalfLinkIndexes _ _ (wordsOf (at-start .args .table .now)) t) (c .refusal .ensures),
     )
 
 half-link-at-requires : tie.Need-half-link-at-requires
@@ -31,7 +32,7 @@ half-link-at-requires c κs =
     omega (
       arith,
       c .before .words-read .ensures,
-      half-link-there (at-start .args .table .now) (at-start .args .s)
+      record-there (at-start .args .table .now) (at-start .args .s) halfLinkLayout (omega arith)
           (ap numbered (sym (c .if1 .left)) ∙ at-half-link-fault .half-link-fault .ensures),
     )
 
@@ -47,8 +48,8 @@ enter-requires c κs =
     let at-if1 = c .before .before .before in
     let at-half-link-fault = at-if1 .before .before in
     let at-start = at-half-link-fault .before .before .before .before .before .before in
-    let (_, indexes) = at-start .pre in (
-      indexes .by-port .indexed,
+    let (_, half-link-indexes) = at-start .pre in (
+      half-link-indexes .by-port .indexed,
       half-link-room (wordsOf (at-start .args .table .now)) (at-start .args .s)
           (ap numbered (sym (at-if1 .if1 .left)) ∙ at-half-link-fault .half-link-fault .ensures),
     )
@@ -58,8 +59,8 @@ enter-requires-2 c κs =
     let at-if1 = c .before .before .before .before .before .before .before in
     let at-half-link-fault = at-if1 .before .before in
     let at-start = at-half-link-fault .before .before .before .before .before .before in
-    let (_, indexes) = at-start .pre in (
-      indexes .by-number .indexed,
+    let (_, half-link-indexes) = at-start .pre in (
+      half-link-indexes .by-number .indexed,
       half-link-room (wordsOf (at-start .args .table .now)) (at-start .args .s)
           (ap numbered (sym (at-if1 .if1 .left)) ∙ at-half-link-fault .half-link-fault .ensures),
     )
@@ -74,16 +75,14 @@ returns-2 c =
     let at-words-read = at-if1 .before in
     let at-half-link-fault = at-words-read .before in
     let at-start = at-half-link-fault .before .before .before .before .before .before in
-    let (_, indexes) = at-start .pre in (
+    let (_, half-link-indexes) = at-start .pre in (
       half-link-taken (wordsOf (at-start .args .table .now)) (at-start .args .s) _
           (ap numbered (sym (at-if1 .if1 .left)) ∙ at-half-link-fault .half-link-fault .ensures) refl,
-      taken-keeps
-          (half-link-kept (wordsOf (at-start .args .table .now)) (at-start .args .s) indexes
+      half-links-kept (wordsOf (at-start .args .table .now)) (at-start .args .s) half-link-indexes
           (halfLinkValues (at-half-link-at .half-link-at .result)) (at-words-read .words-read .result) (at-port-key .port-key .result)
           (at-words-read .words-read .ensures) (at-half-link-at .half-link-at .ensures)
           (ap numbered (sym (at-if1 .if1 .left)) ∙ at-half-link-fault .half-link-fault .ensures) (at-port-key .port-key .ensures)
-          (at-enter .enter .ensures) (at-enter2 .enter2 .ensures))
-          refl,
+          (at-enter .enter .ensures) (at-enter2 .enter2 .ensures) refl,
     )
 
 pub after-half-link-spec : {M : Type 1} → statement M

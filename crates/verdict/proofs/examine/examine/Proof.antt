@@ -1,20 +1,18 @@
--- `verdict::examine::examine` reads one record after the other, as many as there are words at most. Assumes nothing.
-use native.Mathlib.Omega.{arith}
-use mathlib.Core.Path.{sym}
-use lib.ListN.{length}
+-- `verdict::examine::examine` reads the records kind by kind, then the end record. Assumes nothing.
+use Prim.Native.Nat.{_-_}
 use Rattle.rule.specs.Words.{wordsOf}
-use Rattle.key_index.specs.laws.IndexLaws.{no-keys-yet}
-use Rattle.readers.specs.laws.WordLaws.{count-of-words}
-use Rattle.verdict.specs.laws.ExaminationLaws.{Examining, examining-starts, examining-next, examining-accepts, examining-refuses, examining-ends, refused-passes, accepted-passes, bad-length, good-length, length-fits}
+use Rattle.runs.specs.laws.RunLaws.{whole-at}
+use Rattle.verdict.specs.laws.LastLaws.{lower-only}
+use Rattle.verdict.specs.laws.ExaminationLaws.{Examining, examining-starts, examining-next, all-read, refused-passes, accepted-passes, bad-length, good-length, length-fits}
 use borrow.Author.Needs.{needs}
 use Rattle.verdict.proofs.examine.examine.Statement.{statement}
 use Rattle.verdict.proofs.examine.examine.Tie as tie
 
 abbrev Inv-loop : tie.InvT-loop
-Inv-loop table links₀ ports₀ words s₀ left₀ links ports s left = Examining (wordsOf table) ports links s left
+Inv-loop table link-index₀ s₀ next₀ link-index s next = Examining (wordsOf table) link-index s next
 
 abbrev μ-loop : tie.MeasureT-loop
-μ-loop table links₀ ports₀ words s₀ left₀ links ports s left = left
+μ-loop table link-index₀ s₀ next₀ link-index s next = 5 - next
 
 returns : tie.Need-returns Inv-loop μ-loop
 returns c =
@@ -26,91 +24,67 @@ returns c =
 loop-holds : tie.Need-loop-holds Inv-loop μ-loop
 loop-holds c =
     let at-start = c .before .before .before .before in
-    examining-starts (wordsOf (at-start .args .table .now)) _ (at-start .args .link-index .now) _
-    (sym (count-of-words (at-start .args .table .now))) no-keys-yet (at-start .pre)
+    examining-starts (wordsOf (at-start .args .table .now)) (at-start .args .link-index .now) (at-start .pre)
 
-read-record-requires : tie.Need-read-record-requires Inv-loop μ-loop
-read-record-requires c κs =
-    let at-loop = c .before .before .before in
+read-kind-requires : tie.Need-read-kind-requires Inv-loop μ-loop
+read-kind-requires c κs =
+    let at-loop = c .before .before in
     let at-if1 = at-loop .before in
     let at-has-bad-length = at-if1 .before in
-    let at-start = at-has-bad-length .before .before .before in (
-      record {
-        within = omega (arith, at-loop .loop .inv .within, count-of-words (at-start .args .table .now));
-        bounded = length-fits _ _ (at-has-bad-length .has-bad-length .ensures) (at-if1 .if1 .left);
-      },
-      at-loop .loop .inv .indexes,
-    )
-
-returns-2 : tie.Need-returns-2 Inv-loop μ-loop
-returns-2 c =
-    let at-read-record = c .before .before .before .before .before in
-    let at-loop-test = at-read-record .before .before .before in
-    let at-loop = at-loop-test .before in
-    let at-if1 = at-loop .before in
-    let at-has-bad-length = at-if1 .before in
-    let at-start = at-has-bad-length .before .before .before in
-    let (stepped, kept) = at-read-record .read-record .ensures in
-    let accepts =
-    good-length (at-start .args .table .now) (at-has-bad-length .has-bad-length .result) _ (at-has-bad-length .has-bad-length .ensures)
-    (at-if1 .if1 .left)
-    (examining-accepts (at-loop .loop .inv) (at-read-record .read-record .result) stepped (at-loop-test .loop-test .taken)
-    (c .enum-told .given .1)) in (
-      accepts,
-      accepted-passes accepts (at-loop .loop .inv .within)
-          (length-fits _ _ (at-has-bad-length .has-bad-length .ensures) (at-if1 .if1 .left))
-          (kept .at-end (c .enum-told .given .1) .by-number),
-    )
-
-returns-3 : tie.Need-returns-3 Inv-loop μ-loop
-returns-3 c =
-    let at-read-record = c .before .before .before .before .before .before in
-    let at-loop-test = at-read-record .before .before .before in
-    let at-loop = at-loop-test .before in
-    let at-if1 = at-loop .before in
-    let at-has-bad-length = at-if1 .before in
-    let at-start = at-has-bad-length .before .before .before in
-    let (stepped, _) = at-read-record .read-record .ensures in (
-      good-length (at-start .args .table .now) (at-has-bad-length .has-bad-length .result) _ (at-has-bad-length .has-bad-length .ensures)
-          (at-if1 .if1 .left)
-          (examining-refuses (at-loop .loop .inv) (at-read-record .read-record .result) stepped (at-loop-test .loop-test .taken) _ _ _
-          (c .before .read2 .given .1)),
-      refused-passes,
+    let inv = at-loop .loop .inv in (
+      whole-at (inv .before .reached) (length-fits _ _ (at-has-bad-length .has-bad-length .ensures) (at-if1 .if1 .left)),
+      inv .first,
+      c .before .loop-test .taken,
+      inv .before,
     )
 
 loop-again : tie.Need-loop-again Inv-loop μ-loop
 loop-again c =
-    let at-read-record = c .before .before .before .before .before .before in
-    let at-loop-test = at-read-record .before .before .before in
+    let at-read-kind = c .before .before .before .before .before in
+    let at-loop-test = at-read-kind .before .before in
     let at-loop = at-loop-test .before in
-    let (stepped, kept) = at-read-record .read-record .ensures in
-    examining-next (at-loop .loop .inv) (at-read-record .read-record .result) stepped (at-loop-test .loop-test .taken) _ _
-    (c .before .read .given .0 .0) (c .before .read .given .1) kept
+    examining-next (at-loop .loop .inv) (at-loop-test .loop-test .taken) (at-read-kind .read-kind .ensures) (c .before .read .given .0 .0)
+    (c .before .read .given .1)
 
-cast-t21 : tie.Need-cast-t21 Inv-loop μ-loop
-cast-t21 c =
-    let at-if1 = c .before .before in
-    let at-has-bad-length = at-if1 .before in
-    let at-start = at-has-bad-length .before .before .before in
-    omega (
-      arith,
-      length-fits (length (at-start .args .table .now)) (at-has-bad-length .has-bad-length .result)
-          (at-has-bad-length .has-bad-length .ensures) (at-if1 .if1 .left),
-    )
-
-returns-4 : tie.Need-returns-4 Inv-loop μ-loop
-returns-4 c =
-    let at-if1 = c .before .before in
+returns-2 : tie.Need-returns-2 Inv-loop μ-loop
+returns-2 c =
+    let at-read-kind = c .before .before .before .before .before in
+    let at-if1 = at-read-kind .before .before .before .before in
     let at-has-bad-length = at-if1 .before in
     let at-start = at-has-bad-length .before .before .before in (
       good-length (at-start .args .table .now) (at-has-bad-length .has-bad-length .result) _ (at-has-bad-length .has-bad-length .ensures)
-          (at-if1 .if1 .left) (examining-ends (c .before .loop .inv) (omega arith) _ (sym (count-of-words (at-start .args .table .now)))),
+          (at-if1 .if1 .left) (at-read-kind .read-kind .ensures .refuses _ _ _ (c .before .read2 .given .1)),
       refused-passes,
+    )
+
+read-last-requires : tie.Need-read-last-requires Inv-loop μ-loop
+read-last-requires c κs =
+    let at-loop = c .before in
+    let at-if1 = at-loop .before in
+    let at-has-bad-length = at-if1 .before in
+    let inv = at-loop .loop .inv in (
+      whole-at (inv .before .reached) (length-fits _ _ (at-has-bad-length .has-bad-length .ensures) (at-if1 .if1 .left)),
+      inv .before .reached,
+      lower-only (all-read inv (c .loop-test .left)),
+    )
+
+returns-3 : tie.Need-returns-3 Inv-loop μ-loop
+returns-3 c =
+    let at-loop = c .before .before in
+    let at-if1 = at-loop .before in
+    let at-has-bad-length = at-if1 .before in
+    let at-start = at-has-bad-length .before .before .before in
+    let (read-last-is, accepted-as) = c .read-last .ensures in
+    let accepts =
+    good-length (at-start .args .table .now) (at-has-bad-length .has-bad-length .result) _ (at-has-bad-length .has-bad-length .ensures)
+    (at-if1 .if1 .left) read-last-is in (
+      accepts,
+      accepted-passes accepts accepted-as (at-loop .loop .inv .before .reached .within)
+          (length-fits _ _ (at-has-bad-length .has-bad-length .ensures) (at-if1 .if1 .left)) (at-loop .loop .inv .before .numbers),
     )
 
 pub examine-spec : {M : Type 1} → statement M
 examine-spec =
     tie.close
-    (tie.spec Inv-loop μ-loop (λ c κs. search needs) returns loop-holds (λ c. search needs) read-record-requires (λ c. search needs)
-    (λ c. search needs) (λ c. search needs) returns-2 (λ c. search needs) (λ c. search needs) returns-3 (λ c. search needs)
-    (λ c. search needs) loop-again cast-t21 (λ c. search needs) returns-4)
+    (tie.spec Inv-loop μ-loop (λ c κs. search needs) returns loop-holds read-kind-requires (λ c. search needs) (λ c. search needs)
+    (λ c. search needs) returns-2 (λ c. search needs) (λ c. search needs) loop-again read-last-requires (λ c. search needs) returns-3)

@@ -1,0 +1,34 @@
+-- Records read so far, by an index of a key of theirs. Assumes nothing.
+use Prim.Native.Nat.{ℕ, _+_, _*_, _%_, _<_}
+use mathlib.Core.Path.{_≡_}
+use mathlib.Core.List.{List}
+use Rattle.rule.specs.Records.{Bridge, bridgeOf, Member, memberOf}
+use Rattle.key_index.specs.Index.{keyAt, Indexed}
+use Rattle.table.specs.Positions.{recordAt}
+
+module _ {A : Type 0} where
+  -- The list `s` is an index of the key of the first `n` records of a kind with `width` words a record, the first of them at the word
+  -- `from`.
+  pub record KeyedBy (decoded : List ℕ → A) (width : ℕ) (key : A → ℕ) (s ws : List ℕ) (from n : ℕ) : Type 0 where
+    pub indexed : Indexed s n
+    pub keys : (i : ℕ) → i < n → keyAt s i ≡ key (recordAt decoded width from ws i)
+
+abbrev pub sourceKey : Bridge → ℕ
+sourceKey b = b .spSourceId
+
+-- The lower 32 bits of the address: a key has no more. Bridges with one address have one key; with one key they may differ.
+abbrev pub addressKey : Bridge → ℕ
+addressKey b = b .identifier % 4294967296
+
+-- I-SID and bridge: as the address, less than is compared.
+abbrev pub memberKey : Member → ℕ
+memberKey m = m .isid * 64 + m .bridge
+
+-- The first `n` bridges are in the two indexes.
+pub record BridgeIndexes (sources addresses ws : List ℕ) (n : ℕ) : Type 0 where
+  pub by-source : KeyedBy bridgeOf 3 sourceKey sources ws 0 n
+  pub by-address : KeyedBy bridgeOf 3 addressKey addresses ws 0 n
+
+-- The first `n` members from the word `from` on are in the index.
+abbrev pub MemberIndex : List ℕ → List ℕ → ℕ → ℕ → Type 0
+MemberIndex members ws from n = KeyedBy memberOf 2 memberKey members ws from n

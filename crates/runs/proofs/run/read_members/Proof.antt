@@ -1,0 +1,87 @@
+-- `runs::run::read_members` reads one member after the other. Assumes nothing.
+use native.Mathlib.Omega.{arith}
+use Prim.Native.Nat.{_-_}
+use mathlib.Core.Path.{refl, sym, _∙_}
+use lib.ListN.{length}
+use Rattle.rule.specs.Words.{wordsOf}
+use Rattle.rule.specs.Records.{memberLayout, memberOf}
+use Rattle.table.specs.Positions.{wordsRead, membersFrom}
+use Rattle.key_index.specs.laws.IndexLaws.{no-keys-yet}
+use Rattle.earlier.specs.Keys.{memberKey, MemberIndex}
+use Rattle.earlier.specs.laws.KeyLaws.{keyed-none}
+use Rattle.runs.specs.laws.KindLaws.{member-kind}
+use Rattle.runs.specs.laws.RunLaws.{Running, running-starts, run-goes-on, run-ends, run-refuses, whole-at, fewer-words}
+use borrow.Author.Needs.{needs}
+use Rattle.runs.proofs.run.read_members.Statement.{statement}
+use Rattle.runs.proofs.run.read_members.Tie as tie
+
+abbrev Inv-loop : tie.InvT-loop
+Inv-loop table member-index₀ t₀ member-index t = Running (wordsOf table) 4 t₀ t × MemberIndex member-index (wordsOf table) (membersFrom t) (t .members)
+
+abbrev μ-loop : tie.MeasureT-loop
+μ-loop table member-index₀ t₀ member-index t = length (wordsOf table) - wordsRead t
+
+loop-holds : tie.Need-loop-holds Inv-loop μ-loop
+loop-holds c =
+    let at-start = c .before in
+    let (_, reached, members-is) = at-start .pre in
+    (running-starts reached, keyed-none memberOf 2 memberKey _ _ _ _ (rw members-is no-keys-yet) members-is)
+
+is-next-requires : tie.Need-is-next-requires Inv-loop μ-loop
+is-next-requires c κs =
+    let at-start = c .before .before in
+    let (running, _) = c .loop .inv in
+    let (whole, _, _) = at-start .pre in
+    whole-at (running .reached) (whole .bounded)
+
+after-member-requires : tie.Need-after-member-requires Inv-loop μ-loop
+after-member-requires c κs =
+    let at-loop = c .before .before .before in
+    let at-start = at-loop .before .before in
+    let (running, member-index) = at-loop .loop .inv in
+    let (whole, _, _) = at-start .pre in
+    (whole-at (running .reached) (whole .bounded), member-index)
+
+loop-less : tie.Need-loop-less Inv-loop μ-loop
+loop-less c =
+    let at-after-member = c .before .before .before .before in
+    let (stepped, _) = at-after-member .after-member .ensures in
+    fewer-words stepped _ (c .before .step .given .0 .0) (c .before .step .given .1) (omega arith)
+
+loop-again : tie.Need-loop-again Inv-loop μ-loop
+loop-again c =
+    let at-step = c .before in
+    let at-after-member = at-step .before .before .before in
+    let at-if1 = at-after-member .before .before in
+    let at-is-next = at-if1 .before in
+    let at-loop = at-is-next .before in
+    let (running, _) = at-loop .loop .inv in
+    let (stepped, members-kept) = at-after-member .after-member .ensures in (
+      run-goes-on running (sym (at-is-next .is-next .ensures) ∙ at-if1 .if1 .taken) memberLayout member-kind stepped
+          (at-step .step .given .0 .0) (at-step .step .given .1) (omega arith)
+          (record { bridges = λ d. refl; half-links = λ d. refl; vids = λ d. refl; members = λ d. absurd (d refl) }),
+      members-kept (at-step .step .given .0 .0) (at-step .step .given .1),
+    )
+
+returns : tie.Need-returns Inv-loop μ-loop
+returns c =
+    let at-after-member = c .before .before .before .before in
+    let at-if1 = at-after-member .before .before in
+    let at-is-next = at-if1 .before in
+    let at-loop = at-is-next .before in
+    let (running, _) = at-loop .loop .inv in
+    let (stepped, _) = at-after-member .after-member .ensures in
+    run-refuses running (sym (at-is-next .is-next .ensures) ∙ at-if1 .if1 .taken) memberLayout member-kind stepped _ _ _
+    (c .before .step2 .given .1)
+
+returns-2 : tie.Need-returns-2 Inv-loop μ-loop
+returns-2 c =
+    let at-loop = c .before .before in
+    let (running, _) = at-loop .loop .inv in
+    run-ends running (sym (c .before .is-next .ensures) ∙ c .if1 .left)
+
+pub read-members-spec : {M : Type 1} → statement M
+read-members-spec =
+    tie.close
+    (tie.spec Inv-loop μ-loop loop-holds is-next-requires (λ c. search needs) after-member-requires (λ c. search needs) loop-less
+    loop-again (λ c. search needs) returns returns-2)

@@ -1,0 +1,3 @@
+-- What reading all records of a kind comes to.
+pub mod Runs
+pub mod laws
