@@ -1,4 +1,5 @@
 -- `verdict::examine::examine` reads the records kind by kind, then the end record. Assumes nothing.
+use native.Mathlib.Omega.{arith}
 use Prim.Native.Nat.{_-_}
 use Rattle.rule.specs.Words.{wordsOf}
 use Rattle.runs.specs.laws.RunLaws.{whole-at}
@@ -34,7 +35,7 @@ read-kind-requires c κs =
     let inv = at-loop .loop .inv in (
       whole-at (inv .before .reached) (length-fits _ _ (at-has-bad-length .has-bad-length .ensures) (at-if1 .if1 .left)),
       inv .first,
-      c .before .loop-test .taken,
+      omega (arith, c .before .loop-test .taken),
       inv .before,
     )
 
@@ -43,7 +44,7 @@ loop-again c =
     let at-read-kind = c .before .before .before .before .before in
     let at-loop-test = at-read-kind .before .before in
     let at-loop = at-loop-test .before in
-    examining-next (at-loop .loop .inv) (at-loop-test .loop-test .taken) (at-read-kind .read-kind .ensures) (c .before .read .given .0 .0)
+    examining-next (at-loop .loop .inv) (omega (arith, at-loop-test .loop-test .taken)) (at-read-kind .read-kind .ensures) (c .before .read .given .0 .0)
     (c .before .read .given .1)
 
 returns-2 : tie.Need-returns-2 Inv-loop μ-loop
@@ -65,7 +66,7 @@ read-last-requires c κs =
     let inv = at-loop .loop .inv in (
       whole-at (inv .before .reached) (length-fits _ _ (at-has-bad-length .has-bad-length .ensures) (at-if1 .if1 .left)),
       inv .before .reached,
-      lower-only (all-read inv (c .loop-test .left)),
+      lower-only (all-read inv (omega (arith, c .loop-test .left))),
     )
 
 returns-3 : tie.Need-returns-3 Inv-loop μ-loop
