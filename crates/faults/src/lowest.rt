@@ -29,7 +29,7 @@ use table::shape::Shape;
 ghost use mathlib.Core.Path.{_≡_};
 ghost use Rattle.rule.specs.Words.{wordsOf};
 ghost use Rattle.rule.specs.Records.{bridgeLayout, halfLinkLayout, vidLayout, memberLayout, endLayout};
-ghost use Rattle.table.specs.Positions.{halfLinksFrom, membersFrom};
+ghost use Rattle.table.specs.Positions.{halfLinksFrom, membersFrom, wordsRead};
 ghost use Rattle.table.specs.Whole.{Whole};
 ghost use Rattle.earlier.specs.HalfLinks.{portKey, numberKey, Keyed};
 ghost use Rattle.earlier.specs.Keys.{BridgeIndexes, MemberIndex};
@@ -81,14 +81,21 @@ pub fn bridge_fault(table: &[u8], s: Shape, source_index: &[u32], address_index:
     }
 }
 
-// Of the half-link record after those of `s`, whose half-links are in the two indexes.
-pub fn half_link_fault(table: &[u8], s: Shape, port_index: &[u32], link_index: &[u32]) -> u32
-    requires { ⌜ Whole (now table) s ⌝ }
+// Of the half-link record after those of `s`, whose half-links are in the two indexes. It begins at the word `word`: given by the
+// caller, who reads the record from there again, so that its bytes are fetched once.
+pub fn half_link_fault(
+    table: &[u8],
+    s: Shape,
+    word: usize,
+    port_index: &[u32],
+    link_index: &[u32],
+) -> u32
+    requires { ⌜ Whole (now table) s × (word ≡ wordsRead s) ⌝ }
     requires { ⌜ Keyed portKey (now «port_index») (wordsOf (now table)) (halfLinksFrom s) (s .«half_links») ⌝ }
     requires { ⌜ Keyed numberKey (now «link_index») (wordsOf (now table)) (halfLinksFrom s) (s .«half_links») ⌝ }
     ensures { λ r. ⌜ numbered r ≡ faultAt (wordsOf (now (table .entry))) s halfLinkLayout ⌝ }
 {
-    let at = 4 * s.words_read();
+    let at = 4 * word;
     let last = s.last_kind();
     let read = read_half_link(&table[at..]);
     match read {

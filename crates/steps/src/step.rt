@@ -93,8 +93,8 @@ pub fn after_half_link(
     ensures { λ r. ⌜ Stepped (wordsOf (now (table .entry))) (withHalfLink s) (stepAs (wordsOf (now (table .entry))) s halfLinkLayout) r ⌝ }
     ensures { λ r. ⌜ HalfLinksKept (wordsOf (now (table .entry))) (now («port_index» .exit)) (now («link_index» .exit)) r ⌝ }
 {
-    let fault = half_link_fault(table, s, &port_index[..], &link_index[..]);
     let at = s.words_read();
+    let fault = half_link_fault(table, s, at, &port_index[..], &link_index[..]);
     if fault != 0 {
         return refusal(fault, RecordKind::HalfLink, at);
     }

@@ -18,7 +18,7 @@ use Rattle.faults.proofs.lowest.half_link_fault.Tie as tie
 
 -- The start of the function, seen from where the record is read.
 abbrev start : tie.After-read-half-link → tie.Start
-start c = c .before .before .before .before .before .before .before
+start c = c .before .before .before .before .before .before
 
 -- The record as it is read.
 as-read :
@@ -27,9 +27,9 @@ as-read :
     (c .before .before .last-kind .result) (start c .args .s .«half_links»)
 as-read c =
     let at-last-kind = c .before .before in
-    let at-words-read = at-last-kind .before in
-    read-at halfLinkLayout (start c .args .table .now) (start c .args .s) _ (omega (arith, at-words-read .words-read .ensures))
-    (c .read-half-link .ensures) (at-last-kind .last-kind .ensures)
+    let ((_, word-is), _) = start c .pre in
+    read-at halfLinkLayout (start c .args .table .now) (start c .args .s) _ (omega (arith, word-is)) (c .read-half-link .ensures)
+    (at-last-kind .last-kind .ensures)
     (sym (how-many halfLinkOf 3 (halfLinksFrom (start c .args .s)) (wordsOf (start c .args .table .now)) (start c .args .s .«half_links»)))
 
 -- Its bridge numbers and its port have 16 bits.
@@ -139,7 +139,7 @@ returns-8 c = by-link (c .before) false (c .if4 .left)
 pub half-link-fault-spec : {M : Type 1} → statement M
 half-link-fault-spec =
     tie.close
-    (tie.spec (λ c κs. search needs) (λ c. search needs) (λ c κs. search needs) (λ c. search needs) (λ c. search needs) (λ c. search needs)
-    (λ c κs. search needs) (λ c. search needs) (λ c κs. search needs) (λ c. search needs) (λ c κs. search needs) (λ c. search needs)
-    (λ c κs. search needs) (λ c. search needs) (λ c κs. search needs) returns (λ c κs. search needs) returns-2 is-port-repeated-requires
-    returns-3 (λ c κs. search needs) is-wrong-link-requires returns-4 returns-5 returns-6 returns-7 returns-8)
+    (tie.spec (λ c. search needs) (λ c κs. search needs) (λ c. search needs) (λ c. search needs) (λ c. search needs) (λ c κs. search needs)
+    (λ c. search needs) (λ c κs. search needs) (λ c. search needs) (λ c κs. search needs) (λ c. search needs) (λ c κs. search needs)
+    (λ c. search needs) (λ c κs. search needs) returns (λ c κs. search needs) returns-2 is-port-repeated-requires returns-3
+    (λ c κs. search needs) is-wrong-link-requires returns-4 returns-5 returns-6 returns-7 returns-8)

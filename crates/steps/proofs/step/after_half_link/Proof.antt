@@ -16,9 +16,9 @@ use Rattle.steps.proofs.step.after_half_link.Tie as tie
 
 returns : tie.Need-returns
 returns c =
-    let at-words-read = c .before .before in
-    let at-half-link-fault = at-words-read .before in
-    let at-start = at-half-link-fault .before .before .before .before .before .before in (
+    let at-half-link-fault = c .before .before in
+    let at-words-read = at-half-link-fault .before .before .before in
+    let at-start = at-words-read .before .before .before .before in (
       refused-step (wordsOf (at-start .args .table .now)) (at-start .args .s) halfLinkLayout (withHalfLink (at-start .args .s))
           (at-half-link-fault .half-link-fault .result) RecordKind.HalfLink _ (at-half-link-fault .half-link-fault .ensures)
           (c .before .if1 .taken) refl (at-words-read .words-read .result) (at-words-read .words-read .ensures) (c .refusal .ensures),
@@ -27,27 +27,27 @@ returns c =
 
 half-link-at-requires : tie.Need-half-link-at-requires
 half-link-at-requires c κs =
-    let at-half-link-fault = c .before .before in
-    let at-start = at-half-link-fault .before .before .before .before .before .before in
+    let at-words-read = c .before .before .before .before in
+    let at-start = at-words-read .before .before .before .before in
     omega (
       arith,
-      c .before .words-read .ensures,
+      at-words-read .words-read .ensures,
       record-there (at-start .args .table .now) (at-start .args .s) halfLinkLayout (omega arith)
-          (ap numbered (sym (c .if1 .left)) ∙ at-half-link-fault .half-link-fault .ensures),
+          (ap numbered (sym (c .if1 .left)) ∙ c .before .half-link-fault .ensures),
     )
 
 port-key-requires : tie.Need-port-key-requires
 port-key-requires c κs =
-    let at-words-read = c .before .before .before in
-    let at-start = at-words-read .before .before .before .before .before .before .before in
+    let at-words-read = c .before .before .before .before .before .before in
+    let at-start = at-words-read .before .before .before .before in
     of-16-bits (halfLinkValues (c .before .half-link-at .result))
     (drop (at-words-read .words-read .result) (wordsOf (at-start .args .table .now))) (c .before .half-link-at .ensures)
 
 enter-requires : tie.Need-enter-requires
 enter-requires c κs =
     let at-if1 = c .before .before .before in
-    let at-half-link-fault = at-if1 .before .before in
-    let at-start = at-half-link-fault .before .before .before .before .before .before in
+    let at-half-link-fault = at-if1 .before in
+    let at-start = at-half-link-fault .before .before .before .before .before .before .before in
     let (_, half-link-indexes) = at-start .pre in (
       half-link-indexes .by-port .indexed,
       half-link-room (wordsOf (at-start .args .table .now)) (at-start .args .s)
@@ -57,8 +57,8 @@ enter-requires c κs =
 enter-requires-2 : tie.Need-enter-requires-2
 enter-requires-2 c κs =
     let at-if1 = c .before .before .before .before .before .before .before in
-    let at-half-link-fault = at-if1 .before .before in
-    let at-start = at-half-link-fault .before .before .before .before .before .before in
+    let at-half-link-fault = at-if1 .before in
+    let at-start = at-half-link-fault .before .before .before .before .before .before .before in
     let (_, half-link-indexes) = at-start .pre in (
       half-link-indexes .by-number .indexed,
       half-link-room (wordsOf (at-start .args .table .now)) (at-start .args .s)
@@ -72,9 +72,9 @@ returns-2 c =
     let at-port-key = at-enter .before in
     let at-half-link-at = at-port-key .before .before in
     let at-if1 = at-half-link-at .before in
-    let at-words-read = at-if1 .before in
-    let at-half-link-fault = at-words-read .before in
-    let at-start = at-half-link-fault .before .before .before .before .before .before in
+    let at-half-link-fault = at-if1 .before in
+    let at-words-read = at-half-link-fault .before .before .before in
+    let at-start = at-words-read .before .before .before .before in
     let (_, half-link-indexes) = at-start .pre in (
       half-link-taken (wordsOf (at-start .args .table .now)) (at-start .args .s) _
           (ap numbered (sym (at-if1 .if1 .left)) ∙ at-half-link-fault .half-link-fault .ensures) refl,
