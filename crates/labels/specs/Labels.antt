@@ -1,10 +1,8 @@
 -- The labels of a search, in one list of five parts with 64 places each, one place for each bridge (01, "The table": up to 64): the
 -- cost at which the bridge waits to be settled, its cost, its hops, its next hop towards the root, its first hop from the root.
 -- Assumes nothing.
-use Prim.Native.Nat.{ℕ, _+_, _≤_, _<_}
-use mathlib.Core.Path.{_≡_}
+use Prim.Native.Nat.{ℕ, _+_}
 use mathlib.Core.List.{List, _∷_}
-use mathlib.Core.Logic.{_⊎_}
 use mathlib.Core.Bool.{cond, _&&_}
 use lib.Dec.{eqb, ltb, leb}
 use lib.ListN.{getD, set}
@@ -33,17 +31,6 @@ labelAt labels u = record {
   next = getD labels (192 + u) 0;
   first = getD labels (256 + u) 0;
 }
-
--- No one of the first `n` bridges waits at a lower cost than `least`, and one waits at it where it is a cost.
-pub record LeastOf (labels : List ℕ) (n least : ℕ) : Type 0 where
-  pub most : least ≤ noCost
-  pub none-less : (u : ℕ) → u < n → least ≤ labelAt labels u .waits
-  pub one-has : (least ≡ noCost) ⊎ ((u : ℕ) × (u < n) × (labelAt labels u .waits ≡ least))
-
--- The bridge `u` waits at this cost.
-pub record WaitsAt (labels : List ℕ) (n least u : ℕ) : Type 0 where
-  pub inside : u < n
-  pub has : labelAt labels u .waits ≡ least
 
 -- What a label is compared by, and what the way through the bridge `via` is compared by, with its cost and hops.
 abbrev pub labelRank : List ℕ → Label → List ℕ

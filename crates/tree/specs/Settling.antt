@@ -21,11 +21,11 @@ pub record Cleared (n : ℕ) (labels labels′ : List ℕ) : Type 0 where
   pub none-waits : (u : ℕ) → u < n → labelAt labels′ u .waits ≡ noCost
   pub none-labelled : (u : ℕ) → u < n → labelAt labels′ u .cost ≡ noCost
 
--- The root alone is settled, and no other of the first `n` bridges has a label.
-pub record Begun (n root key : ℕ) (labels path-ids labels′ path-ids′ : List ℕ) : Type 0 where
+-- The root alone is settled, and no other bridge has a label.
+pub record Begun (root key : ℕ) (labels path-ids labels′ path-ids′ : List ℕ) : Type 0 where
   pub same-labels : length labels′ ≡ length labels
   pub same-path-ids : length path-ids′ ≡ length path-ids
   pub root-label : labelAt labels′ root ≡ record { waits = noCost; cost = 0; hops = 0; next = root; first = root }
   pub root-row : rowOf path-ids′ root 1 ≡ key ∷ []
-  pub others-wait : (u : ℕ) → u < n → (u ≡ root → ⊥) → labelAt labels′ u .waits ≡ noCost
-  pub others-unlabelled : (u : ℕ) → u < n → (u ≡ root → ⊥) → labelAt labels′ u .cost ≡ noCost
+  pub none-waits : (u : ℕ) → u < 64 → labelAt labels′ u .waits ≡ noCost
+  pub others-unlabelled : (u : ℕ) → u < 64 → (u ≡ root → ⊥) → labelAt labels′ u .cost ≡ noCost

@@ -13,6 +13,7 @@ use Rattle.graph.specs.Graph.{Graph}
 use Rattle.graph.specs.Chosen.{Chosen}
 use Rattle.graph.specs.Lookups.{Kept}
 use Rattle.labels.specs.Labels.{noCost, labelAt, stateOf}
+use Rattle.labels.specs.Nearest.{Nearest}
 use Rattle.tree.specs.Trees.{Represents, Keyed, Represented, firstBack}
 
 -- For one graph and key that the lists stand for.
@@ -24,14 +25,28 @@ pub record Tracked (g : Graph) (key : ℕ → ℕ) (n root : ℕ) (labels path-i
   pub root-next : labelAt labels root .next ≡ root
   pub first-is : (v : ℕ) → v < n → T (stateOf n labels path-ids .settled v) → (p : List ℕ) → Chosen g key v root p → labelAt labels v .first ≡ firstBack p
 
--- A search under way: the lists stand for some graph and key, and what is kept is kept for every such graph and key.
+-- A search under way: the lists stand for some graph and key, and what is kept is kept for every such graph and key. Of the places
+-- for bridges beyond the first `n` none waits.
 pub record Underway (n : ℕ) (starts neighbours costs keys : List ℕ) (root : ℕ) (labels path-ids : List ℕ) : Type 0 where
   pub root-in : root < n
   pub has-labels : 320 ≤ length labels
   pub has-path-ids : 4096 ≤ length path-ids
   pub represented : Represented n starts neighbours costs keys
+  pub none-beyond : (u : ℕ) → n ≤ u → u < 64 → labelAt labels u .waits ≡ noCost
   pub tracked : (g : Graph) (key : ℕ → ℕ) → Represents g n starts neighbours costs → Keyed g key keys → Tracked g key n root labels path-ids
 
 -- How many of the first `n` bridges are not settled.
 abbrev pub openBridges : ℕ → List ℕ → ℕ
 openBridges n labels = sumOver (λ u. cond (stateOf n labels labels .settled u) 0 1) (rising 0 n)
+
+-- A search is under way, of some number of bridges, and the bridge `u` is to be settled next: it waits at the least cost.
+pub record Advanceable (starts neighbours costs keys : List ℕ) (root : ℕ) (labels path-ids : List ℕ) (u : ℕ) : Type 0 where
+  pub bridges : ℕ
+  pub underway : Underway bridges starts neighbours costs keys root labels path-ids
+  pub nearest : Nearest labels u
+  pub waits : labelAt labels u .waits < noCost
+
+-- A step of a search was done: of however many bridges the search was under way, it still is, and fewer of them are not settled.
+pub record Advanced (starts neighbours costs keys : List ℕ) (root : ℕ) (labels path-ids labels′ path-ids′ : List ℕ) : Type 0 where
+  pub goes-on : (n : ℕ) → Underway n starts neighbours costs keys root labels path-ids → Underway n starts neighbours costs keys root labels′ path-ids′
+  pub fewer-open : (n : ℕ) → Underway n starts neighbours costs keys root labels path-ids → openBridges n labels′ < openBridges n labels

@@ -2,21 +2,22 @@
 // and its neighbours are relaxed, until none waits.
 use crate::settle::begin;
 use crate::settle::settle;
-use labels::nearest::first_waiting;
-use labels::nearest::least_waiting;
+use labels::label::waits_at;
+use labels::nearest::GROUPS;
+use labels::nearest::next_waiting;
 use labels::relax::relax_all;
 use measures::measure::Cost;
 use rule::kinds::MOST_BRIDGES;
 ghost use Prim.Native.Nat.{_≤_, _<_};
 ghost use lib.ListN.{length};
-ghost use Rattle.labels.specs.Labels.{noCost, LeastOf};
+ghost use Rattle.labels.specs.Nearest.{BoundsOf};
 ghost use Rattle.tree.specs.Trees.{Represented, IsTree};
-ghost use Rattle.tree.specs.Tracked.{Underway, openBridges};
+ghost use Rattle.tree.specs.Tracked.{Advanceable, Advanced};
 
 // The words of the list that the search keeps masked PATHIDs in: one for each bridge, with a place for each bridge.
 pub const PATH_IDS: usize = MOST_BRIDGES * MOST_BRIDGES;
 
-// Settles the first bridge that waits at the least cost, and offers its neighbours the way through it.
+// Settles the bridge `u`, which waits at the least cost, and offers its neighbours the way through it.
 fn advance(
     starts: &[u32],
     neighbours: &[u32],
@@ -24,16 +25,15 @@ fn advance(
     keys: &[u64],
     labels: &mut [u32],
     path_ids: &mut [u64],
-    n: usize,
+    bounds: &mut [u32],
     root: usize,
-    least: Cost,
+    u: usize,
 )
-    requires { ⌜ Underway n (now starts) (now neighbours) (now costs) (now keys) root (now labels) (now «path_ids») × LeastOf (now labels) n (least .0) × (least .0 < noCost) ⌝ }
-    ensures { λ _. ⌜ Underway n (now (starts .entry)) (now (neighbours .entry)) (now (costs .entry)) (now (keys .entry)) root (now (labels .exit)) (now («path_ids» .exit)) × (openBridges n (now (labels .exit)) < openBridges n (now (labels .entry))) ⌝ }
+    requires { ⌜ Advanceable (now starts) (now neighbours) (now costs) (now keys) root (now labels) (now «path_ids») u × BoundsOf (now labels) (now bounds) ⌝ }
+    ensures { λ _. ⌜ Advanced (now (starts .entry)) (now (neighbours .entry)) (now (costs .entry)) (now (keys .entry)) root (now (labels .entry)) (now («path_ids» .entry)) (now (labels .exit)) (now («path_ids» .exit)) × BoundsOf (now (labels .exit)) (now (bounds .exit)) ⌝ }
 {
-    let u = first_waiting(&labels[..], n, least);
     settle(labels, path_ids, keys, root, u);
-    relax_all(starts, neighbours, costs, &path_ids[..], labels, u);
+    relax_all(starts, neighbours, costs, &path_ids[..], labels, bounds, u);
 }
 
 // For each of the `n` bridges the cost, the hops, the next hop towards the root and the first hop from the root of its chosen path to
@@ -51,10 +51,20 @@ pub fn tree(
     requires { ⌜ Represented n (now starts) (now neighbours) (now costs) (now keys) × (root < n) × (320 ≤ length (now labels)) × (4096 ≤ length (now «path_ids»)) ⌝ }
     ensures { λ _. ⌜ IsTree n (now (starts .entry)) (now (neighbours .entry)) (now (costs .entry)) (now (keys .entry)) root (now (labels .exit)) ⌝ }
 {
-    begin(labels, path_ids, keys, n, root);
-    relax_all(starts, neighbours, costs, &path_ids[..], labels, root);
-    let mut least = least_waiting(&labels[..], n);
-    while least.is_below(Cost::NO_PATH) {
+    // No bridge waits yet, so no bound is too high.
+    let mut bounds = [Cost::NO_PATH.0; GROUPS];
+    begin(labels, path_ids, keys, root);
+    relax_all(
+        starts,
+        neighbours,
+        costs,
+        &path_ids[..],
+        labels,
+        &mut bounds,
+        root,
+    );
+    let mut u = next_waiting(&labels[..], &mut bounds);
+    while waits_at(&labels[..], u).is_below(Cost::NO_PATH) {
         advance(
             starts,
             neighbours,
@@ -62,10 +72,10 @@ pub fn tree(
             keys,
             labels,
             path_ids,
-            n,
+            &mut bounds,
             root,
-            least,
+            u,
         );
-        least = least_waiting(&labels[..], n);
+        u = next_waiting(&labels[..], &mut bounds);
     }
 }

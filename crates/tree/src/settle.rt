@@ -7,6 +7,7 @@ use labels::label::NEXT_HOPS;
 use labels::label::hops_at;
 use labels::label::next_at;
 use measures::measure::Cost;
+use rule::kinds::MOST_BRIDGES;
 ghost use mathlib.Core.Path.{_≡_};
 ghost use mathlib.Core.Bool.{cond};
 ghost use lib.Dec.{eqb};
@@ -34,12 +35,12 @@ pub fn settle(labels: &mut [u32], path_ids: &mut [u64], keys: &[u64], root: usiz
 }
 
 // No bridge has a label.
-fn clear(labels: &mut [u32], n: usize)
-    requires { ⌜ (n ≤ 64) × (320 ≤ length (now labels)) ⌝ }
-    ensures { λ _. ⌜ Cleared n (now (labels .entry)) (now (labels .exit)) ⌝ }
+fn clear(labels: &mut [u32])
+    requires { ⌜ 320 ≤ length (now labels) ⌝ }
+    ensures { λ _. ⌜ Cleared 64 (now (labels .entry)) (now (labels .exit)) ⌝ }
 {
     let mut u = 0;
-    while u < n {
+    while u < MOST_BRIDGES {
         labels[u] = Cost::NO_PATH.0;
         labels[COSTS + u] = Cost::NO_PATH.0;
         u += 1;
@@ -47,11 +48,11 @@ fn clear(labels: &mut [u32], n: usize)
 }
 
 // The root alone is settled: "a path from a bridge to itself is that bridge, cost 0, hops 0".
-pub fn begin(labels: &mut [u32], path_ids: &mut [u64], keys: &[u64], n: usize, root: usize)
-    requires { ⌜ (n ≤ 64) × (root < n) × (320 ≤ length (now labels)) × (4096 ≤ length (now «path_ids»)) × (n ≤ length (now keys)) ⌝ }
-    ensures { λ _. ⌜ Begun n root (getD (now (keys .entry)) root 0) (now (labels .entry)) (now («path_ids» .entry)) (now (labels .exit)) (now («path_ids» .exit)) ⌝ }
+pub fn begin(labels: &mut [u32], path_ids: &mut [u64], keys: &[u64], root: usize)
+    requires { ⌜ (root < 64) × (320 ≤ length (now labels)) × (4096 ≤ length (now «path_ids»)) × (root < length (now keys)) ⌝ }
+    ensures { λ _. ⌜ Begun root (getD (now (keys .entry)) root 0) (now (labels .entry)) (now («path_ids» .entry)) (now (labels .exit)) (now («path_ids» .exit)) ⌝ }
 {
-    clear(labels, n);
+    clear(labels);
     labels[COSTS + root] = 0;
     labels[HOPS + root] = 0;
     labels[NEXT_HOPS + root] = root as u32;

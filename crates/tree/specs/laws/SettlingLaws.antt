@@ -20,19 +20,19 @@ use Rattle.labels.specs.laws.LabelLaws.{same-label}
 use Rattle.tree.specs.Settling.{Cleared, Begun}
 
 -- The labels of the first `u` bridges are cleared.
-pub record Clearing (n : ℕ) (labels₀ labels : List ℕ) (u : ℕ) : Type 0 where
-  pub within : u ≤ n
+pub record Clearing (labels₀ labels : List ℕ) (u : ℕ) : Type 0 where
+  pub within : u ≤ 64
   pub so-far : Cleared u labels₀ labels
 
-pub clearing-starts : (n : ℕ) (labels : List ℕ) → Clearing n labels labels 0
-clearing-starts n labels = record {
+pub clearing-starts : (labels : List ℕ) → Clearing labels labels 0
+clearing-starts labels = record {
   within = omega arith;
   so-far = record { same-length = refl; none-waits = λ x h. absurd (omega arith); none-labelled = λ x h. absurd (omega arith) };
 }
 
-module _ {n : ℕ} {labels₀ labels : List ℕ} {u : ℕ} (C : Clearing n labels₀ labels u) where
-  pub clearing-goes-on : n ≤ 64 → 320 ≤ length labels₀ → u < n → Clearing n labels₀ (set (set labels u noCost) (64 + u) noCost) (u + 1)
-  clearing-goes-on most has h = record {
+module _ {labels₀ labels : List ℕ} {u : ℕ} (C : Clearing labels₀ labels u) where
+  pub clearing-goes-on : 320 ≤ length labels₀ → u < 64 → Clearing labels₀ (set (set labels u noCost) (64 + u) noCost) (u + 1)
+  clearing-goes-on has h = record {
     within = omega arith;
     so-far = record {
       same-length = length-set (set labels u noCost) (64 + u) noCost ∙ length-set labels u noCost ∙ C .so-far .same-length;
@@ -53,12 +53,12 @@ module _ {n : ℕ} {labels₀ labels : List ℕ} {u : ℕ} (C : Clearing n label
       cost x l (inr f) = getD-set-other (set labels u noCost) (64 + u) (64 + x) noCost 0 (omega arith)
           ∙ getD-set-other labels u (64 + x) noCost 0 (omega arith) ∙ C .so-far .none-labelled x (omega arith)
 
-  pub clearing-ends : n ≤ u → Cleared n labels₀ labels
-  clearing-ends h = let e : u ≡ n = omega arith in rw e at (C .so-far)
+  pub clearing-ends : 64 ≤ u → Cleared 64 labels₀ labels
+  clearing-ends h = let e : u ≡ 64 = omega arith in rw e at (C .so-far)
 
 -- The root is settled.
-module _ (n root key : ℕ) (labels₀ labels path-ids : List ℕ) (most : n ≤ 64) (inside : root < n) (has : 320 ≤ length labels₀) (has-path-ids : 4096 ≤ length path-ids)
-    (C : Cleared n labels₀ labels) where
+module _ (root key : ℕ) (labels₀ labels path-ids : List ℕ) (inside : root < 64) (has : 320 ≤ length labels₀) (has-path-ids : 4096 ≤ length path-ids)
+    (C : Cleared 64 labels₀ labels) where
   abbrev one : List ℕ
   one = set labels (64 + root) 0
 
@@ -85,7 +85,7 @@ module _ (n root key : ℕ) (labels₀ labels path-ids : List ℕ) (most : n ≤
       ∙ ap (λ (k : ℕ). set (spliced path-ids (rowPlace root) []) k key) (let e : rowPlace root ≡ rowPlace root + 0 = omega arith in e)
       ∙ spliced-next path-ids (rowPlace root) [] key (omega arith)
 
-  pub begun : Begun n root key labels₀ path-ids four (set path-ids (rowPlace root) key)
+  pub begun : Begun root key labels₀ path-ids four (set path-ids (rowPlace root) key)
   begun = record {
     same-labels = simp length-set (C .same-length);
     same-path-ids = length-set path-ids (rowPlace root) key;
@@ -99,7 +99,7 @@ module _ (n root key : ℕ) (labels₀ labels path-ids : List ℕ) (most : n ≤
         ∙ getD-set-same two (192 + root) root 0 (omega (arith, length-set one (128 + root) 0, length-set labels (64 + root) 0, C .same-length)))
         (getD-set-same three (256 + root) root 0 (omega (arith, length-three)));
     root-row = ap (λ (t : List ℕ). rowOf t root 1) written ∙ row-written path-ids root (key ∷ []) (omega arith);
-    others-wait = λ u l f. other-place u (omega arith) (omega arith) (omega arith) (omega arith) ∙ C .none-waits u l;
+    none-waits = λ u l. other-place u (omega arith) (omega arith) (omega arith) (omega arith) ∙ C .none-waits u l;
     others-unlabelled = λ u l f. other-place (64 + u) (omega arith) (omega arith) (omega arith) (omega arith) ∙ C .none-labelled u l;
   }
 

@@ -26,7 +26,7 @@ use Rattle.tree.specs.Tracked.{Tracked}
 
 module _ (g : Graph) (n root : ℕ) (starts neighbours costs : List ℕ) (R : Represents g n starts neighbours costs) (key : ℕ)
     (labels₀ path-ids₀ labels path-ids : List ℕ) (root-in : root < n) (has-labels : 320 ≤ length labels₀) (has-path-ids : 4096 ≤ length path-ids₀)
-    (B : Begun n root key labels₀ path-ids₀ labels path-ids) where
+    (B : Begun root key labels₀ path-ids₀ labels path-ids) where
   abbrev from : ℕ
   from = getD starts root 0
 
@@ -60,7 +60,7 @@ module _ (g : Graph) (n root : ℕ) (starts neighbours costs : List ℕ) (R : Re
     where
       next-in : (x : ℕ) → x < n → labelAt labels x .cost < noCost → (x ≡ root) ⊎ (x ≡ root → ⊥) → labelAt labels x .next < 64
       next-in x l h (inl e) = omega (arith, ap (λ (z : ℕ). labelAt labels z .next) e, ap (λ (b : Label). b .next) (B .root-label), low root root-in)
-      next-in x l h (inr f) = absurd (omega (arith, B .others-unlabelled x l f))
+      next-in x l h (inr f) = absurd (omega (arith, B .others-unlabelled x (low x l) f))
 
   -- After the root's neighbours were offered the way to it.
   module _ (labels₂ : List ℕ) (X : Relaxed starts neighbours costs path-ids root labels labels₂) where
@@ -90,7 +90,7 @@ module _ (g : Graph) (n root : ℕ) (starts neighbours costs : List ℕ) (R : Re
     took x l f k = go (X .each x (low x l))
       where
         go : Same x ⊎ Took x → Took x
-        go (inl U) = absurd (omega (arith, ltb→lt (labelAt labels₂ x .cost) noCost k, ap (λ (b : Label). b .cost) (U .same), B .others-unlabelled x l f))
+        go (inl U) = absurd (omega (arith, ltb→lt (labelAt labels₂ x .cost) noCost k, ap (λ (b : Label). b .cost) (U .same), B .others-unlabelled x (low x l) f))
         go (inr C) = C
 
     took-waits : (x : ℕ) → Took x → labelAt labels₂ x .waits < noCost
@@ -107,7 +107,7 @@ module _ (g : Graph) (n root : ℕ) (starts neighbours costs : List ℕ) (R : Re
     beside x l f j = go (X .each x (low x l)) (joined-listed R root root-in x j)
       where
         go : Same x ⊎ Took x → ((i : ℕ) × (from ≤ i) × (i < end) × (getD neighbours i 0 ≡ x)) → T (st .labelled x)
-        go (inl U) (i, h, k, e) = absurd (U .not-lower i h k e (inl (omega (arith, way-bound i h k, B .others-unlabelled x l f))))
+        go (inl U) (i, h, k, e) = absurd (U .not-lower i h k e (inl (omega (arith, way-bound i h k, B .others-unlabelled x (low x l) f))))
         go (inr C) r = lt→ltb (labelAt labels₂ x .cost) noCost (omega (arith, ap (λ (b : Label). b .cost) (C .took), way-bound (C .place) (C .after) (C .before)))
 
     started : (path-key : ℕ → ℕ) → path-key root ≡ key → Starts g path-key root st
@@ -140,12 +140,12 @@ module _ (g : Graph) (n root : ℕ) (starts neighbours costs : List ℕ) (R : Re
         waits-or-not : (x : ℕ) → x < n → Same x ⊎ Took x → (x ≡ root) ⊎ (x ≡ root → ⊥)
             → (labelAt labels₂ x .waits ≡ noCost) ⊎ (labelAt labels₂ x .waits ≡ labelAt labels₂ x .cost)
         waits-or-not x l s (inl e) = inl (ap (λ (z : ℕ). labelAt labels₂ z .waits) e ∙ ap (λ (b : Label). b .waits) label-root)
-        waits-or-not x l (inl U) (inr f) = inl (ap (λ (b : Label). b .waits) (U .same) ∙ B .others-wait x l f)
+        waits-or-not x l (inl U) (inr f) = inl (ap (λ (b : Label). b .waits) (U .same) ∙ B .none-waits x (low x l))
         waits-or-not x l (inr C) (inr f) = inr (ap (λ (b : Label). b .waits) (C .took) ∙ sym (ap (λ (b : Label). b .cost) (C .took)))
 
         cost-at-most : (x : ℕ) → x < n → Same x ⊎ Took x → (x ≡ root) ⊎ (x ≡ root → ⊥) → labelAt labels₂ x .cost ≤ noCost
         cost-at-most x l s (inl e) = omega (arith, ap (λ (z : ℕ). labelAt labels₂ z .cost) e, ap (λ (b : Label). b .cost) label-root)
-        cost-at-most x l (inl U) (inr f) = omega (arith, ap (λ (b : Label). b .cost) (U .same), B .others-unlabelled x l f)
+        cost-at-most x l (inl U) (inr f) = omega (arith, ap (λ (b : Label). b .cost) (U .same), B .others-unlabelled x (low x l) f)
         cost-at-most x l (inr C) (inr f) = omega (arith, ap (λ (b : Label). b .cost) (C .took), way-bound (C .place) (C .after) (C .before))
 
         next-in : (x : ℕ) → x < n → labelAt labels₂ x .cost < noCost → (x ≡ root) ⊎ (x ≡ root → ⊥) → labelAt labels₂ x .next < n

@@ -17,8 +17,9 @@ use Rattle.graph.specs.laws.Enumeration.{chosen-is}
 use Rattle.graph.specs.laws.ChosenPaths.{chosen-first}
 use Rattle.graph.specs.Lookups.{Says}
 use Rattle.graph.specs.laws.LookupLaws.{kept-ends}
-use Rattle.labels.specs.Labels.{noCost, labelAt, stateOf, LeastOf}
+use Rattle.labels.specs.Labels.{noCost, labelAt, stateOf}
 use Rattle.labels.specs.laws.LabelLaws.{says-settled}
+use Rattle.labels.specs.Relaxing.{Unchanged, Changed, Relaxed}
 use Rattle.tree.specs.Trees.{Represents, Keyed, nextOf, SaysPath, TreeOf}
 use Rattle.tree.specs.Tracked.{Tracked}
 
@@ -40,12 +41,22 @@ module _ {g : Graph} {n : ℕ} {starts neighbours costs : List ℕ} (R : Represe
       → getD neighbours i 0 ≡ getD neighbours j 0 → getD costs i 0 ≡ getD costs j 0
   one-cost i j h k l m e = R .cost-is u i u-in h k ∙ ap (g .hop u) e ∙ sym (R .cost-is u j u-in l m)
 
+  -- Who is offered the way through `u` is one of the first `n` bridges: beyond them labels stay as they are.
+  pub beyond-same : {path-ids labels labels′ : List ℕ} → Relaxed starts neighbours costs path-ids u labels labels′ → (x : ℕ) → n ≤ x → x < 64
+      → labelAt labels′ x ≡ labelAt labels x
+  beyond-same {path-ids} {labels} {labels′} X x l k = go (X .each x k)
+    where
+      go : Unchanged neighbours costs path-ids u (getD starts u 0) (getD starts (u + 1) 0) labels labels′ x
+          ⊎ Changed neighbours costs path-ids u (getD starts u 0) (getD starts (u + 1) 0) labels labels′ x → labelAt labels′ x ≡ labelAt labels x
+      go (inl U) = U .same
+      go (inr C) = absurd (omega (arith, C .offered, neighbour-in (C .place) (C .after) (C .before)))
+
 -- With no bridge waiting the labels are the tree.
 module _ (g : Graph) (key : ℕ → ℕ) (n root : ℕ) (starts neighbours costs keys : List ℕ) (R : Represents g n starts neighbours costs) (K : Keyed g key keys)
-    (labels path-ids : List ℕ) (M : Tracked g key n root labels path-ids) (least : ℕ) (L : LeastOf labels n least) (h : noCost ≤ least) where
+    (labels path-ids : List ℕ) (M : Tracked g key n root labels path-ids) (none-waits : (x : ℕ) → x < n → noCost ≤ labelAt labels x .waits) where
   none-left : (x : ℕ) → x < g .size → (T (stateOf n labels path-ids .settled x) → ⊥) → T (stateOf n labels path-ids .labelled x) → ⊥
   none-left x i f k = f (says-settled n labels path-ids x (omega (arith, R .size-is)) (ltb→lt (labelAt labels x .cost) noCost k)
-      (omega (arith, L .none-less x (omega (arith, R .size-is)))))
+      (none-waits x (omega (arith, R .size-is))))
 
   next-is : (u : ℕ) (p : List ℕ) → Chosen g key u root p → Says g key (stateOf n labels path-ids) u p → labelAt labels u .next ≡ nextOf p
   next-is u p P S = go (chosen-first g key u root p P)

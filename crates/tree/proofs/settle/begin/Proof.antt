@@ -34,8 +34,8 @@ returns : tie.Need-returns
 returns c =
     let at-clear = c .before .before .before in
     let at-start = at-clear .before .before .before .before .before in
-    let (n-bound, root-bound, labels-room, path-ids-room, _) = at-start .pre in
-    begun _ _ _ _ _ _ n-bound root-bound labels-room path-ids-room (at-clear .clear .ensures)
+    let (root-bound, labels-room, path-ids-room, _) = at-start .pre in
+    begun _ _ _ _ _ root-bound labels-room path-ids-room (at-clear .clear .ensures)
 
 pub begin-spec : {M : Type 1} → statement M
 begin-spec =

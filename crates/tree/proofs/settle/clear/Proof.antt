@@ -8,13 +8,13 @@ use Rattle.tree.proofs.settle.clear.Statement.{statement}
 use Rattle.tree.proofs.settle.clear.Tie as tie
 
 abbrev Inv-loop : tie.InvT-loop
-Inv-loop labels₀ n u₀ labels u = Clearing n labels₀ labels u
+Inv-loop labels₀ u₀ labels u = Clearing labels₀ labels u
 
 abbrev μ-loop : tie.MeasureT-loop
-μ-loop labels₀ n u₀ labels u = n - u
+μ-loop labels₀ u₀ labels u = 64 - u
 
 loop-holds : tie.Need-loop-holds Inv-loop μ-loop
-loop-holds c = clearing-starts _ _
+loop-holds c = clearing-starts _
 
 slice-write-labels-2 : tie.Need-slice-write-labels-2 Inv-loop μ-loop
 slice-write-labels-2 c = simp length-set (omega (arith, c .before .loop .inv .so-far .same-length))
@@ -22,8 +22,7 @@ slice-write-labels-2 c = simp length-set (omega (arith, c .before .loop .inv .so
 loop-again : tie.Need-loop-again Inv-loop μ-loop
 loop-again c =
     let at-start = c .before .before in
-    let (n-bound, labels-room) = at-start .pre in
-    clearing-goes-on (c .before .loop .inv) n-bound labels-room (c .loop-test .taken)
+    clearing-goes-on (c .before .loop .inv) (at-start .pre) (c .loop-test .taken)
 
 same-length : tie.Need-same-length Inv-loop μ-loop
 same-length c = c .before .loop .inv .so-far .same-length
