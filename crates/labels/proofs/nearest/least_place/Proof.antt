@@ -1,7 +1,7 @@
 -- `labels::nearest::least_place` compares the costs of a group one after the other. Assumes nothing.
 use Prim.Native.Nat.{_-_}
-use borrow.Author.Needs.{needs}
 use Rattle.labels.specs.laws.NearestLaws.{Comparing, comparing-starts, comparing-goes-on, comparing-ends}
+use borrow.Author.Needs.{needs}
 use Rattle.labels.proofs.nearest.least_place.Statement.{statement}
 use Rattle.labels.proofs.nearest.least_place.Tie as tie
 

@@ -1,10 +1,11 @@
--- `labels::nearest::next_waiting` raises the least bound until a bridge waits at it. How far the bounds can rise falls with each turn. Assumes nothing.
-use lib.ListN.{length-set}
-use native.Mathlib.Omega.{arith}
+-- `labels::nearest::next_waiting` raises the least bound until a bridge waits at it. Each turn the bounds can rise less.
+-- Assumes nothing.
 use Prim.Native.Nat.{_*_}
-use borrow.Author.Needs.{needs}
+use native.Mathlib.Omega.{arith}
+use lib.ListN.{length-set}
 use Rattle.labels.specs.Nearest.{LeastPlace, BoundsOf}
 use Rattle.labels.specs.laws.NearestLaws.{roomAbove, nearest-found, bounds-raised, room-falls}
+use borrow.Author.Needs.{needs}
 use Rattle.labels.proofs.nearest.next_waiting.Statement.{statement}
 use Rattle.labels.proofs.nearest.next_waiting.Tie as tie
 

@@ -2,9 +2,9 @@
 use Prim.Native.Nat.{_+_, _-_}
 use native.Mathlib.Omega.{arith}
 use mathlib.Core.Path.{sym, _∙_}
-use borrow.Author.Needs.{needs}
 use Rattle.labels.specs.Nearest.{BoundsOf}
 use Rattle.labels.specs.laws.RelaxingLaws.{Offering, offering-starts, offering-comparable, offering-goes-on, offering-ends}
+use borrow.Author.Needs.{needs}
 use Rattle.labels.proofs.relax.relax_all.Statement.{statement}
 use Rattle.labels.proofs.relax.relax_all.Tie as tie
 

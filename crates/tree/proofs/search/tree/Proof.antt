@@ -4,13 +4,13 @@ use native.Mathlib.Omega.{arith}
 use native.Mathlib.Nat.{le-trans, lt-of-lt-of-le}
 use mathlib.Core.Path.{_≡_, refl, sym, _∙_, subst}
 use lib.ListN.{length}
-use borrow.Author.Needs.{needs}
 use Rattle.measures.specs.laws.MeasureLaws.{below, not-below}
 use Rattle.labels.specs.Labels.{noCost}
 use Rattle.labels.specs.Nearest.{BoundsOf, Nearest}
 use Rattle.labels.specs.laws.NearestLaws.{bounds-start}
 use Rattle.tree.specs.Tracked.{Underway, openBridges}
 use Rattle.tree.specs.laws.SearchLaws.{search-relaxable, search-starts, search-ends}
+use borrow.Author.Needs.{needs}
 use Rattle.tree.proofs.search.tree.Statement.{statement}
 use Rattle.tree.proofs.search.tree.Tie as tie
 
