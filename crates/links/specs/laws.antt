@@ -1,4 +1,4 @@
 -- Theorems: nothing here is cited by a contract.
 pub mod MateLaws
 pub mod CountLaws
-pub mod PairLaws
+pub mod HopLaws

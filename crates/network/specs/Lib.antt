@@ -1,6 +1,6 @@
--- The network of a plan, its trees, and a store of them.
+-- The network of a plan: its parts, its hops, the hops of one bridge in the making, and the network as a whole.
 pub mod Layout
-pub mod Numbering
 pub mod Neighbours
+pub mod Rows
 pub mod Networks
 pub mod laws

@@ -1,7 +1,7 @@
 -- Theorems: nothing here is cited by a contract.
 pub mod LayoutLaws
-pub mod NumberingLaws
-pub mod NeighbourListLaws
+pub mod VisitLaws
+pub mod RowLaws
 pub mod NeighbourLaws
 pub mod IdentifierLaws
 pub mod NetworkLaws

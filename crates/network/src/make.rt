@@ -1,11 +1,10 @@
 // The network of a checked table.
 use crate::hops::list_neighbours;
 use crate::identifiers::write_identifiers;
+use crate::near::enter_near_bridges;
 use crate::parts::BRIDGES;
 use crate::parts::IDENTIFIERS;
-use links::pairs::NO_HOP;
-use links::pairs::PAIRS;
-use links::pairs::lowest_hops;
+use key_index::chain::INDEX;
 use table::shape::Shape;
 ghost use mathlib.Core.Path.{_≡_};
 ghost use lib.ListN.{length};
@@ -17,9 +16,9 @@ pub fn make_network(table: &[u8], s: Shape, link_index: &[u32], network: &mut [u
     requires { ⌜ Checked (now table) s × LinkIndex (now «link_index») (now table) s × (length (now network) ≡ networkWords) ⌝ }
     ensures { λ _. ⌜ TableNetwork (now (table .entry)) s (now (network .exit)) ⌝ }
 {
-    let mut pairs = [NO_HOP; PAIRS];
-    lowest_hops(table, s, link_index, &mut pairs);
-    list_neighbours(&pairs, s.bridges, network);
+    let mut near_index = [0u32; INDEX];
+    enter_near_bridges(table, s, &mut near_index);
+    list_neighbours(table, s, link_index, &near_index, network);
     write_identifiers(table, s, &mut network[IDENTIFIERS..]);
     network[BRIDGES] = s.bridges as u32;
 }

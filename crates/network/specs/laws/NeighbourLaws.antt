@@ -1,167 +1,231 @@
 -- The hops of a checked table are those of its plan: each bridge joined to another, with the cost and the near port of the link that the
 -- hop takes. Assumes nothing.
-use Prim.Native.Nat.{ℕ, _+_, _*_, _%_, _≤_, _<_}
+use Prim.Native.Nat.{ℕ, _+_, _≤_, _<_}
 use native.Mathlib.Omega.{arith}
-use mathlib.Core.Path.{_≡_, refl, sym, ap, _∙_, subst}
-use mathlib.Core.List.{List, map}
+use mathlib.Core.Path.{_≡_, refl, sym, ap, _∙_}
+use mathlib.Core.List.{List}
 use mathlib.Core.Option.{some}
 use mathlib.Core.Logic.{_⊎_, inl, inr}
-use mathlib.Core.Bool.{true, false, not}
-use lib.ListN.{length, getD, take, drop, length-map}
-use borrow.Author.Tests.{eq-eqb, ne-eqb}
+use lib.ListN.{length, getD, set, length-set}
+use lib.Seq.{getD-set-same, getD-set-other}
 use Rattle.lists.specs.Members.{In}
-use Rattle.lists.specs.laws.MemberLaws.{in-map, none-not-some}
+use Rattle.lists.specs.laws.NumberLaws.{le-or-gt, same-or-not}
+use Rattle.lists.specs.laws.MemberLaws.{none-not-some}
 use Rattle.rule.specs.Words.{wordsOf}
-use Rattle.rule.specs.Records.{HalfLink, halfLinkOf, unusableMetric}
+use Rattle.rule.specs.Records.{HalfLink, halfLinkOf}
 use Rattle.rule.specs.Plan.{Plan}
 use Rattle.rule.specs.Links.{Link, linkCost, hopLink}
 use Rattle.rule.specs.laws.LinkLaws.{hop-takes}
 use Rattle.table.specs.declared.shape.Shape.{Shape}
 use Rattle.table.specs.Positions.{halfLinksFrom, planAt}
-use Rattle.table.specs.laws.PositionLaws.{how-many}
+use Rattle.table.specs.laws.PositionLaws.{in-records}
 use Rattle.verdict.specs.Examination.{Checked}
-use Rattle.links.specs.Mates.{linkMetric}
-use Rattle.links.specs.Pairs.{noHop, pairPlace, placeOf, hopBy, Lowest}
 use Rattle.verdict.specs.laws.CheckedLaws.{bridges-counted, few-bridges}
-use Rattle.links.specs.laws.PairLaws.{narrow, hop-none, hop-some}
-use Rattle.network.specs.Layout.{startsAt, neighboursAt, costsAt, portsAt, identifiersAt, startsIn, neighboursIn, costsIn, portsIn}
+use Rattle.links.specs.Hops.{noHop, LowestHop}
+use Rattle.links.specs.laws.HopLaws.{narrow, listed-there, lowest-of-same, hop-none, hop-some}
+use Rattle.network.specs.Layout.{startsAt, neighboursAt, costsAt, portsAt, startsIn, neighboursIn, costsIn, portsIn}
 use Rattle.network.specs.laws.LayoutLaws.{part-at}
-use Rattle.network.specs.Numbering.{howMany, Holds}
-use Rattle.network.specs.laws.NumberingLaws.{how-many-most, how-many-rises, place-before, number-at}
-use Rattle.network.specs.Neighbours.{isHop, bridgeOfHop, costOfHop, portOfHop, Room, Lists, NeighboursOf}
+use Rattle.network.specs.Neighbours.{HopsOf, HopsListed, SameHops, Kept, NeighboursOf}
+use Rattle.network.specs.Rows.{OfBridge, Visited, Gathering, HaveHops, HopsWritten}
+use Rattle.network.specs.laws.VisitLaws.{none-visited, visited-few}
 
-module _ {t : List ℕ} {s : Shape} (C : Checked t s) (few-links : s .«half_links» ≤ 512) {pairs : List ℕ}
-    (B : Lowest (planAt (wordsOf t) s .halfLinks) (planAt (wordsOf t) s .halfLinks) (s .bridges) pairs) where
+-- A row that was gathered from all half-links of the bridge `u`.
+module _ {t : List ℕ} {s : Shape} (C : Checked t s) {u from to : ℕ} {before row net : List ℕ} (G : Gathering t s u from before row net 0 to) where
   abbrev p : Plan
   p = planAt (wordsOf t) s
 
-  abbrev n : ℕ
-  n = s .bridges
-
-  hop-number-fits : (h : HalfLink) → In h (p .halfLinks) → linkMetric (p .halfLinks) h < unusableMetric → hopBy (p .halfLinks) h < 4503599627370496
-  hop-number-fits h i u = omega (arith, narrow C h i, C .laws .half-links .fits h i .greatest-port)
-
-  pub room : Room pairs n
-  room = record {
-    most = few-bridges C;
-    size = omega (arith, few-bridges C, B .size);
-    few = omega (
-      arith,
-      how-many-most (isHop pairs) (map placeOf (p .halfLinks)) (64 * n) (λ k l e. held k e (B .one-has k l)),
-      length-map (p .halfLinks) placeOf,
-      how-many halfLinkOf 3 (halfLinksFrom s) (wordsOf t) (s .«half_links»),
-      few-links,
-    );
-    narrow = λ k l d. fits k d (B .one-has k l);
-  }
+  lowest-of-plan : (v : ℕ) → v < 64 → LowestHop (p .halfLinks) (λ h. In h (p .halfLinks) × (h .near ≡ u)) v (getD row v 0)
+  lowest-of-plan v l = lowest-of-same (G .lowest v l) there here
     where
-      held : (k : ℕ) → isHop pairs k ≡ true
-          → (getD pairs k 0 ≡ noHop) ⊎ ((h : HalfLink) × In h (p .halfLinks) × (linkMetric (p .halfLinks) h < unusableMetric) × (placeOf h ≡ k) × (getD pairs k 0 ≡ hopBy (p .halfLinks) h))
-          → In k (map placeOf (p .halfLinks))
-      held k e (inl f) =
-          let d : true ≡ false = sym e ∙ ap not (eq-eqb (getD pairs k 0) noHop f)
-          in let y : _≡_ {A = ℕ} 0 1 = cc
-          in absurd (omega arith)
-      held k e (inr (h, i, u, q, f)) = subst (λ (x : ℕ). In x (map placeOf (p .halfLinks))) q (in-map placeOf h (p .halfLinks) i)
+      there : (h : HalfLink) → OfBridge t s u 0 h → In h (p .halfLinks) × (h .near ≡ u)
+      there h (e, (i, a, b, f)) = (listed-there C i b h f, e)
 
-      fits : (k : ℕ) → (getD pairs k 0 ≡ noHop → ⊥)
-          → (getD pairs k 0 ≡ noHop) ⊎ ((h : HalfLink) × In h (p .halfLinks) × (linkMetric (p .halfLinks) h < unusableMetric) × (placeOf h ≡ k) × (getD pairs k 0 ≡ hopBy (p .halfLinks) h))
-          → getD pairs k 0 < 4503599627370496
-      fits k d (inl f) = absurd (d f)
-      fits k d (inr (h, i, u, q, f)) = omega (arith, hop-number-fits h i u)
+      here : (h : HalfLink) → In h (p .halfLinks) × (h .near ≡ u) → OfBridge t s u 0 h
+      here h (k, e) =
+          let (i, b, f) = in-records halfLinkOf 3 (halfLinksFrom s) (wordsOf t) (s .«half_links») h k
+          in (e, (i, omega arith, b, f))
 
-  of-plan : Lowest (p .halfLinks) (p .halfLinks) (length (p .bridges)) pairs
-  of-plan = subst (λ (m : ℕ). Lowest (p .halfLinks) (p .halfLinks) m pairs) (sym (bridges-counted C)) B
+  pub have-hops : HaveHops row net from to
+  have-hops =
+      record {
+        size = G .size;
+        in-row = λ k l h. G .only k l h .0;
+        fits = λ k l h.
+            let (a, b) = G .only k l h
+            in hop-some p (C .laws) (narrow C) u (getD net (neighboursAt + k) 0) (lowest-of-plan (getD net (neighboursAt + k) 0) a) b .0;
+      }
 
-  few-of-plan : length (p .bridges) ≤ 64
-  few-of-plan = C .laws .bridges .few
+  pub row-few : s .«half_links» ≤ 512 → to ≤ 512
+  row-few l = omega (arith, visited-few (G .visited))
 
-  module _ {net : List ℕ} (N : Lists pairs n net) where
-    few-hops : (k : ℕ) → k ≤ 64 * n → howMany (isHop pairs) k ≤ 512
-    few-hops k l = omega (arith, how-many-rises (isHop pairs) k (64 * n) l, room .few)
+  -- With the costs and ports written, the row is that of the plan.
+  pub hops-of-row : s .«half_links» ≤ 512 → {net′ : List ℕ} → HopsWritten row net net′ from to → HopsOf p u net′ from to
+  hops-of-row few {net′} H = record { in-order = G .in-order; joined = λ i l h. joined i l h (G .only i l h); listed = λ v l e. listed v l e }
+    where
+      joined : (i : ℕ) → from ≤ i → i < to → (getD net (neighboursAt + i) 0 < 64) × (getD row (getD net (neighboursAt + i) 0) 0 < noHop)
+          → (l : Link) × (hopLink (p .halfLinks) u (getD net′ (neighboursAt + i) 0) ≡ some l) × (getD net′ (costsAt + i) 0 ≡ linkCost l) × (getD net′ (portsAt + i) 0 ≡ l .here .port)
+      joined i l h (a, b) =
+          let (l′, e, c, d) = hop-some p (C .laws) (narrow C) u (getD net (neighboursAt + i) 0) (lowest-of-plan (getD net (neighboursAt + i) 0) a) b .1
+          in (
+            l′,
+            ap (hopLink (p .halfLinks) u) (H .all-neighbours i (omega (arith, row-few few))) ∙ e,
+            H .cost-is i l h ∙ c,
+            H .port-is i l h ∙ d,
+          )
 
-    -- What a part holds for the hop at the place `k`.
-    held-at : (value : ℕ → ℕ) (base k i : ℕ) → Holds (isHop pairs) value net base (64 * n) → k < 64 * n → isHop pairs k ≡ true
-        → i ≡ howMany (isHop pairs) k → getD (take 512 (drop base net)) i 0 ≡ value k
-    held-at value base k i H l e f =
-        part-at net base 512 i (omega (arith, few-hops (64 * n) (omega arith), place-before (isHop pairs) k (64 * n) l e))
-        ∙ ap (λ (x : ℕ). getD net (base + x) 0) f
-        ∙ H .held k l e
+      listed : (v : ℕ) (l : Link) → hopLink (p .halfLinks) u v ≡ some l → (i : ℕ) × (from ≤ i) × (i < to) × (getD net′ (neighboursAt + i) 0 ≡ v)
+      listed v l e =
+          let K = hop-takes (p .halfLinks) u v l e
+          in let inside : v < 64 = omega (arith, K .far, few-bridges C, bridges-counted C, C .laws .half-links .fits (l .here) (K .link .here-listed) .far-known)
+          in there inside (le-or-gt noHop (getD row v 0))
+        where
+          there : v < 64 → (noHop ≤ getD row v 0) ⊎ (getD row v 0 < noHop) → (i : ℕ) × (from ≤ i) × (i < to) × (getD net′ (neighboursAt + i) 0 ≡ v)
+          there inside (inl m) = absurd (none-not-some (sym (hop-none p (C .laws) (narrow C) u v (lowest-of-plan v inside) m) ∙ e))
+          there inside (inr m) =
+              let (i, a, b, f) = G .every v inside m
+              in (i, a, b, H .all-neighbours i (omega (arith, row-few few)) ∙ f)
 
-    -- The hop at a place of the bridge `u`.
-    hop-at : (u k i : ℕ) → u < n → 64 * u ≤ k → k < 64 * u + 64 → isHop pairs k ≡ true → i ≡ howMany (isHop pairs) k
-        → (l : Link) × (hopLink (p .halfLinks) u (getD (neighboursIn net) i 0) ≡ some l) × (getD (costsIn net) i 0 ≡ linkCost l) × (getD (portsIn net) i 0 ≡ l .here .port)
-    hop-at u k i h a b e f =
-        let z : k ≡ pairPlace u (k % 64) = omega arith
-        in let q : (getD pairs (pairPlace u (k % 64)) 0 ≡ noHop → ⊥) = λ g. no-hop-there (ap (λ (x : ℕ). getD pairs x 0) z ∙ g)
-        in let (l, g, m) = hop-some p (C .laws) few-of-plan (narrow C) of-plan u (k % 64) (omega arith) (omega (arith, bridges-counted C)) q
-        in let K = hop-takes (p .halfLinks) u (k % 64) l g
-        in let c = narrow C (l .here) (K .link .here-listed)
-        in let o = C .laws .half-links .fits (l .here) (K .link .here-listed) .greatest-port
-        in let w = ap (λ (x : ℕ). getD pairs x 0) z
-        in (
-          l,
-          ap (hopLink (p .halfLinks) u) (held-at bridgeOfHop neighboursAt k i (N .listed .bridges) (omega arith) e f) ∙ g,
-          held-at (costOfHop pairs) costsAt k i (N .listed .hop-costs) (omega arith) e f ∙ omega (arith, w, m, c, o),
-          held-at (portOfHop pairs) portsAt k i (N .listed .hop-ports) (omega arith) e f ∙ omega (arith, w, m, c, o),
-        )
-      where
-        no-hop-there : getD pairs k 0 ≡ noHop → ⊥
-        no-hop-there g =
-            let d : true ≡ false = sym e ∙ ap not (eq-eqb (getD pairs k 0) noHop g)
-            in let y : _≡_ {A = ℕ} 0 1 = cc
-            in omega arith
-
-    start : (u : ℕ) → u < n → getD (startsIn net) u 0 ≡ howMany (isHop pairs) (64 * u)
-    start u l = part-at net startsAt 65 u (omega (arith, few-bridges C)) ∙ N .started u (omega arith)
-
-    next : (u : ℕ) → u < n → getD (startsIn net) (u + 1) 0 ≡ howMany (isHop pairs) (64 * u + 64)
-    next u l =
-        part-at net startsAt 65 (u + 1) (omega (arith, few-bridges C))
-        ∙ N .started (u + 1) (omega arith)
-        ∙ ap (howMany (isHop pairs)) (omega arith)
-
-    pub neighbours-of-plan : NeighboursOf p n (startsIn net) (neighboursIn net) (costsIn net) (portsIn net)
-    neighbours-of-plan = record {
-      in-order = λ u l. omega (arith, start u l, next u l, how-many-rises (isHop pairs) (64 * u) (64 * u + 64) (omega arith));
-      few = λ u l. omega (arith, next u l, few-hops (64 * u + 64) (omega arith));
-      joined = λ u i l a b.
-          let (k, f, g, e, q) = number-at (isHop pairs) (64 * u) (64 * u + 64) i (omega (arith, start u l)) (omega (arith, next u l))
-          in hop-at u k i l f g e q;
-      listed = λ u v l k e. there u v l k e (hop-takes (p .halfLinks) u v k e .far) (hop-takes (p .halfLinks) u v k e .link .here-listed);
+-- Hops stay where the network keeps them.
+hops-kept : {p : Plan} {u from to most : ℕ} {net net′ : List ℕ} → SameHops net net′ most → to ≤ most → HopsOf p u net from to → HopsOf p u net′ from to
+hops-kept {p} {u} {from} {to} {most} {net} {net′} K l H =
+    record {
+      in-order = H .in-order;
+      joined = λ i a b.
+          let (k, e, f, g) = H .joined i a b
+          in (
+            k,
+            ap (hopLink (p .halfLinks) u) (K .same-neighbours i (omega arith)) ∙ e,
+            K .same-costs i (omega arith) ∙ f,
+            K .same-ports i (omega arith) ∙ g,
+          );
+      listed = λ v k e. let (i, a, b, f) = H .listed v k e in (i, a, b, K .same-neighbours i (omega arith) ∙ f);
     }
-      where
-        there : (u v : ℕ) → u < n → (l : Link) → hopLink (p .halfLinks) u v ≡ some l → l .here .far ≡ v → In (l .here) (p .halfLinks)
-            → (i : ℕ) × (getD (startsIn net) u 0 ≤ i) × (i < getD (startsIn net) (u + 1) 0) × (getD (neighboursIn net) i 0 ≡ v)
-        there u v a l e f i =
-            let b : v < 64 = omega (arith, C .laws .half-links .fits (l .here) i .far-known, few-of-plan)
-            in let d : isHop pairs (pairPlace u v) ≡ true = ap not (ne-eqb (getD pairs (pairPlace u v) 0) noHop
-            (λ q. none-not-some (sym (hop-none p (C .laws) few-of-plan (narrow C) of-plan u v b q) ∙ e)))
+
+pub listed-kept : {p : Plan} {n most : ℕ} {net net′ : List ℕ} → n < 65 → Kept net net′ most → HopsListed p n most net → HopsListed p n most net′
+listed-kept {p} {n} {most} {net} {net′} l K H =
+    record {
+      few = λ u h. omega (arith, K .same-starts u (omega arith), H .few u h);
+      each = λ u h.
+          let a : getD net′ (startsAt + u) 0 ≡ getD net (startsAt + u) 0 = K .same-starts u (omega arith)
+          in let b : getD net′ (startsAt + (u + 1)) 0 ≡ getD net (startsAt + (u + 1)) 0 = K .same-starts (u + 1) (omega arith)
+          in rw (a, b) (hops-kept (K .same-hops) (H .few (u + 1) (omega arith)) (H .each u h));
+    }
+
+-- The hops of the first `u` bridges are listed, `at` of them.
+pub record Filling (t : List ℕ) (s : Shape) (before net : List ℕ) (u at : ℕ) : Type 0 where
+  pub within : u ≤ s .bridges
+  pub listed : HopsListed (planAt (wordsOf t) s) u at net
+  pub reached : getD net (startsAt + u) 0 ≡ at
+  pub visited : Visited t s u (s .«half_links») at
+  pub same-length : length net ≡ length before
+
+module _ (t : List ℕ) (s : Shape) (net : List ℕ) (l : startsAt < length net) where
+  abbrev started : List ℕ
+  started = set net startsAt 0
+
+  first-start : (u : ℕ) → u ≤ 0 → getD started (startsAt + u) 0 ≡ 0
+  first-start u h = let e : startsAt + u ≡ startsAt = omega arith in rw e (getD-set-same net startsAt 0 0 l)
+
+  pub filling-starts : Filling t s started started 0 0
+  filling-starts =
+      record {
+        within = omega arith;
+        listed = record { few = λ u h. omega (arith, first-start u h); each = λ u h. absurd (omega arith) };
+        reached = first-start 0 (omega arith);
+        visited = none-visited t s (s .«half_links»);
+        same-length = refl;
+      }
+
+module _ {t : List ℕ} {s : Shape} {before net : List ℕ} {u at : ℕ} (F : Filling t s before net u at) where
+  pub filling-goes-on :
+      u < s .bridges →
+      s .bridges ≤ 64 →
+      s .«half_links» ≤ 512 →
+      neighboursAt ≤ length before →
+      {net′ : List ℕ} {at′ : ℕ} →
+      HopsOf (planAt (wordsOf t) s) u net′ at at′ →
+      Visited t s (u + 1) (s .«half_links») at′ →
+      Kept net net′ at →
+      Filling t s before (set net′ (startsAt + (u + 1)) at′) (u + 1) at′
+  filling-goes-on l few few-links long {net′} {at′} H W K =
+      record {
+        within = omega arith;
+        listed = record { few = λ w h. most w h (same-or-not w (u + 1)); each = λ w h. hops w h (same-or-not w u) };
+        reached = start-now;
+        visited = W;
+        same-length = length-set net′ (startsAt + (u + 1)) at′ ∙ K .same-length ∙ F .same-length;
+      }
+    where
+      next : List ℕ
+      next = set net′ (startsAt + (u + 1)) at′
+
+      start-now : getD next (startsAt + (u + 1)) 0 ≡ at′
+      start-now = getD-set-same net′ (startsAt + (u + 1)) at′ 0 (omega (arith, K .same-length, F .same-length))
+
+      start-before : (w : ℕ) → w ≤ u → getD next (startsAt + w) 0 ≡ getD net (startsAt + w) 0
+      start-before w h =
+          getD-set-other net′ (startsAt + (u + 1)) (startsAt + w) at′ 0 (λ e. omega arith) ∙ K .same-starts w (omega arith)
+
+      most : (w : ℕ) → w ≤ u + 1 → (w ≡ u + 1) ⊎ (w ≡ u + 1 → ⊥) → getD next (startsAt + w) 0 ≤ at′
+      most w h (inl e) = omega (arith, ap (λ (k : ℕ). getD next (startsAt + k) 0) e, start-now)
+      most w h (inr d) = omega (arith, start-before w (omega arith), F .listed .few w (omega arith), H .in-order)
+
+      -- A place of a first hop was written, and no hop.
+      hops-stay : SameHops net′ next 512
+      hops-stay =
+          record {
+            same-neighbours = λ k h. other (neighboursAt + k) (omega arith);
+            same-costs = λ k h. other (costsAt + k) (omega arith);
+            same-ports = λ k h. other (portsAt + k) (omega arith);
+          }
+        where
+          other : (i : ℕ) → neighboursAt ≤ i → getD next i 0 ≡ getD net′ i 0
+          other i a = getD-set-other net′ (startsAt + (u + 1)) i at′ 0 (λ e. omega arith)
+
+      most-hops : at′ ≤ 512
+      most-hops = omega (arith, visited-few W, few-links)
+
+      hops : (w : ℕ) → w < u + 1 → (w ≡ u) ⊎ (w ≡ u → ⊥) → HopsOf (planAt (wordsOf t) s) w next (getD next (startsAt + w) 0) (getD next (startsAt + (w + 1)) 0)
+      hops w h (inl e) =
+          let a : getD next (startsAt + u) 0 ≡ at = start-before u (omega arith) ∙ F .reached
+          in rw (e, a, start-now) (hops-kept hops-stay most-hops H)
+      hops w h (inr d) =
+          let a : getD next (startsAt + w) 0 ≡ getD net (startsAt + w) 0 = start-before w (omega arith)
+          in let b : getD next (startsAt + (w + 1)) 0 ≡ getD net (startsAt + (w + 1)) 0 = start-before (w + 1) (omega arith)
+          in let fewer = F .listed .few (w + 1) (omega arith)
+          in rw (a, b) (hops-kept hops-stay (omega (arith, fewer, H .in-order, most-hops))
+          (hops-kept (K .same-hops) fewer (F .listed .each w (omega arith))))
+
+  pub filling-ends : s .bridges ≤ u → s .«half_links» ≤ 512 → HopsListed (planAt (wordsOf t) s) (s .bridges) 512 net
+  filling-ends l few-links =
+      let e : u ≡ s .bridges = omega (arith, F .within)
+      in let H : HopsListed (planAt (wordsOf t) s) (s .bridges) at net = rw e at (F .listed)
+      in record { few = λ w h. omega (arith, H .few w h, visited-few (F .visited)); each = H .each }
+
+-- The parts of a network whose hops are listed.
+module _ {p : Plan} {n : ℕ} {net : List ℕ} (few : n ≤ 64) (H : HopsListed p n 512 net) where
+  start : (u : ℕ) → u ≤ n → getD (startsIn net) u 0 ≡ getD net (startsAt + u) 0
+  start u l = part-at net startsAt 65 u (omega arith)
+
+  inside : (u i : ℕ) → u < n → i < getD (startsIn net) (u + 1) 0 → i < 512
+  inside u i l h = omega (arith, start (u + 1) (omega arith), H .few (u + 1) (omega arith))
+
+  pub neighbours-of-plan : NeighboursOf p n (startsIn net) (neighboursIn net) (costsIn net) (portsIn net)
+  neighbours-of-plan =
+      record {
+        in-order = λ u l. omega (arith, start u (omega arith), start (u + 1) (omega arith), H .each u l .in-order);
+        few = λ u l. omega (arith, start (u + 1) (omega arith), H .few (u + 1) (omega arith));
+        joined = λ u i l a b.
+            let (k, e, f, g) = H .each u l .joined i (omega (arith, start u (omega arith))) (omega (arith, start (u + 1) (omega arith)))
+            in let m = inside u i l b
             in (
-              howMany (isHop pairs) (pairPlace u v),
-              omega (arith, start u a, how-many-rises (isHop pairs) (64 * u) (pairPlace u v) (omega arith)),
-              omega (arith, next u a, place-before (isHop pairs) (pairPlace u v) (64 * u + 64) (omega arith) d),
-              held-at bridgeOfHop neighboursAt (pairPlace u v) (howMany (isHop pairs) (pairPlace u v)) (N .listed .bridges) (omega arith) d refl ∙ omega arith,
-            )
-
--- Lists that agree from the starts to the ports have the same hops.
-module _ {pairs : List ℕ} {n : ℕ} (R : Room pairs n) {net net′ : List ℕ}
-    (same : (i : ℕ) → startsAt ≤ i → i < identifiersAt → getD net′ i 0 ≡ getD net i 0) where
-  holds-too : (value : ℕ → ℕ) (base : ℕ) → startsAt ≤ base → base + 512 ≤ identifiersAt
-      → Holds (isHop pairs) value net base (64 * n) → Holds (isHop pairs) value net′ base (64 * n)
-  holds-too value base a b H = record {
-    held = λ j h t. same (base + howMany (isHop pairs) j) (omega arith)
-        (omega (arith, R .few, place-before (isHop pairs) j (64 * n) h t)) ∙ H .held j h t;
-  }
-
-  pub lists-too : Lists pairs n net → Lists pairs n net′
-  lists-too N = record {
-    started = λ w h. same (startsAt + w) (omega arith) (omega (arith, R .most)) ∙ N .started w h;
-    total = N .total;
-    listed = record {
-      at-is = N .listed .at-is;
-      bridges = holds-too bridgeOfHop neighboursAt (omega arith) (omega arith) (N .listed .bridges);
-      hop-costs = holds-too (costOfHop pairs) costsAt (omega arith) (omega arith) (N .listed .hop-costs);
-      hop-ports = holds-too (portOfHop pairs) portsAt (omega arith) (omega arith) (N .listed .hop-ports);
-    };
-  }
+              k,
+              ap (hopLink (p .halfLinks) u) (part-at net neighboursAt 512 i m) ∙ e,
+              part-at net costsAt 512 i m ∙ f,
+              part-at net portsAt 512 i m ∙ g,
+            );
+        listed = λ u v l k e.
+            let (i, a, b, f) = H .each u l .listed v k e
+            in let c : i < getD (startsIn net) (u + 1) 0 = omega (arith, start (u + 1) (omega arith))
+            in (i, omega (arith, start u (omega arith)), c, part-at net neighboursAt 512 i (inside u i l c) ∙ f);
+      }

@@ -22,12 +22,11 @@ use Rattle.table.specs.Positions.{planAt}
 use Rattle.ect.specs.laws.MaskLaws.{masked-by-index}
 use Rattle.tree.specs.Trees.{Represents, Keyed, Represented, IsTree}
 use Rattle.verdict.specs.Examination.{Checked}
-use Rattle.links.specs.Pairs.{Lowest}
 use Rattle.verdict.specs.laws.CheckedLaws.{bridges-counted, few-bridges}
-use Rattle.network.specs.Layout.{startsAt, neighboursAt, costsAt, identifiersAt, networkWords, bridgesIn, startsIn, neighboursIn, costsIn, portsIn, identifierIn}
+use Rattle.network.specs.Layout.{startsAt, neighboursAt, costsAt, portsAt, identifiersAt, networkWords, bridgesIn, startsIn, neighboursIn, costsIn, portsIn, identifierIn}
 use Rattle.network.specs.laws.LayoutLaws.{part-length}
-use Rattle.network.specs.Neighbours.{NeighboursOf, Lists}
-use Rattle.network.specs.laws.NeighbourLaws.{room, neighbours-of-plan, lists-too}
+use Rattle.network.specs.Neighbours.{NeighboursOf, HopsListed, Kept}
+use Rattle.network.specs.laws.NeighbourLaws.{listed-kept, neighbours-of-plan}
 use Rattle.network.specs.Networks.{IdentifiersOf, NetworkOf, TableNetwork, IsNetwork, KeysOf, TreeIn}
 
 module _ (p : Plan) (L : PlanLaws p) where
@@ -95,8 +94,7 @@ module _ {net : List ℕ} (index mask : ℕ) (keys : List ℕ) (m : mask ≡ mas
 
 -- The network made of a checked table is that of its plan: the hops were listed in `net`, then the identifiers written behind them, then
 -- the number of bridges in front.
-module _ {t : List ℕ} {s : Shape} (C : Checked t s) (few-links : s .«half_links» ≤ 512) {pairs net words : List ℕ}
-    (B : Lowest (planAt (wordsOf t) s .halfLinks) (planAt (wordsOf t) s .halfLinks) (s .bridges) pairs) (N : Lists pairs (s .bridges) net)
+module _ {t : List ℕ} {s : Shape} (C : Checked t s) {net words : List ℕ} (N : HopsListed (planAt (wordsOf t) s) (s .bridges) 512 net)
     (size : length net ≡ networkWords) (I : IdentifiersOf (planAt (wordsOf t) s) (s .bridges) words)
     (behind : length words ≡ length net - identifiersAt) where
   abbrev written : List ℕ
@@ -120,6 +118,18 @@ module _ {t : List ℕ} {s : Shape} (C : Checked t s) (few-links : s .«half_lin
       ∙ ap (λ (x : List ℕ). getD x i 0) written-is
       ∙ place-before net identifiersAt words i 0 b (omega arith)
 
+  all-same : Kept net made 512
+  all-same =
+      record {
+        same-length = made-length ∙ sym size;
+        same-starts = λ w l. same (startsAt + w) (omega arith) (omega arith);
+        same-hops = record {
+          same-neighbours = λ k l. same (neighboursAt + k) (omega arith) (omega arith);
+          same-costs = λ k l. same (costsAt + k) (omega arith) (omega arith);
+          same-ports = λ k l. same (portsAt + k) (omega arith) (omega arith);
+        };
+      }
+
   word-at : (j : ℕ) → j < length words → getD made (identifiersAt + j) 0 ≡ getD words j 0
   word-at j l =
       getD-set-other written 0 (identifiersAt + j) (s .bridges) 0 (λ e. omega arith)
@@ -130,7 +140,7 @@ module _ {t : List ℕ} {s : Shape} (C : Checked t s) (few-links : s .«half_lin
   counted = getD-set-same written 0 (s .bridges) 0 (omega (arith, written-length))
 
   hops-listed : NeighboursOf (planAt (wordsOf t) s) (s .bridges) (startsIn made) (neighboursIn made) (costsIn made) (portsIn made)
-  hops-listed = neighbours-of-plan C few-links B {net = made} (lists-too (room C few-links B) {net = net} {net′ = made} same N)
+  hops-listed = neighbours-of-plan (few-bridges C) (listed-kept (omega (arith, few-bridges C)) all-same N)
 
   pub network-of-table : NetworkOf (planAt (wordsOf t) s) made
   network-of-table = record {

@@ -1,0 +1,53 @@
+// The hop by the link of a half-link (01, "Links"), as one number.
+use crate::usable::link_metric;
+use numbers::metric::Metric;
+use readers::half_link::HalfLink;
+use table::shape::Shape;
+ghost use mathlib.Core.Path.{_≡_};
+ghost use Prim.Native.Nat.{_<_};
+ghost use Rattle.rule.specs.Words.{wordsOf};
+ghost use Rattle.readers.specs.Readers.{halfLinkValues};
+ghost use Rattle.table.specs.Positions.{planAt};
+ghost use Rattle.table.specs.Numbered.{halfLinkNumber};
+ghost use Rattle.verdict.specs.Examination.{Checked, LinkIndex};
+ghost use Rattle.links.specs.Hops.{hopNumber, hopOf, costOfHop, portOfHop};
+
+// Stands for no hop.
+pub const NO_HOP: u64 = u64::MAX;
+
+// The number of a hop: the lower of two is the cheaper, of equals that with the lower link number.
+fn hop_number(metric: Metric, link: u32, port: u32) -> u64
+    requires { ⌜ (metric .0 < 16777216) × (link < 65536) × (port < 65536) ⌝ }
+    ensures { λ r. ⌜ r ≡ hopNumber (metric .0) link port ⌝ }
+{
+    (metric.0 as u64 * 65536 + link as u64) * 4096 + port as u64
+}
+
+// The number of the hop by the link of the half-link `h`, which is number `i`. A link that is not usable gives no hop.
+pub fn hop_of(table: &[u8], s: Shape, link_index: &[u32], i: usize, h: HalfLink) -> u64
+    requires { ⌜ Checked (now table) s × (i < s .«half_links») × (halfLinkValues h ≡ halfLinkNumber (wordsOf (now table)) s i) × LinkIndex (now «link_index») (now table) s ⌝ }
+    ensures { λ r. ⌜ r ≡ hopOf (planAt (wordsOf (now (table .entry))) s .halfLinks) (halfLinkValues h) ⌝ }
+{
+    let link = h.link;
+    let port = h.port;
+    let metric = link_metric(table, s, link_index, i, h);
+    if !metric.is_usable() {
+        return NO_HOP;
+    }
+    hop_number(metric, link, port)
+}
+
+// The cost of the hop with the number `hop`.
+pub fn cost_of_hop(hop: u64) -> u32
+    requires { ⌜ hop < 4503599627370496 ⌝ }
+    ensures { λ r. ⌜ r ≡ costOfHop hop ⌝ }
+{
+    (hop / 268435456) as u32
+}
+
+// Its near port.
+pub fn port_of_hop(hop: u64) -> u32
+    ensures { λ r. ⌜ r ≡ portOfHop hop ⌝ }
+{
+    (hop % 4096) as u32
+}
