@@ -14,13 +14,19 @@ ghost use Rattle.links.specs.Hops.{hopNumber, hopOf, costOfHop, portOfHo
 
 // Stands for no hop.
 pub const NO_HOP: u64 = u64::MAX;
+// How many port numbers there are: the near port is the lowest part of a hop's number.
+const PORT_NUMBERS: u64 = 4096;
+// How many link numbers there are: the link number is the next part.
+const LINK_NUMBERS: u64 = 65536;
+// The cost is the highest part.
+const HOPS_OF_ONE_COST: u64 = LINK_NUMBERS * PORT_NUMBERS;
 
 // The number of a hop: the lower of two is the cheaper, of equals that with the lower link number.
 fn hop_number(metric: Metric, link: u32, port: u32) -> u64
     requires { ⌜ (metric .0 < 16777216) × (link < 65536) × (port < 65536) ⌝ }
     ensures { λ r. ⌜ r ≡ hopNumber (metric .0) link port ⌝ }
 {
-    (metric.0 as u64 * 65536 + link as u64) * 4096 + port as u64
+    (metric.0 as u64 * LINK_NUMBERS + link as u64) * PORT_NUMBERS + port as u64
 }
 
 // The number of the hop by the link of the half-link `h`, which is number `i`. A link that is not usable gives no hop.
@@ -42,12 +48,12 @@ pub fn cost_of_hop(hop: u64) -> u32
     requires { ⌜ hop < 4503599627370496 ⌝ }
     ensures { λ r. ⌜ r ≡ costOfHop hop ⌝ }
 {
-    (hop / 268435456) as u32
+    (hop / HOPS_OF_ONE_COST) as u32
 }
 
 // Its near port.
 pub fn port_of_hop(hop: u64) -> u32
     ensures { λ r. ⌜ r ≡ portOfHop hop ⌝ }
 {
-    (hop % 4096) as u32
+    (hop % PORT_NUMBERS) as u32
 }

@@ -51,7 +51,8 @@ pub record Taken (hs : List HalfLink) (h : HalfLink) (row row′ net net′ : Li
 pub record Offered (hs : List HalfLink) (h : HalfLink) (row row′ net net′ : List ℕ) (at at′ : ℕ) : Type 0 where
   pub outcome : Taken hs h row row′ net net′ at at′ ⊎ ((noHop ≤ hopOf hs h) × (row′ ≡ row) × (net′ ≡ net) × (at′ ≡ at))
 
--- The half-links of the bridge `u` with the number `place` or higher were offered; the next is the one before the number `place`.
+-- The half-links of the bridge `u` with the number `place` or higher were offered, and the next is the one before the number `place`. The row
+-- has the lowest hop to each bridge by them, and the bridges that have one are listed from the place `from` to the place before `at`.
 pub record Gathering (t : List ℕ) (s : Shape) (u from : ℕ) (before row net : List ℕ) (place at : ℕ) : Type 0 where
   pub within : place ≤ s .«half_links»
   pub next : 0 < place → halfLinkNumber (wordsOf t) s (place - 1) .near ≡ u
