@@ -61,7 +61,8 @@ pub fn tree_of_table(
     ensures { λ _. ⌜ PlanTree (planAt (wordsOf (now (table .entry))) s) index root (now (labels .exit)) ⌝ }
 {
     let mut network = [0u32; NETWORK];
-    let mut path_ids = [0u64; PATH_IDS];
     make_network(table, s, link_index, &mut network);
+    // After the network, so that the compiled code can lay it over what making the network needs.
+    let mut path_ids = [0u64; PATH_IDS];
     tree_in_network(&network, index, root, labels, &mut path_ids);
 }
