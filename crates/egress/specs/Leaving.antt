@@ -15,6 +15,7 @@ use Rattle.rule.specs.Links.{hopLink}
 use Rattle.rule.specs.Paths.{chosenPath}
 use Rattle.rule.specs.Entries.{leavingPort}
 use Rattle.labels.specs.Labels.{noCost, labelAt}
+use Rattle.tree.specs.Trees.{Ordered}
 
 -- A port as a number, 0 where there is none.
 abbrev pub numberOf : Option ℕ → ℕ
@@ -51,15 +52,18 @@ leavingBy labels hops b d = cond (eqb (labelAt labels d .cost) noCost) 0 (walked
 abbrev pub egressRowBy : List ℕ → List ℕ → ℕ → ℕ → List ℕ
 egressRowBy labels hops b n = eachOf (λ d. leavingBy labels hops b d ∷ []) n
 
--- From every bridge with a path, next hops lead to the root, with one hop less each time.
+-- The port of the bridge `d` by the row that has that of its next hop: the port of its last hop where this starts at `b`, else that of
+-- its next hop.
+abbrev pub portThrough : List ℕ → List ℕ → ℕ → List ℕ → ℕ → ℕ
+portThrough labels hops b row d = cond (eqb (labelAt labels d .next) b) (getD hops d 0) (getD row (labelAt labels d .next) 0)
+
+-- From every bridge with a path, next hops lead to the root, with one hop less each time, and the labels hold these bridges in an order
+-- in which each comes after its next hop.
 pub record Walkable (labels : List ℕ) (n : ℕ) : Type 0 where
   pub most : n ≤ 64
+  pub root : ℕ
+  pub ordered : Ordered n root labels
   pub onward : (u : ℕ) → u < n → (labelAt labels u .cost ≡ noCost → ⊥) → 0 < labelAt labels u .hops
       → (labelAt labels u .next < n)
       × (labelAt labels (labelAt labels u .next) .cost ≡ noCost → ⊥)
       × (labelAt labels u .hops ≡ labelAt labels (labelAt labels u .next) .hops + 1)
-
-pub record WalkableFrom (labels : List ℕ) (d : ℕ) : Type 0 where
-  pub count : ℕ
-  pub walkable : Walkable labels count
-  pub inside : d < count

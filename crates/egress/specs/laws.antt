@@ -1,6 +1,6 @@
 -- Theorems: nothing here is cited by a contract.
 pub mod HopLaws
-pub mod WalkingLaws
+pub mod PassLaws
 pub mod LeavingLaws
 pub mod PlanPortLaws
 pub mod RowLaws

@@ -58,9 +58,25 @@ abbrev pub SaysPath : Graph → Option (List ℕ) → Label → Type 0
 SaysPath g none b = b .cost ≡ noCost
 SaysPath g (some p) b = (b .cost ≡ cost g p) × (b .hops ≡ hops p) × (b .next ≡ nextOf p) × (b .first ≡ firstBack p)
 
+-- The first part of the labels holds the bridges that have a path, `count` of the first `n`, in an order in which each comes after its
+-- next hop: the root, which has no hop to go, first. Where they are fewer than `n`, the place after them holds no bridge.
+pub record Ordered (n root : ℕ) (labels : List ℕ) : Type 0 where
+  pub count : ℕ
+  pub least : 1 ≤ count
+  pub most : count ≤ n
+  pub root-first : getD labels 0 0 ≡ root
+  pub root-hops : labelAt labels root .hops ≡ 0
+  pub inside : (k : ℕ) → k < count → getD labels k 0 < n
+  pub has-path : (k : ℕ) → k < count → labelAt labels (getD labels k 0) .cost ≡ noCost → ⊥
+  pub has-hops : (k : ℕ) → 0 < k → k < count → 0 < labelAt labels (getD labels k 0) .hops
+  pub after-next : (k : ℕ) → 0 < k → k < count → (j : ℕ) × (j < k) × (getD labels j 0 ≡ labelAt labels (getD labels k 0) .next)
+  pub listed : (u : ℕ) → u < n → (labelAt labels u .cost ≡ noCost → ⊥) → (k : ℕ) × (k < count) × (getD labels k 0 ≡ u)
+  pub then-none : count < n → getD labels count 0 ≡ noCost
+
 -- The labels are the tree rooted at `root`.
 pub record TreeOf (g : Graph) (key : ℕ → ℕ) (root : ℕ) (labels : List ℕ) : Type 0 where
   pub each : (u : ℕ) → u < g .size → SaysPath g (chosen g key u root) (labelAt labels u)
+  pub ordered : Ordered (g .size) root labels
 
 -- They are so for every graph and key that the lists stand for.
 pub record IsTree (n : ℕ) (starts neighbours costs keys : List ℕ) (root : ℕ) (labels : List ℕ) : Type 0 where

@@ -3,4 +3,5 @@ pub mod SettlingLaws
 pub mod TreeLaws
 pub mod StepLaws
 pub mod StartLaws
+pub mod OrderLaws
 pub mod SearchLaws

@@ -30,7 +30,7 @@ use Rattle.rule.specs.Paths.{chosenPath}
 use Rattle.rule.specs.Entries.{firstPort, leavingPort}
 use Rattle.rule.specs.laws.Network.{chosen-is-path, path-is-chosen}
 use Rattle.labels.specs.Labels.{noCost, labelAt}
-use Rattle.tree.specs.Trees.{SaysPath}
+use Rattle.tree.specs.Trees.{SaysPath, Ordered}
 use Rattle.network.specs.Layout.{bridgesIn}
 use Rattle.network.specs.Networks.{NetworkOf, PlanTree}
 use Rattle.egress.specs.Leaving.{numberOf, portTo, PlanHops, portOn, walked, leavingBy, Walkable}
@@ -155,7 +155,12 @@ module _ {p : Plan} {net : List ℕ} (B : NetworkOf p net) (index a : ℕ) {labe
   next-inside u v t P = omega (arith, entered-inside g G u v (P .path .1 .0), B .represents .size-is)
 
   pub tree-walkable : Walkable labels n
-  tree-walkable = record { most = B .represents .most; onward = λ u l f h. go u l f h (chosen g key u a) refl }
+  tree-walkable = record {
+    most = B .represents .most;
+    root = a;
+    ordered = subst (λ (k : ℕ). Ordered k a labels) (B .represents .size-is) (R .ordered);
+    onward = λ u l f h. go u l f h (chosen g key u a) refl;
+  }
     where
       along : (u : ℕ) (t : List ℕ) → u < n → 0 < labelAt labels u .hops → Chosen g key u a (u ∷ t)
           → (labelAt labels u .next < n) × (labelAt labels (labelAt labels u .next) .cost ≡ noCost → ⊥) × (labelAt labels u .hops ≡ labelAt labels (labelAt labels u .next) .hops + 1)

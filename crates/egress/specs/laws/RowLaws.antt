@@ -4,13 +4,9 @@ use native.Mathlib.Omega.{arith}
 use mathlib.Core.Path.{_≡_, refl, sym, ap, _∙_, subst}
 use mathlib.Core.List.{List}
 use mathlib.Core.Logic.{_⊎_, inl, inr}
-use lib.ListN.{length, getD, set, drop, length-set, length-map}
+use lib.ListN.{length, getD, set, drop, length-set}
 use lib.Seq.{getD-set-same, getD-set-other, getD-drop}
-use Rattle.lists.specs.Lists.{rising}
 use Rattle.lists.specs.laws.NumberLaws.{same-or-not}
-use Rattle.lists.specs.laws.MemberLaws.{map-at}
-use Rattle.lists.specs.laws.SelectedLaws.{rising-at, length-rising}
-use Rattle.lists.specs.laws.GivenLaws.{flatMap-one}
 use Rattle.lists.specs.laws.Splices.{length-spliced, place-before, place-within}
 use Rattle.lists.specs.Appending.{Appended}
 use Rattle.rule.specs.Plan.{Plan}
@@ -20,6 +16,7 @@ use Rattle.trees.specs.Store.{slotOf}
 use Rattle.trees.specs.laws.StoreLaws.{slot-tells}
 use Rattle.egress.specs.Leaving.{PlanHops, EgressRow, leavingBy, egressRowBy}
 use Rattle.egress.specs.laws.LeavingLaws.{leaving-is}
+use Rattle.egress.specs.laws.PassLaws.{row-length, row-at}
 use Rattle.egress.specs.Rows.{egressRowAt, HasEgressRow, EgressRowOf, EgressRowsKept, Kept}
 
 pub kept-all : (rows : List ℕ) → Kept rows rows
@@ -57,14 +54,14 @@ module _ {net hops : List ℕ} {b count : ℕ} {rows : List ℕ}
     below : slotOf index a < 1024
     below = omega arith
 
-    row-length : length (egressRowBy labels hops b n) ≡ n
-    row-length = ap length (flatMap-one (leavingBy labels hops b) (rising 0 n)) ∙ length-map (rising 0 n) (leavingBy labels hops b) ∙ length-rising 0 n
+    written-length : length (egressRowBy labels hops b n) ≡ n
+    written-length = row-length labels hops b n
 
     marked-length : length marked ≡ length rows
     marked-length = length-set rows (slotOf index a) place
 
     rows-length : length rows′ ≡ length rows
-    rows-length = ap length (A .words-are) ∙ length-spliced marked place (egressRowBy labels hops b n) (omega (arith, row-length, marked-length, R .size)) ∙ marked-length
+    rows-length = ap length (A .words-are) ∙ length-spliced marked place (egressRowBy labels hops b n) (omega (arith, written-length, marked-length, R .size)) ∙ marked-length
 
     -- A place before the row.
     at-place : (i : ℕ) → i < place → (i ≡ slotOf index a → ⊥) → getD rows′ i 0 ≡ getD rows i 0
@@ -83,10 +80,8 @@ module _ {net hops : List ℕ} {b count : ℕ} {rows : List ℕ}
     in-row d h =
         getD-drop place rows′ d 0
         ∙ ap (λ (t : List ℕ). getD t (place + d) 0) (A .words-are)
-        ∙ place-within marked place (egressRowBy labels hops b n) d 0 (omega (arith, row-length)) (omega (arith, marked-length, R .size))
-        ∙ ap (λ (t : List ℕ). getD t d 0) (flatMap-one (leavingBy labels hops b) (rising 0 n))
-        ∙ map-at (leavingBy labels hops b) (rising 0 n) d 0 0 (omega (arith, length-rising 0 n))
-        ∙ ap (leavingBy labels hops b) (rising-at 0 n d 0 h ∙ omega arith)
+        ∙ place-within marked place (egressRowBy labels hops b n) d 0 (omega (arith, written-length)) (omega (arith, marked-length, R .size))
+        ∙ row-at labels hops b n d h
 
     new-row : EgressRowOf net hops b index a (drop (egressRowAt rows′ index a) rows′)
     new-row = record { labels = labels; tree = tree; each = λ d h. ap (λ (k : ℕ). getD (drop k rows′) d 0) at-slot ∙ in-row d h }

@@ -1,28 +1,31 @@
 -- The search as a whole, for every graph and key that the lists stand for: how it starts, goes on, comes to an end.
 -- Assumes nothing.
-use Prim.Native.Nat.{ℕ, _≤_, _<_}
+use Prim.Native.Nat.{ℕ, _+_, _≤_, _<_}
 use native.Mathlib.Omega.{arith}
-use mathlib.Core.Path.{_≡_, sym, ap, _∙_}
+use mathlib.Core.Path.{_≡_, sym, ap, _∙_, subst}
 use mathlib.Core.List.{List}
 use mathlib.Core.Logic.{_⊎_, inl, inr}
 use mathlib.Core.Bool.{Bool, true, false, cond}
 use lib.Dec.{T}
-use lib.ListN.{length, getD}
+use lib.ListN.{length, getD, set}
 use Rattle.lists.specs.Lists.{rising}
 use Rattle.lists.specs.laws.NumberLaws.{le-or-gt}
 use Rattle.lists.specs.laws.SelectedLaws.{in-rising}
 use Rattle.lists.specs.laws.SumLaws.{sum-falls}
-use Rattle.graph.specs.Graph.{Graph}
+use Rattle.graph.specs.Graph.{Graph, hops}
+use Rattle.graph.specs.Chosen.{chosen}
+use Rattle.graph.specs.laws.ChosenPaths.{chosen-self}
 use Rattle.labels.specs.Labels.{noCost, Label, labelAt, stateOf, settledLabels, settledPathIds}
 use Rattle.labels.specs.laws.LabelLaws.{length-settled, label-unsettled}
 use Rattle.labels.specs.Nearest.{BoundsOf, Nearest}
 use Rattle.labels.specs.laws.NearestLaws.{bounds-settled}
 use Rattle.labels.specs.Relaxing.{Relaxable, Relaxed}
 use Rattle.tree.specs.Settling.{Settleable, Begun}
-use Rattle.tree.specs.Trees.{Represents, Keyed, Represented, IsTree}
-use Rattle.tree.specs.Tracked.{Underway, openBridges, Advanceable, Advanced}
-use Rattle.tree.specs.laws.TreeLaws.{beyond-same, search-tree}
-use Rattle.tree.specs.laws.StartLaws.{start-relaxable, start-tracked}
+use Rattle.tree.specs.Trees.{Represents, Keyed, Represented, Ordered, TreeOf, IsTree}
+use Rattle.tree.specs.Tracked.{Tracked, Underway, openBridges, InOrder, Advanceable, Advanced, Finished, Noted}
+use Rattle.tree.specs.laws.TreeLaws.{beyond-same, search-paths, says-alike}
+use Rattle.tree.specs.laws.StartLaws.{start-relaxable, alone, start-tracked}
+use Rattle.tree.specs.laws.OrderLaws.{order-starts, order-goes-on, other-parts, order-left}
 use Rattle.tree.specs.laws.StepLaws.{Step, not-settled, step-settleable, step-relaxable, still, done, step-tracked, length-path-ids}
 
 module _ (n : ℕ) (starts neighbours costs keys : List ℕ) (root : ℕ) where
@@ -42,6 +45,11 @@ module _ (n : ℕ) (starts neighbours costs keys : List ℕ) (root : ℕ) where
       tracked = λ g key R K. start-tracked g n root starts neighbours costs R (getD keys root 0) labels₀ path-ids₀ labels path-ids root-in has-labels has-path-ids B labels₂ X key
           (sym (K .key-is root (omega (arith, R .size-is))));
     }
+
+    pub search-order : (labels₂ : List ℕ) → Relaxed starts neighbours costs path-ids root labels labels₂ → (order : List ℕ) → length order ≡ 64
+        → InOrder n root labels₂ (set order 0 root) 1
+    search-order labels₂ X = order-starts n root labels₂ root-in (search-starts labels₂ X .tracked (S .graph) (S .key) (S .represents) (S .keyed) .kept .root)
+        (λ v k. alone (S .graph) n root starts neighbours costs (S .represents) (getD keys root 0) labels₀ path-ids₀ labels path-ids root-in has-labels has-path-ids B labels₂ X v k)
 
   -- A step.
   module _ {labels path-ids : List ℕ} (U : Underway n starts neighbours costs keys root labels path-ids) {u : ℕ} (N : Nearest labels u)
@@ -107,13 +115,43 @@ module _ (n : ℕ) (starts neighbours costs keys : List ℕ) (root : ℕ) where
           less false true f t = omega arith
           less false false f t = absurd t
 
-  -- The end.
-  pub search-ends : {labels path-ids : List ℕ} {u : ℕ} → Underway n starts neighbours costs keys root labels path-ids → Nearest labels u → noCost ≤ labelAt labels u .waits
-      → IsTree n starts neighbours costs keys root labels
-  search-ends {labels} {path-ids} {u} U N h = record {
-    of-graph = λ g key R K. search-tree g key n root starts neighbours costs keys R K labels path-ids (U .tracked g key R K)
-        (λ x l. omega (arith, N .none-nearer x (omega (arith, R .most))));
-  }
+  -- The nearest bridge does not wait: none does.
+  pub search-finishes : {labels path-ids order : List ℕ} {count u : ℕ} → Underway n starts neighbours costs keys root labels path-ids → Nearest labels u
+      → InOrder n root labels order count → noCost ≤ labelAt labels u .waits → Finished n starts neighbours costs keys root labels path-ids order count
+  search-finishes {labels} {path-ids} {order} {count} {u} U N O h = record { underway = U; none-waits = λ x l. omega (arith, N .none-nearer x l); in-order = O }
+
+  -- The end: the labels of a finished search, with the order left in them.
+  module _ {labels path-ids order labels′ : List ℕ} {count : ℕ} (F : Finished n starts neighbours costs keys root labels path-ids order count)
+      (N : Noted order count labels labels′) where
+    module _ (g : Graph) (key : ℕ → ℕ) (R : Represents g n starts neighbours costs) (K : Keyed g key keys) where
+      M : Tracked g key n root labels path-ids
+      M = F .underway .tracked g key R K
+
+      none-waits : (x : ℕ) → x < n → labelAt labels x .waits ≡ noCost
+      none-waits x l = go (M .waits-or-not x l)
+        where
+          go : (labelAt labels x .waits ≡ noCost) ⊎ (labelAt labels x .waits ≡ labelAt labels x .cost) → labelAt labels x .waits ≡ noCost
+          go (inl e) = e
+          go (inr e) = omega (arith, F .none-waits x (omega (arith, R .most)), M .cost-at-most x l)
+
+      root-hops : labelAt labels root .hops ≡ 0
+      root-hops =
+          let (p, P, S) = M .kept .found root (M .kept .inside) (M .kept .root) in
+          S .steps-is ∙ ap hops (chosen-self g key root p P)
+
+      tree-of : TreeOf g key root labels′
+      tree-of = record {
+        each = λ u i. says-alike g (chosen g key u root) (labelAt labels u) (labelAt labels′ u)
+            (left 64 u (omega arith)) (left 128 u (omega arith)) (left 192 u (omega arith)) (left 256 u (omega arith))
+            (search-paths g key n root starts neighbours costs keys R K labels path-ids M (λ x l. omega (arith, none-waits x l)) u i);
+        ordered = subst (λ (k : ℕ). Ordered k root labels′) (sym (R .size-is)) (order-left (R .most) (F .in-order) none-waits (M .cost-at-most) root-hops N);
+      }
+        where
+          left : (part x : ℕ) → 64 ≤ part → getD labels′ (part + x) 0 ≡ getD labels (part + x) 0
+          left = other-parts (R .most) (F .in-order) N
+
+    pub search-ends : IsTree n starts neighbours costs keys root labels′
+    search-ends = record { of-graph = tree-of }
 
 -- The bridge that is to be settled next is settled, and its neighbours are relaxed.
 module _ {starts neighbours costs keys : List ℕ} {root : ℕ} {labels path-ids : List ℕ} {u : ℕ} (A : Advanceable starts neighbours costs keys root labels path-ids u) where
@@ -129,10 +167,12 @@ module _ {starts neighbours costs keys : List ℕ} {root : ℕ} {labels path-ids
         (rw (e, f) (step-relaxable next-step), rw e (bounds-settled B root u (A .nearest .inside) (A .underway .has-labels) (omega (arith, A .waits))))
 
     pub search-advances : {labels₂ : List ℕ} → Relaxed starts neighbours costs path-ids₁ u labels₁ labels₂
-        → Advanced starts neighbours costs keys root labels path-ids labels₂ path-ids₁
+        → Advanced starts neighbours costs keys root u labels path-ids labels₂ path-ids₁
     search-advances {labels₂} X = record {
       goes-on = λ n U. rw f (underway n starts neighbours costs keys root U (A .nearest) (A .waits) labels₂ relaxed);
       fewer-open = λ n U. fewer n starts neighbours costs keys root U (A .nearest) (A .waits) labels₂ relaxed;
+      next-in-order = λ n U. order-goes-on (one-step n starts neighbours costs keys root U (A .nearest) (A .waits)) labels₂ relaxed
+          (fewer n starts neighbours costs keys root U (A .nearest) (A .waits) labels₂ relaxed);
     }
       where
         relaxed : Relaxed starts neighbours costs (settledPathIds labels path-ids u (getD keys u 0)) u (settledLabels labels root u) labels₂

@@ -96,7 +96,7 @@ module _ (g : Graph) (n root : ℕ) (starts neighbours costs : List ℕ) (R : Re
     took-waits : (x : ℕ) → Took x → labelAt labels₂ x .waits < noCost
     took-waits x C = omega (arith, ap (λ (b : Label). b .waits) (C .took), way-bound (C .place) (C .after) (C .before))
 
-    alone : (v : ℕ) → T (st .settled v) → v ≡ root
+    pub alone : (v : ℕ) → T (st .settled v) → v ≡ root
     alone v k = go (settled-says n labels₂ path-ids v k) (same-or-not v root)
       where
         go : (v < n) × (labelAt labels₂ v .cost < noCost) × (noCost ≤ labelAt labels₂ v .waits) → (v ≡ root) ⊎ (v ≡ root → ⊥) → v ≡ root

@@ -88,7 +88,7 @@ module _ {g : Graph} {key : ℕ → ℕ} {n root : ℕ} {starts neighbours costs
       go (inr e) = omega (arith, waits-at-cost, Z .near x (omega (arith, R .size-is)))
 
   -- The label of `u` is that of its chosen path.
-  settles : (q : List ℕ) × Settled g key root st (st .next u) q × Chosen g key u root (u ∷ q) × (st .far u ≡ cost g (u ∷ q)) × (st .steps u ≡ hops (u ∷ q))
+  pub settles : (q : List ℕ) × Settled g key root st (st .next u) q × Chosen g key u root (u ∷ q) × (st .far u ≡ cost g (u ∷ q)) × (st .steps u ≡ hops (u ∷ q))
       × (insertUpward (key u) (st .row (st .next u)) ≡ pathId key (u ∷ q))
   settles = kept-settles g (R .laws) key root st (M .kept) (K .laws) u inside not-settled labelled-u nearest
 
@@ -98,7 +98,7 @@ module _ {g : Graph} {key : ℕ → ℕ} {n root : ℕ} {starts neighbours costs
   cost-bound : st .far u ≤ 63 * 16777214
   cost-bound = omega (arith, settles .3, settles .4, few-steps, cost-most g 16777214 (R .hop-most) u (settles .0))
 
-  next-steps : st .steps u ≡ suc (st .steps (st .next u))
+  pub next-steps : st .steps u ≡ suc (st .steps (st .next u))
   next-steps = M .kept .steps-through u inside not-settled labelled-u
 
   -- The row of the next hop.
@@ -231,7 +231,7 @@ module _ {g : Graph} {key : ℕ → ℕ} {n root : ℕ} {starts neighbours costs
     taken-waits : (x : ℕ) (C : Took x) → labelAt labels₂ x .waits < noCost
     taken-waits x C = omega (arith, ap (λ (b : Label). b .waits) (C .took), way-bound (C .place) (C .after) (C .before))
 
-    only : (v : ℕ) → T (st′ .settled v) → T (st .settled v) ⊎ (v ≡ u)
+    pub only : (v : ℕ) → T (st′ .settled v) → T (st .settled v) ⊎ (v ≡ u)
     only v k = go (settled-says n labels₂ path-ids₁ v k) (same-or-not v u)
       where
         old : (v < n) × (labelAt labels₂ v .cost < noCost) × (noCost ≤ labelAt labels₂ v .waits) → (v ≡ u → ⊥) → Same v ⊎ Took v → T (st .settled v)
@@ -270,10 +270,10 @@ module _ {g : Graph} {key : ℕ → ℕ} {n root : ℕ} {starts neighbours costs
     far-kept : (v : ℕ) → T (st′ .settled v) → st′ .far v ≡ st .far v
     far-kept v k = ap (λ (b : Label). b .cost) (kept-label v k) ∙ same-cost v (low v (settled-in v k))
 
-    steps-kept : (v : ℕ) → T (st′ .settled v) → st′ .steps v ≡ st .steps v
+    pub steps-kept : (v : ℕ) → T (st′ .settled v) → st′ .steps v ≡ st .steps v
     steps-kept v k = ap (λ (b : Label). b .hops) (kept-label v k) ∙ same-hops v (low v (settled-in v k))
 
-    next-kept : (v : ℕ) → T (st′ .settled v) → st′ .next v ≡ st .next v
+    pub next-kept : (v : ℕ) → T (st′ .settled v) → st′ .next v ≡ st .next v
     next-kept v k = ap (λ (b : Label). b .next) (kept-label v k) ∙ same-next v (low v (settled-in v k))
 
     settled-steps : (v : ℕ) → v < n → T (st .settled v) → st .steps v < 64

@@ -1,10 +1,10 @@
--- Neighbour lists that stand for a graph: what a neighbour is offered. And the end of a search: its labels are the tree.
+-- Neighbour lists that stand for a graph: what a neighbour is offered. And the end of a search: its labels say the chosen paths.
 -- Assumes nothing.
 use Prim.Native.Nat.{ℕ, _+_, _≤_, _<_}
 use native.Mathlib.Omega.{arith}
 use mathlib.Core.Path.{_≡_, sym, ap, _∙_}
 use mathlib.Core.List.{List, [], _∷_}
-use mathlib.Core.Option.{none, some}
+use mathlib.Core.Option.{Option, none, some}
 use mathlib.Core.Logic.{_⊎_, inl, inr}
 use lib.Dec.{T, ltb→lt, lt→ltb}
 use lib.ListN.{getD}
@@ -17,10 +17,10 @@ use Rattle.graph.specs.laws.Enumeration.{chosen-is}
 use Rattle.graph.specs.laws.ChosenPaths.{chosen-first}
 use Rattle.graph.specs.Lookups.{Says}
 use Rattle.graph.specs.laws.LookupLaws.{kept-ends}
-use Rattle.labels.specs.Labels.{noCost, labelAt, stateOf}
+use Rattle.labels.specs.Labels.{noCost, Label, labelAt, stateOf}
 use Rattle.labels.specs.laws.LabelLaws.{says-settled}
 use Rattle.labels.specs.Relaxing.{Unchanged, Changed, Relaxed}
-use Rattle.tree.specs.Trees.{Represents, Keyed, nextOf, SaysPath, TreeOf}
+use Rattle.tree.specs.Trees.{Represents, Keyed, nextOf, SaysPath}
 use Rattle.tree.specs.Tracked.{Tracked}
 
 module _ {g : Graph} {n : ℕ} {starts neighbours costs : List ℕ} (R : Represents g n starts neighbours costs) (u : ℕ) (u-in : u < n) where
@@ -51,7 +51,7 @@ module _ {g : Graph} {n : ℕ} {starts neighbours costs : List ℕ} (R : Represe
       go (inl U) = U .same
       go (inr C) = absurd (omega (arith, C .offered, neighbour-in (C .place) (C .after) (C .before)))
 
--- With no bridge waiting the labels are the tree.
+-- With no bridge waiting each label says the chosen path.
 module _ (g : Graph) (key : ℕ → ℕ) (n root : ℕ) (starts neighbours costs keys : List ℕ) (R : Represents g n starts neighbours costs) (K : Keyed g key keys)
     (labels path-ids : List ℕ) (M : Tracked g key n root labels path-ids) (none-waits : (x : ℕ) → x < n → noCost ≤ labelAt labels x .waits) where
   none-left : (x : ℕ) → x < g .size → (T (stateOf n labels path-ids .settled x) → ⊥) → T (stateOf n labels path-ids .labelled x) → ⊥
@@ -65,8 +65,8 @@ module _ (g : Graph) (key : ℕ → ℕ) (n root : ℕ) (starts neighbours costs
       go ([], e, W) = ap (λ (k : ℕ). labelAt labels k .next) (W .way) ∙ M .root-next ∙ sym (W .way) ∙ ap nextOf (sym e)
       go (v ∷ t, e, W) = S .next-is v t e ∙ ap nextOf (sym e)
 
-  pub search-tree : TreeOf g key root labels
-  search-tree = record { each = λ u i. go u i (kept-ends g (R .laws) key root (stateOf n labels path-ids) (M .kept) (K .laws) none-left u i) }
+  pub search-paths : (u : ℕ) → u < g .size → SaysPath g (chosen g key u root) (labelAt labels u)
+  search-paths u i = go u i (kept-ends g (R .laws) key root (stateOf n labels path-ids) (M .kept) (K .laws) none-left u i)
     where
       go : (u : ℕ) → u < g .size
           → ((p : List ℕ) × T (stateOf n labels path-ids .settled u) × (chosen g key u root ≡ some p) × Says g key (stateOf n labels path-ids) u p)
@@ -79,3 +79,9 @@ module _ (g : Graph) (key : ℕ → ℕ) (n root : ℕ) (starts neighbours costs
           no-cost : (noCost ≤ labelAt labels u .cost) ⊎ (labelAt labels u .cost < noCost) → labelAt labels u .cost ≡ noCost
           no-cost (inl l) = omega (arith, M .cost-at-most u (omega (arith, R .size-is)))
           no-cost (inr l) = absurd (none-left u i f (lt→ltb (labelAt labels u .cost) noCost l))
+
+-- What a label says of a path is in its cost, hops, next hop and first hop.
+pub says-alike : (g : Graph) (o : Option (List ℕ)) (b b′ : Label) → b′ .cost ≡ b .cost → b′ .hops ≡ b .hops → b′ .next ≡ b .next → b′ .first ≡ b .first
+    → SaysPath g o b → SaysPath g o b′
+says-alike g none b b′ c h n f s = c ∙ s
+says-alike g (some p) b b′ c h n f s = (c ∙ s .0, h ∙ s .1, n ∙ s .2, f ∙ s .3)
