@@ -1,4 +1,4 @@
--- What a search keeps true of its labels and masked PATHIDs.
+-- What a search keeps true of its labels and masked PATHIDs, and of the order in which it settles bridges.
 -- Assumes nothing.
 use Prim.Native.Nat.{ℕ, _+_, _≤_, _<_}
 use mathlib.Core.Path.{_≡_}
