@@ -9,10 +9,9 @@ use Rattle.rule.specs.Answers.{kindNumber}
 use Rattle.rule.specs.Plan.{Plan}
 use Rattle.rule.specs.PlanLaws.{PlanLaws}
 use Rattle.table.specs.declared.shape.Shape.{Shape}
-use Rattle.table.specs.Positions.{halfLinksFrom, wordsRead, lastKind, planAt}
+use Rattle.table.specs.Positions.{wordsRead, lastKind, planAt}
 use Rattle.table.specs.Whole.{Whole}
-use Rattle.earlier.specs.HalfLinks.{numberKey, Keyed}
-use Rattle.runs.specs.Runs.{isKind}
+use Rattle.runs.specs.Runs.{isKind, Numbers}
 use Rattle.verdict.specs.declared.examine.Examined.{Examined}
 
 -- What the answer stands for.
@@ -35,7 +34,7 @@ pub record Checked (t : List ℕ) (s : Shape) : Type 0 where
 
 -- The list is the index of the link numbers of its half-links.
 abbrev pub LinkIndex : List ℕ → List ℕ → Shape → Type 0
-LinkIndex index t s = Keyed numberKey index (wordsOf t) (halfLinksFrom s) (s .«half_links»)
+LinkIndex index t s = Numbers (wordsOf t) index s
 
 -- A table that is accepted is a checked one, and the list is its link index.
 abbrev pub Passed : List ℕ → List ℕ → Examined → Type 0
