@@ -2,6 +2,7 @@
 use Prim.Native.Nat.{ℕ, _+_, _*_, _≤_, _<_}
 use mathlib.Core.Path.{_≡_}
 use mathlib.Core.List.{List}
+use mathlib.Core.Bool.{Bool, cond}
 use lib.ListN.{length, getD}
 use Rattle.rule.specs.Words.{wordsOf}
 use Rattle.rule.specs.Plan.{Plan, bridgeAt}
@@ -12,12 +13,17 @@ use Rattle.table.specs.declared.shape.Shape.{Shape}
 use Rattle.table.specs.Positions.{planAt}
 use Rattle.verdict.specs.Examination.{Checked}
 use Rattle.tree.specs.Trees.{Represents, TreeOf}
-use Rattle.network.specs.Layout.{networkWords, bridgesIn, startsIn, neighboursIn, costsIn, portsIn, identifierIn}
+use Rattle.network.specs.Layout.{networkWords, bridgesIn, startsIn, neighboursIn, costsIn, portsIn, marksIn, identifierIn}
 use Rattle.network.specs.Neighbours.{NeighboursOf}
 
--- The words of the identifiers of the first `n` bridges.
-pub record IdentifiersOf (p : Plan) (n : ℕ) (words : List ℕ) : Type 0 where
-  pub held : (u : ℕ) → u < n → getD words (2 * u) 0 * 4294967296 + getD words (2 * u + 1) 0 ≡ bridgeAt p u .identifier
+-- The mark of a bridge: 1 where it is overloaded (02, A1).
+abbrev pub markOf : Bool → ℕ
+markOf overloaded = cond overloaded 1 0
+
+-- The words that the records of the first `n` bridges give: their marks, and behind those of 64 bridges their identifiers.
+pub record BridgeWords (p : Plan) (n : ℕ) (words : List ℕ) : Type 0 where
+  pub marked : (u : ℕ) → u < n → getD words u 0 ≡ markOf (bridgeAt p u .overloaded)
+  pub identified : (u : ℕ) → u < n → getD words (64 + 2 * u) 0 * 4294967296 + getD words (64 + 2 * u + 1) 0 ≡ bridgeAt p u .identifier
 
 -- The list is the network of the plan.
 pub record NetworkOf (p : Plan) (net : List ℕ) : Type 0 where
@@ -25,6 +31,7 @@ pub record NetworkOf (p : Plan) (net : List ℕ) : Type 0 where
   pub laws : PlanLaws p
   pub represents : Represents (graphOf p) (bridgesIn net) (startsIn net) (neighboursIn net) (costsIn net)
   pub hops : NeighboursOf p (bridgesIn net) (startsIn net) (neighboursIn net) (costsIn net) (portsIn net)
+  pub marked : (u : ℕ) → u < bridgesIn net → getD (marksIn net) u 0 ≡ markOf (bridgeAt p u .overloaded)
   pub identified : (u : ℕ) → u < bridgesIn net → identifierIn net u ≡ bridgeAt p u .identifier
 
 -- It is the network of a checked table.

@@ -3,5 +3,5 @@ pub mod LayoutLaws
 pub mod VisitLaws
 pub mod RowLaws
 pub mod NeighbourLaws
-pub mod IdentifierLaws
+pub mod BridgeLaws
 pub mod NetworkLaws

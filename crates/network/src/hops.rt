@@ -19,7 +19,7 @@ ghost use Rattle.rule.specs.Words.{wordsOf};
 ghost use Rattle.table.specs.Positions.{planAt};
 ghost use Rattle.table.specs.Numbered.{halfLinkNumber};
 ghost use Rattle.verdict.specs.Examination.{Checked, LinkIndex};
-ghost use Rattle.network.specs.Layout.{identifiersAt};
+ghost use Rattle.network.specs.Layout.{marksAt};
 ghost use Rattle.network.specs.Neighbours.{HopsOf, HopsListed, Kept};
 ghost use Rattle.network.specs.Rows.{NearIndex, Visited, Cleared, Offered, Gathering, HaveHops, HopsWritten};
 
@@ -40,7 +40,7 @@ fn offer_half_link(
     at: usize,
     network: &mut [u32],
 ) -> usize
-    requires { ⌜ Checked (now table) s × LinkIndex (now «link_index») (now table) s × (i < s .«half_links») × (length (now row) ≡ 64) × (at < 512) × (identifiersAt ≤ length (now network)) ⌝ }
+    requires { ⌜ Checked (now table) s × LinkIndex (now «link_index») (now table) s × (i < s .«half_links») × (length (now row) ≡ 64) × (at < 512) × (marksAt ≤ length (now network)) ⌝ }
     ensures { λ r. ⌜ Offered (planAt (wordsOf (now (table .entry))) s .halfLinks) (halfLinkNumber (wordsOf (now (table .entry))) s i) (now (row .entry)) (now (row .exit)) (now (network .entry)) (now (network .exit)) at r ⌝ }
 {
     let h = half_link(table, s, i);
@@ -70,7 +70,7 @@ fn gather_hops(
     row: &mut [u64],
     network: &mut [u32],
 ) -> usize
-    requires { ⌜ Checked (now table) s × LinkIndex (now «link_index») (now table) s × NearIndex (now «near_index») (now table) s × (u < s .bridges) × Visited (now table) s u (s .«half_links») from × Cleared (now row) × (identifiersAt ≤ length (now network)) ⌝ }
+    requires { ⌜ Checked (now table) s × LinkIndex (now «link_index») (now table) s × NearIndex (now «near_index») (now table) s × (u < s .bridges) × Visited (now table) s u (s .«half_links») from × Cleared (now row) × (marksAt ≤ length (now network)) ⌝ }
     ensures { λ r. ⌜ Gathering (now (table .entry)) s u from (now (network .entry)) (now (row .exit)) (now (network .exit)) 0 r ⌝ }
 {
     let mut at = from;
@@ -84,7 +84,7 @@ fn gather_hops(
 
 // Writes the cost and the near port of each hop from the place `from` to the place before `to`, as the row has them.
 fn write_hops(row: &[u64], from: usize, to: usize, network: &mut [u32])
-    requires { ⌜ (from ≤ to) × (to ≤ 512) × (identifiersAt ≤ length (now network)) × HaveHops (now row) (now network) from to ⌝ }
+    requires { ⌜ (from ≤ to) × (to ≤ 512) × (marksAt ≤ length (now network)) × HaveHops (now row) (now network) from to ⌝ }
     ensures { λ _. ⌜ HopsWritten (now (row .entry)) (now (network .entry)) (now (network .exit)) from to ⌝ }
 {
     let mut k = from;
@@ -106,7 +106,7 @@ fn list_hops(
     from: usize,
     network: &mut [u32],
 ) -> usize
-    requires { ⌜ Checked (now table) s × LinkIndex (now «link_index») (now table) s × NearIndex (now «near_index») (now table) s × (u < s .bridges) × Visited (now table) s u (s .«half_links») from × (identifiersAt ≤ length (now network)) ⌝ }
+    requires { ⌜ Checked (now table) s × LinkIndex (now «link_index») (now table) s × NearIndex (now «near_index») (now table) s × (u < s .bridges) × Visited (now table) s u (s .«half_links») from × (marksAt ≤ length (now network)) ⌝ }
     ensures { λ r. ⌜ HopsOf (planAt (wordsOf (now (table .entry))) s) u (now (network .exit)) from r × Visited (now (table .entry)) s (u + 1) (s .«half_links») r × Kept (now (network .entry)) (now (network .exit)) from ⌝ }
 {
     let mut row = [NO_HOP; MOST_BRIDGES];
@@ -123,7 +123,7 @@ pub fn list_neighbours(
     near_index: &[u32],
     network: &mut [u32],
 )
-    requires { ⌜ Checked (now table) s × LinkIndex (now «link_index») (now table) s × NearIndex (now «near_index») (now table) s × (identifiersAt ≤ length (now network)) ⌝ }
+    requires { ⌜ Checked (now table) s × LinkIndex (now «link_index») (now table) s × NearIndex (now «near_index») (now table) s × (marksAt ≤ length (now network)) ⌝ }
     ensures { λ _. ⌜ HopsListed (planAt (wordsOf (now (table .entry))) s) (s .bridges) 512 (now (network .exit)) × (length (now (network .exit)) ≡ length (now (network .entry))) ⌝ }
 {
     network[STARTS] = 0;

@@ -1,9 +1,9 @@
 // The network of a checked table.
+use crate::bridges::write_bridges;
 use crate::hops::list_neighbours;
-use crate::identifiers::write_identifiers;
 use crate::near::enter_near_bridges;
 use crate::parts::BRIDGES;
-use crate::parts::IDENTIFIERS;
+use crate::parts::MARKS;
 use key_index::chain::INDEX;
 use table::shape::Shape;
 ghost use mathlib.Core.Path.{_≡_};
@@ -19,6 +19,6 @@ pub fn make_network(table: &[u8], s: Shape, link_index: &[u32], network: &mut [u
     let mut near_index = [0u32; INDEX];
     enter_near_bridges(table, s, &mut near_index);
     list_neighbours(table, s, link_index, &near_index, network);
-    write_identifiers(table, s, &mut network[IDENTIFIERS..]);
+    write_bridges(table, s, &mut network[MARKS..]);
     network[BRIDGES] = s.bridges as u32;
 }

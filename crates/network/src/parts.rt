@@ -2,6 +2,7 @@
 use numbers::number::two_words;
 use rule::kinds::MOST_BRIDGES;
 use rule::kinds::MOST_HALF_LINKS;
+use tree::marks::MARKS_AFTER;
 ghost use mathlib.Core.Path.{_≡_};
 ghost use Prim.Native.Nat.{_≤_, _<_};
 ghost use lib.ListN.{length, getD};
@@ -9,16 +10,18 @@ ghost use Rattle.network.specs.Layout.{networkWords, bridgesIn, startsIn
 
 // How many bridges there are.
 pub const BRIDGES: usize = 0;
-// For each bridge, and one more, the place of its first hop.
-pub const STARTS: usize = BRIDGES + 1;
 // For each hop the bridge at its other end, its cost and its near port.
-pub const NEIGHBOURS: usize = STARTS + MOST_BRIDGES + 1;
+pub const NEIGHBOURS: usize = BRIDGES + 1;
 
 pub const COSTS: usize = NEIGHBOURS + MOST_HALF_LINKS;
 
 pub const PORTS: usize = COSTS + MOST_HALF_LINKS;
+// For each bridge, and one more, the place of its first hop. The search reads the marks behind them.
+pub const STARTS: usize = PORTS + MOST_HALF_LINKS;
+// For each bridge its mark.
+pub const MARKS: usize = STARTS + MARKS_AFTER;
 // For each bridge its identifier, two words.
-pub const IDENTIFIERS: usize = PORTS + MOST_HALF_LINKS;
+pub const IDENTIFIERS: usize = MARKS + MOST_BRIDGES;
 // The words of a network.
 pub const NETWORK: usize = IDENTIFIERS + 2 * MOST_BRIDGES;
 

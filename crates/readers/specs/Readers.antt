@@ -32,7 +32,7 @@ readOf l r =
 
 -- What the structs of the records stand for.
 abbrev pub bridgeValues : table·Bridge → Bridge
-bridgeValues b = record { spSourceId = b .«sp_source_id»; identifier = b .identifier }
+bridgeValues b = record { overloaded = b .overloaded; spSourceId = b .«sp_source_id»; identifier = b .identifier }
 
 abbrev pub halfLinkValues : table·HalfLink → HalfLink
 halfLinkValues h = record { metric = h .metric .0; near = h .near; far = h .far; port = h .port; link = h .link }

@@ -9,7 +9,11 @@ ghost use Rattle.rule.specs.Words.{wordsOf};
 ghost use Rattle.rule.specs.Records.{bridgeLayout, bridgeOf};
 ghost use Rattle.readers.specs.Readers.{bridgeValues, bridgeRead, readOf};
 
+// What the first word's bit 27 counts: the bridge is overloaded (02, A1).
+const OVERLOAD: u32 = 134217728;
+
 pub struct Bridge {
+    pub overloaded: bool,
     pub sp_source_id: u32,
     pub identifier: u64,
 }
@@ -29,6 +33,7 @@ pub fn bridge_of(part: &[u8]) -> Bridge
     let first = word_at(part, 0);
     let identifier = two_words(word_at(part, 1), word_at(part, 2));
     Bridge {
+        overloaded: first / OVERLOAD % 2 == 1,
         sp_source_id: first % 1048576,
         identifier: identifier,
     }
@@ -50,7 +55,7 @@ pub fn read_bridge(part: &[u8]) -> BridgeRead
     if part.len() < 12 {
         return BridgeRead::Cut;
     }
-    if word_at(part, 0) / 1048576 % 256 != 0 {
+    if word_at(part, 0) / 1048576 % 128 != 0 {
         return BridgeRead::ZeroBit;
     }
     let b = bridge_of(part);

@@ -4,13 +4,13 @@ use Prim.Native.Nat.{ℕ, _+_, _≤_, _<_}
 use mathlib.Core.Path.{_≡_}
 use mathlib.Core.Logic.{_⊎_, _↔_, _≢_}
 use mathlib.Core.List.{List, [], _∷_, _++_, map, reverse}
-use mathlib.Core.Bool.{true}
+use mathlib.Core.Bool.{true, false}
 use lib.Dec.{T}
 use lib.ListN.{length}
 use Rattle.lists.specs.Members.{In, occurrences}
 use Rattle.graph.specs.Order.{Lower}
 use Rattle.graph.specs.Graph.{cost, hops, pathId}
-use Rattle.rule.specs.Records.{HalfLink, Vid, Member, address}
+use Rattle.rule.specs.Records.{Vid, Member, address}
 use Rattle.rule.specs.Outcome.{answered, refusedAs}
 use Rattle.rule.specs.Plan.{Plan, bridgeAt, planOfVid}
 use Rattle.rule.specs.Check.{verdict}
@@ -45,11 +45,17 @@ pub record Bridges (s : Setting) (a b : ℕ) : Type 0 where
   pub second : b < length (s .plan .bridges)
   pub different : a ≢ b
 
--- A list of bridges from `a` to `b`, "each joined to the next" by a usable link.
-abbrev pub Chain : List HalfLink → ℕ → ℕ → List ℕ → Type 0
-Chain hs a b [] = ⊥
-Chain hs a b (u ∷ []) = (u ≡ a) × (u ≡ b)
-Chain hs a b (u ∷ v ∷ t) = (u ≡ a) × T (joined hs u v) × Chain hs v b (v ∷ t)
+-- "a chain or list of bridges with one between doesn't count" (02, A1): a list that came to the bridge `v` by a hop and goes on with `t`
+-- ends there, or `v` is not overloaded.
+abbrev pub LastOrNotOverloaded : Plan → ℕ → List ℕ → Type 0
+LastOrNotOverloaded p v [] = Unit {0}
+LastOrNotOverloaded p v (w ∷ t) = bridgeAt p v .overloaded ≡ false
+
+-- A list of bridges from `a` to `b`, "each joined to the next" by a usable link, with no overloaded bridge between.
+abbrev pub Chain : Plan → ℕ → ℕ → List ℕ → Type 0
+Chain p a b [] = ⊥
+Chain p a b (u ∷ []) = (u ≡ a) × (u ≡ b)
+Chain p a b (u ∷ v ∷ t) = (u ≡ a) × T (joined (p .halfLinks) u v) × LastOrNotOverloaded p v t × Chain p v b (v ∷ t)
 
 module _ (s : Setting) where
   -- The plan that the paths of the VID are chosen in. Chains, frames, costs and masked PATHIDs are those of it.
@@ -57,7 +63,7 @@ module _ (s : Setting) where
   vidPlan = planOfVid (s .plan) (s .vid)
 
   abbrev pub ChainIn : ℕ → ℕ → List ℕ → Type 0
-  ChainIn a b q = Chain (vidPlan .halfLinks) a b q
+  ChainIn a b q = Chain vidPlan a b q
 
   -- "no chain of usable links joins a and b".
   abbrev pub Apart : ℕ → ℕ → Type 0

@@ -4,13 +4,13 @@
 use Prim.Native.Nat.{ℕ, max}
 use mathlib.Core.List.{List, map, flatMap}
 use mathlib.Core.Option.{Option, none, some}
-use mathlib.Core.Bool.{Bool, true, _&&_, _||_}
+use mathlib.Core.Bool.{Bool, not, _&&_, _||_}
 use lib.Dec.{eqb, ltb}
 use lib.ListN.{length}
 use Rattle.lists.specs.Lists.{selected, anyPasses, lowestBy}
 use Rattle.graph.specs.Graph.{Graph}
 use Rattle.rule.specs.Records.{HalfLink, unusableMetric}
-use Rattle.rule.specs.Plan.{Plan}
+use Rattle.rule.specs.Plan.{Plan, bridgeAt}
 
 -- A link as it is seen from one of its bridges: the half-link there, and the other one.
 pub record Link : Type 0 where
@@ -80,6 +80,12 @@ abbrev pub costOf : Option Link → ℕ
 costOf none = 0
 costOf (some l) = linkCost l
 
--- The graph of a plan: what a hop costs, 0 where two bridges are not joined. Every bridge may lie between.
+-- The graph of a plan: what a hop costs, 0 where two bridges are not joined. "An overloaded bridge may begin or end a path and never
+-- lies between." (02, A1)
 abbrev pub graphOf : Plan → Graph
-graphOf p = record { size = length (p .bridges); hop = λ u v. costOf (hopLink (p .halfLinks) u v); between = λ u. true }
+graphOf p =
+    record {
+      size = length (p .bridges);
+      hop = λ u v. costOf (hopLink (p .halfLinks) u v);
+      between = λ u. not (bridgeAt p u .overloaded);
+    }

@@ -3,7 +3,7 @@
 use Prim.Native.Nat.{ℕ}
 use mathlib.Core.List.{List, [], _∷_, _++_}
 use mathlib.Core.Option.{Option}
-use mathlib.Core.Bool.{Bool}
+use mathlib.Core.Bool.{Bool, false}
 use lib.Dec.{eqb, ltb}
 use lib.ListN.{length, getD, getElem?}
 use Rattle.lists.specs.Lists.{selected, anyPasses}
@@ -42,8 +42,12 @@ alike p (end n) = 0
 abbrev pub knownBridge : Plan → ℕ → Bool
 knownBridge p n = ltb n (length (p .bridges))
 
+-- What stands for a bridge that is not there.
+abbrev pub noBridge : Bridge
+noBridge = record { overloaded = false; spSourceId = 0; identifier = 0 }
+
 abbrev pub bridgeAt : Plan → ℕ → Bridge
-bridgeAt p n = getD (p .bridges) n (record { spSourceId = 0; identifier = 0 })
+bridgeAt p n = getD (p .bridges) n noBridge
 
 -- The VID record number `k`, counted from 0 in record order.
 abbrev pub vidAt : Plan → ℕ → Vid

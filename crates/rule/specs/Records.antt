@@ -9,8 +9,9 @@ use lib.ListN.{getElem?}
 use Rattle.lists.specs.Lists.{selected, rising}
 use Rattle.rule.specs.Words.{word, bits}
 
--- A bridge: its SPsourceID, and its Bridge Identifier of 64 bits.
+-- A bridge: whether it is overloaded (02, A1), its SPsourceID, and its Bridge Identifier of 64 bits.
 pub record Bridge : Type 0 where
+  pub overloaded : Bool
   pub spSourceId : ℕ
   pub identifier : ℕ
 
@@ -56,8 +57,14 @@ endCount (end n) = some n
 abbrev pub fieldAt : ℕ → ℕ → ℕ → List ℕ → ℕ
 fieldAt n high low r = bits (word r n) high low
 
+-- "Bit 27 of a bridge record's first word now says so" (02, A1).
 abbrev pub bridgeOf : List ℕ → Bridge
-bridgeOf r = record { spSourceId = fieldAt 0 19 0 r; identifier = word r 1 * 2 ^ 32 + word r 2 }
+bridgeOf r =
+    record {
+      overloaded = eqb (fieldAt 0 27 27 r) 1;
+      spSourceId = fieldAt 0 19 0 r;
+      identifier = word r 1 * 2 ^ 32 + word r 2;
+    }
 
 abbrev pub halfLinkOf : List ℕ → HalfLink
 halfLinkOf r =
@@ -154,14 +161,15 @@ pub record Layout : Type 0 where
   pub ranges : List Range
   pub decoded : List ℕ → Record
 
--- "1 | bridge, 3: bits 27..20 zero, 19..0 SPsourceID; then the 64-bit Bridge Identifier | 64".
+-- "1 | bridge, 3: bits 27..20 zero, 19..0 SPsourceID; then the 64-bit Bridge Identifier | 64". Of the zero bits 26..20 are left: bit 27
+-- is the overload (02, A1).
 abbrev pub bridgeLayout : Layout
 bridgeLayout =
     record {
       kind = 1;
       words = 3;
       limit = 64;
-      zeroBits = fieldAt 0 27 20;
+      zeroBits = fieldAt 0 26 20;
       ranges =
           rangeOf (λ r. bridgeOf r .spSourceId) spSourceIdLimits
           ∷ rangeOf (λ r. address (bridgeOf r)) addressLimits

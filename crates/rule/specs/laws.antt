@@ -13,4 +13,5 @@ pub mod GroupLaws
 pub mod CallLaws
 pub mod ListBound
 pub mod SettingLaws
+pub mod NoneOverloaded
 pub mod Demand3Proved

@@ -5,21 +5,27 @@ use Prim.Native.Nat.{ℕ, _+_, _≤_, _<_}
 use mathlib.Core.Path.{_≡_}
 use mathlib.Core.List.{List, [], _∷_}
 use mathlib.Core.Option.{Option, none, some}
-use lib.Dec.{T}
+use lib.Dec.{eqb}
 use lib.ListN.{length, getD}
 use Rattle.graph.specs.Graph.{Graph, GraphLaws, KeyLaws, Joined, cost, hops}
 use Rattle.graph.specs.Chosen.{chosen}
 use Rattle.labels.specs.Labels.{noCost, Label, labelAt}
 
+-- The mark of the bridge `u`: the marks stand behind the starts of 64 bridges and one more. A bridge may lie between the ends of a path
+-- where its mark is 0.
+abbrev pub markAt : List ℕ → ℕ → ℕ
+markAt starts u = getD starts (65 + u) 0
+
 -- The lists stand for the graph: the places from `starts` of a bridge to `starts` of the next hold exactly the bridges joined to it,
--- with the cost of the hop. All bridges may lie between, and no hop costs more than 16,777,214, the greatest usable metric.
+-- with the cost of the hop, and the marks say which bridges may lie between. No hop costs more than 16,777,214, the greatest usable
+-- metric.
 pub record Represents (g : Graph) (n : ℕ) (starts neighbours costs : List ℕ) : Type 0 where
   pub size-is : g .size ≡ n
   pub most : n ≤ 64
   pub laws : GraphLaws g
-  pub all-between : (u : ℕ) → T (g .between u)
+  pub marked : (u : ℕ) → u < n → g .between u ≡ eqb (markAt starts u) 0
   pub hop-most : (u v : ℕ) → g .hop u v ≤ 16777214
-  pub has-starts : n < length starts
+  pub has-starts : 65 + n ≤ length starts
   pub in-order : (u : ℕ) → u < n → getD starts u 0 ≤ getD starts (u + 1) 0
   pub has-neighbours : (u : ℕ) → u < n → getD starts (u + 1) 0 ≤ length neighbours
   pub has-costs : (u : ℕ) → u < n → getD starts (u + 1) 0 ≤ length costs

@@ -1,5 +1,6 @@
 // The search for the tree of chosen paths to a root (01, "The chosen path"): again and again the nearest bridge that waits is settled
 // and its neighbours are relaxed, until none waits.
+use crate::marks::may_lie_between;
 use crate::settle::begin;
 use crate::settle::settle;
 use labels::label::waits_at;
@@ -18,7 +19,7 @@ ghost use Rattle.tree.specs.Tracked.{Advanceable, Advanced, Finished, No
 // The words of the list that the search keeps masked PATHIDs in: one for each bridge, with a place for each bridge.
 pub const PATH_IDS: usize = MOST_BRIDGES * MOST_BRIDGES;
 
-// Settles the bridge `u`, which waits at the least cost, and offers its neighbours the way through it.
+// Settles the bridge `u`, which waits at the least cost, and offers its neighbours the way through it where it may lie between.
 fn advance(
     starts: &[u32],
     neighbours: &[u32],
@@ -34,7 +35,9 @@ fn advance(
     ensures { λ _. ⌜ Advanced (now (starts .entry)) (now (neighbours .entry)) (now (costs .entry)) (now (keys .entry)) root u (now (labels .entry)) (now («path_ids» .entry)) (now (labels .exit)) (now («path_ids» .exit)) × BoundsOf (now (labels .exit)) (now (bounds .exit)) ⌝ }
 {
     settle(labels, path_ids, keys, root, u);
-    relax_all(starts, neighbours, costs, &path_ids[..], labels, bounds, u);
+    if may_lie_between(starts, u) {
+        relax_all(starts, neighbours, costs, &path_ids[..], labels, bounds, u);
+    }
 }
 
 // Settles bridge after bridge until none waits. Notes them in `order` as they are settled, and gives how many they are.

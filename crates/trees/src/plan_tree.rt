@@ -1,8 +1,9 @@
 // Trees of the chosen paths of a plan, from its network (01, "The chosen path").
 use ect::mask::mask_of;
-use network::identifiers::write_keys;
+use network::bridges::write_keys;
 use network::make::make_network;
 use network::parts::COSTS;
+use network::parts::IDENTIFIERS;
 use network::parts::NEIGHBOURS;
 use network::parts::NETWORK;
 use network::parts::PORTS;
@@ -37,7 +38,7 @@ pub fn tree_in_network(
     write_keys(network, mask, &mut keys);
     let n = bridges(network);
     tree(
-        &network[STARTS..NEIGHBOURS],
+        &network[STARTS..IDENTIFIERS],
         &network[NEIGHBOURS..COSTS],
         &network[COSTS..PORTS],
         &keys,

@@ -18,7 +18,7 @@ use Rattle.lists.specs.laws.GivenLaws.{flatMap-map, flatMap-flatMap, flatMap-se
 use Rattle.graph.specs.laws.ChosenPaths.{chosen-stay, chosen-first}
 use Rattle.rule.specs.Words.{wordsOf}
 use Rattle.rule.specs.Records.{HalfLink, Bridge, Vid, Member, bridgeOf, memberOf, address, allWithin, portLimits}
-use Rattle.rule.specs.Plan.{Plan, bridgeAt}
+use Rattle.rule.specs.Plan.{Plan, noBridge, bridgeAt}
 use Rattle.rule.specs.Links.{Link, hopLink, graphOf}
 use Rattle.rule.specs.laws.LinkLaws.{hop-takes}
 use Rattle.rule.specs.Identifiers.{keyOf}
@@ -66,7 +66,7 @@ module _ {t : List ℕ} {s : Shape} (R : Checked t s) where
   hs = p .halfLinks
 
   pub bridge-is : (d : ℕ) → d < s .bridges → bridgeAt p d ≡ bridgeNumber (wordsOf t) d
-  bridge-is d l = record-at bridgeOf 3 0 (wordsOf t) (s .bridges) d (record { spSourceId = 0; identifier = 0 }) l
+  bridge-is d l = record-at bridgeOf 3 0 (wordsOf t) (s .bridges) d noBridge l
 
   hop-port : (u v : ℕ) (l : Link) → hopLink hs u v ≡ some l → 0 < l .here .port
   hop-port u v l e = R .laws .half-links .fits (l .here) (hop-takes hs u v l e .link .here-listed) .least-port

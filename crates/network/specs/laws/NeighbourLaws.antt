@@ -23,7 +23,7 @@ use Rattle.verdict.specs.Examination.{Checked}
 use Rattle.verdict.specs.laws.CheckedLaws.{bridges-counted, few-bridges}
 use Rattle.links.specs.Hops.{noHop, LowestHop}
 use Rattle.links.specs.laws.HopLaws.{narrow, listed-there, lowest-of-same, hop-none, hop-some}
-use Rattle.network.specs.Layout.{startsAt, neighboursAt, costsAt, portsAt, startsIn, neighboursIn, costsIn, portsIn}
+use Rattle.network.specs.Layout.{neighboursAt, costsAt, portsAt, startsAt, marksAt, startsIn, neighboursIn, costsIn, portsIn}
 use Rattle.network.specs.laws.LayoutLaws.{part-at}
 use Rattle.network.specs.Neighbours.{HopsOf, HopsListed, SameHops, Kept, NeighboursOf}
 use Rattle.network.specs.Rows.{OfBridge, Visited, Gathering, HaveHops, HopsWritten}
@@ -141,7 +141,7 @@ module _ {t : List ℕ} {s : Shape} {before net : List ℕ} {u at : ℕ} (F : Fi
       u < s .bridges →
       s .bridges ≤ 64 →
       s .«half_links» ≤ 512 →
-      neighboursAt ≤ length before →
+      marksAt ≤ length before →
       {net′ : List ℕ} {at′ : ℕ} →
       HopsOf (planAt (wordsOf t) s) u net′ at at′ →
       Visited t s (u + 1) (s .«half_links») at′ →
@@ -179,7 +179,7 @@ module _ {t : List ℕ} {s : Shape} {before net : List ℕ} {u at : ℕ} (F : Fi
             same-ports = λ k h. other (portsAt + k) (omega arith);
           }
         where
-          other : (i : ℕ) → neighboursAt ≤ i → getD next i 0 ≡ getD net′ i 0
+          other : (i : ℕ) → i < startsAt → getD next i 0 ≡ getD net′ i 0
           other i a = getD-set-other net′ (startsAt + (u + 1)) i at′ 0 (λ e. omega arith)
 
       most-hops : at′ ≤ 512
@@ -205,7 +205,7 @@ module _ {t : List ℕ} {s : Shape} {before net : List ℕ} {u at : ℕ} (F : Fi
 -- The parts of a network whose hops are listed.
 module _ {p : Plan} {n : ℕ} {net : List ℕ} (few : n ≤ 64) (H : HopsListed p n 512 net) where
   start : (u : ℕ) → u ≤ n → getD (startsIn net) u 0 ≡ getD net (startsAt + u) 0
-  start u l = part-at net startsAt 65 u (omega arith)
+  start u l = part-at net startsAt 129 u (omega arith)
 
   inside : (u i : ℕ) → u < n → i < getD (startsIn net) (u + 1) 0 → i < 512
   inside u i l h = omega (arith, start (u + 1) (omega arith), H .few (u + 1) (omega arith))

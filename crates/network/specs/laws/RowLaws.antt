@@ -18,7 +18,7 @@ use Rattle.table.specs.Numbered.{halfLinkNumber}
 use Rattle.verdict.specs.Examination.{Checked}
 use Rattle.links.specs.Hops.{noHop, costOfHop, portOfHop, hopOf, LowestHop}
 use Rattle.links.specs.laws.HopLaws.{nothing-offered, hop-passed, hop-elsewhere, hop-lowered, far-inside}
-use Rattle.network.specs.Layout.{startsAt, neighboursAt, costsAt, portsAt, identifiersAt}
+use Rattle.network.specs.Layout.{startsAt, neighboursAt, costsAt, portsAt, marksAt}
 use Rattle.network.specs.Neighbours.{Kept}
 use Rattle.network.specs.Rows.{NearIndex, OfBridge, Visited, Cleared, Taken, Offered, Gathering, HaveHops, HopsWritten}
 use Rattle.network.specs.laws.VisitLaws.{last-inside, last-of-bridge, none-later, earlier-of-bridge, visited-few, visited-so-far, visited-more}
@@ -46,8 +46,8 @@ kept-on K M =
     }
 
 -- A word of the hops from the place `from` on is written: of their neighbours, costs or ports, each of which has 512 words.
-kept-but : (net : List ℕ) (from base at x : ℕ) → base % 512 ≡ neighboursAt → from ≤ at → at < 512 → Kept net (set net (base + at) x) from
-kept-but net from base at x b l h =
+kept-but : (net : List ℕ) (from base at x : ℕ) → base % 512 ≡ neighboursAt → base < startsAt → from ≤ at → at < 512 → Kept net (set net (base + at) x) from
+kept-but net from base at x b c l h =
     record {
       same-length = length-set net (base + at) x;
       same-starts = λ w m. other (startsAt + w) (λ e. omega arith);
@@ -179,7 +179,7 @@ module _ {near t : List ℕ} {s : Shape} (K : NearIndex near t s) {u from : ℕ}
             kept = G .kept;
           }
 
-      module _ (C : Checked t s) (few : s .«half_links» ≤ 512) (long : identifiersAt ≤ length before) where
+      module _ (C : Checked t s) (few : s .«half_links» ≤ 512) (long : marksAt ≤ length before) where
         far-in : h .far < 64
         far-in = far-inside C (place - 1) (omega (arith, G .within)) h refl
 
@@ -237,7 +237,7 @@ module _ {near t : List ℕ} {s : Shape} (K : NearIndex near t s) {u from : ℕ}
           still-kept (inl (a, q, f)) = subst (λ (x : List ℕ). Kept before x from) (sym f) (G .kept)
           still-kept (inr (a, q, f)) =
               subst (λ (x : List ℕ). Kept before x from) (sym f)
-              (kept-on (G .kept) (kept-but net from neighboursAt at (h .far) refl (G .in-order) (gathering-room few)))
+              (kept-on (G .kept) (kept-but net from neighboursAt at (h .far) refl (omega arith) (G .in-order) (gathering-room few)))
 
           every-listed : Listing → (v : ℕ) → v < 64 → getD row′ v 0 < noHop → (v ≡ h .far) ⊎ (v ≡ h .far → ⊥)
               → (k : ℕ) × (from ≤ k) × (k < at′) × (getD net′ (neighboursAt + k) 0 ≡ v)
@@ -308,7 +308,7 @@ writing-starts row net from =
       kept = all-kept net from;
     }
 
-module _ {row before net : List ℕ} {from k : ℕ} (H : HopsWritten row before net from k) (l : k < 512) (long : identifiersAt ≤ length before) where
+module _ {row before net : List ℕ} {from k : ℕ} (H : HopsWritten row before net from k) (l : k < 512) (long : marksAt ≤ length before) where
   abbrev hop : ℕ
   hop = getD row (getD net (neighboursAt + k) 0) 0
 
@@ -342,7 +342,8 @@ module _ {row before net : List ℕ} {from k : ℕ} (H : HopsWritten row before 
           all-neighbours = λ j m. other (neighboursAt + j) (λ e. omega arith) (λ e. omega arith) ∙ H .all-neighbours j m;
           kept =
               kept-on (H .kept)
-              (kept-on (kept-but net from costsAt k cost refl (H .in-order) l) (kept-but costed from portsAt k port refl (H .in-order) l));
+              (kept-on (kept-but net from costsAt k cost refl (omega arith) (H .in-order) l)
+              (kept-but costed from portsAt k port refl (omega arith) (H .in-order) l));
         }
       where
         costs : (j : ℕ) → from ≤ j → (j ≡ k) ⊎ (j ≡ k → ⊥) → j < k + 1 → getD ported (costsAt + j) 0 ≡ costOfHop (getD row (getD before (neighboursAt + j) 0) 0)

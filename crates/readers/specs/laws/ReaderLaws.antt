@@ -49,8 +49,12 @@ inside-all r = refl
 
 -- Records are the same where their fields are.
 pub same-bridge :
-    {s i : ℕ} {b : Bridge} → s ≡ b .spSourceId → i ≡ b .identifier → record { spSourceId = s; identifier = i } ≡ b
-same-bridge e f = λ i. record { spSourceId = e i; identifier = f i }
+    {o : Bool} {s n : ℕ} {b : Bridge} →
+    o ≡ b .overloaded →
+    s ≡ b .spSourceId →
+    n ≡ b .identifier →
+    record { overloaded = o; spSourceId = s; identifier = n } ≡ b
+same-bridge a b c = λ i. record { overloaded = a i; spSourceId = b i; identifier = c i }
 
 pub same-half-link :
     {m n f p l : ℕ} {h : HalfLink} →

@@ -172,42 +172,42 @@ unusableSecond =
     ∷ []
 
 -- What a figure asks of a table: the path for a VID between two bridges, the link that a hop takes, or the counts.
-data Question : Type 0 where
+pub data Question : Type 0 where
   path : List (List ℕ) → ℕ → ℕ → ℕ → Question
   hop : List (List ℕ) → ℕ → ℕ → Question
   check : List (List ℕ) → Question
 
 -- What it shows: the cost, hops and bridges of a path, the number and near port of a link, five counts, or a refusal's number.
-data Shown : Type 0 where
+pub data Shown : Type 0 where
   pathIs : ℕ → ℕ → List ℕ → Shown
   linkIs : ℕ → ℕ → Shown
   counts : ℕ → ℕ → ℕ → ℕ → ℕ → Shown
   refusal : ℕ → Shown
 
-abbrev shownPath : Outcome (Written CostAndHops) → Shown
+abbrev pub shownPath : Outcome (Written CostAndHops) → Shown
 shownPath (answered w) = pathIs (w .values .cost) (w .values .hops) (w .words)
 shownPath (refused n kind at) = refusal n
 
 -- Two bridges that are not joined are shown as link 0, which no link has.
-abbrev shownLink : Outcome (Option Link) → Shown
+abbrev pub shownLink : Outcome (Option Link) → Shown
 shownLink (answered none) = linkIs 0 0
 shownLink (answered (some l)) = linkIs (number l) (l .here .port)
 shownLink (refused n kind at) = refusal n
 
-abbrev shownCounts : Outcome Counts → Shown
+abbrev pub shownCounts : Outcome Counts → Shown
 shownCounts (answered c) = counts (c .bridges) (c .«half_links») (c .«usable_links») (c .vids) (c .members)
 shownCounts (refused n kind at) = refusal n
 
-abbrev shown : Question → Shown
+abbrev pub shown : Question → Shown
 shown (path t vid a b) = shownPath (pathAnswer (table t) vid a b)
 shown (hop t u v) = shownLink (andThen (verdict (table t)) λ p. answered (hopLink (p .halfLinks) u v))
 shown (check t) = shownCounts (checkOutcome (table t))
 
-record Figure : Type 0 where
-  question : Question
-  expected : Shown
+pub record Figure : Type 0 where
+  pub question : Question
+  pub expected : Shown
 
-abbrev figure : Question → Shown → Figure
+abbrev pub figure : Question → Shown → Figure
 figure q s = record { question = q; expected = s }
 
 abbrev figures : List Figure

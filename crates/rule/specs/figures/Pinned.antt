@@ -69,7 +69,7 @@ module _ {A : Type 0} where
 
 -- The fields of a record.
 abbrev fieldsOf : Record → List ℕ
-fieldsOf (bridge b) = b .spSourceId ∷ b .identifier ∷ []
+fieldsOf (bridge b) = flag (b .overloaded) ∷ b .spSourceId ∷ b .identifier ∷ []
 fieldsOf (halfLink h) = h .metric ∷ h .near ∷ h .far ∷ h .port ∷ h .link ∷ []
 fieldsOf (vid v) = v .vid ∷ v .index ∷ []
 fieldsOf (member m) = flag (m .transmits) ∷ flag (m .receives) ∷ m .isid ∷ m .bridge ∷ m .vid ∷ []
@@ -271,8 +271,9 @@ pins =
     ∷ pin (check (vid10 ∷ (0x43000100 ∷ []) ∷ [])) (fault 3 4 1)
     ∷ pin (check (vid10 ∷ [])) (bare 3 1)
     ∷ pin (check (bridge0 ∷ bridge1 ∷ [])) (bare 3 6)
-    -- "4. A zero bit is set": bits 27..20 of a bridge, 27..24 of a half-link, 27..26 of a member.
-    ∷ pin (check ((0x18000001 ∷ 0x80000200 ∷ 0x00000001 ∷ []) ∷ [])) (fault 4 1 0)
+    -- "4. A zero bit is set": bits 26..20 of a bridge (02, A1, took bit 27), 27..24 of a half-link, 27..26 of a member.
+    ∷ pin (check ((0x14000001 ∷ 0x80000200 ∷ 0x00000001 ∷ []) ∷ [])) (fault 4 1 0)
+    ∷ pin (check ((0x1c000001 ∷ 0x80000200 ∷ 0x00000001 ∷ []) ∷ [])) (fault 4 1 0)
     ∷ pin (check ((0x10100001 ∷ 0x80000200 ∷ 0x00000001 ∷ []) ∷ [])) (fault 4 1 0)
     ∷ pin (check ((0x2800000a ∷ 0x00000001 ∷ 0x00010007 ∷ []) ∷ [])) (fault 4 2 0)
     ∷ pin (check ((0x2100000a ∷ 0x00000001 ∷ 0x00010007 ∷ []) ∷ [])) (fault 4 2 0)
@@ -335,13 +336,13 @@ pins =
     ∷ pin (check (bridge0 ∷ bridge1 ∷ half01 ∷ half01 ∷ [])) (fault 8 2 9)
     ∷ pin (check ((0xf0000001 ∷ []) ∷ (0x00000000 ∷ []) ∷ [])) (fault 6 15 0)
     -- "For 2 to 10 the first faulty record counts".
-    ∷ pin (check ((0x10000000 ∷ 0x80000200 ∷ 0x00000001 ∷ []) ∷ (0x18000001 ∷ 0x80000200 ∷ 0x00000001 ∷ []) ∷ [])) (fault 6 1 0)
-    -- "A table is accepted when none of 1 to 10 applies to it": both ends of each range, any priority, and half-links and members that
-    -- differ from each other in one value alone. "T and R may both be 0."
+    ∷ pin (check ((0x10000000 ∷ 0x80000200 ∷ 0x00000001 ∷ []) ∷ (0x14000001 ∷ 0x80000200 ∷ 0x00000001 ∷ []) ∷ [])) (fault 6 1 0)
+    -- "A table is accepted when none of 1 to 10 applies to it": both ends of each range, any priority, overloaded or not, and half-links
+    -- and members that differ from each other in one value alone. "T and R may both be 0."
     ∷ pin
     (check
     ((0x10000001 ∷ 0x00000000 ∷ 0x00000001 ∷ [])
-    ∷ (0x100fffff ∷ 0xfffffeff ∷ 0xffffffff ∷ [])
+    ∷ (0x180fffff ∷ 0xfffffeff ∷ 0xffffffff ∷ [])
     ∷ (0x20000001 ∷ 0x00000001 ∷ 0x00010001 ∷ [])
     ∷ (0x20ffffff ∷ 0x00010000 ∷ 0x00010001 ∷ [])
     ∷ (0x20fffffe ∷ 0x00000001 ∷ 0x0fffffff ∷ [])
@@ -354,8 +355,8 @@ pins =
     ∷ (0xf0000019 ∷ [])
     ∷ []))
     (rows
-    ((1 ∷ 1 ∷ 1 ∷ [])
-    ∷ (1 ∷ 1048575 ∷ 0xfffffeffffffffff ∷ [])
+    ((1 ∷ 0 ∷ 1 ∷ 1 ∷ [])
+    ∷ (1 ∷ 1 ∷ 1048575 ∷ 0xfffffeffffffffff ∷ [])
     ∷ (2 ∷ 1 ∷ 0 ∷ 1 ∷ 1 ∷ 1 ∷ [])
     ∷ (2 ∷ 16777215 ∷ 1 ∷ 0 ∷ 1 ∷ 1 ∷ [])
     ∷ (2 ∷ 16777214 ∷ 0 ∷ 1 ∷ 4095 ∷ 65535 ∷ [])
@@ -389,10 +390,10 @@ pins =
     -- "ECT masks, index 1 to 16, hexadecimal: 00 FF 88 77 44 33 CC BB 22 11 66 55 AA 99 DD EE."
     ∷ pin (numbers (map maskOf (rising 1 16)))
     (numbers (0x00 ∷ 0xff ∷ 0x88 ∷ 0x77 ∷ 0x44 ∷ 0x33 ∷ 0xcc ∷ 0xbb ∷ 0x22 ∷ 0x11 ∷ 0x66 ∷ 0x55 ∷ 0xaa ∷ 0x99 ∷ 0xdd ∷ 0xee ∷ []))
-    -- "bits 27..20 zero, 19..0 SPsourceID", "near bridge (16), far bridge (16)" and so on: the fields of words of ones, and their places.
+    -- "19..0 SPsourceID", "near bridge (16), far bridge (16)" and so on: the zero bits and fields of words of ones, and their places.
     ∷ pin (fieldRows (0xffffffff ∷ 0xffffffff ∷ 0xffffffff ∷ []))
     (rows
-    ((0xff ∷ 0xfffff ∷ 0xffffffffffffffff ∷ [])
+    ((0x7f ∷ 1 ∷ 0xfffff ∷ 0xffffffffffffffff ∷ [])
     ∷ (0xf ∷ 0xffffff ∷ 0xffff ∷ 0xffff ∷ 0xffff ∷ 0xffff ∷ [])
     ∷ (0 ∷ 0xfff ∷ 0xffff ∷ [])
     ∷ (3 ∷ 1 ∷ 1 ∷ 0xffffff ∷ 0xffff ∷ 0xffff ∷ [])
@@ -400,7 +401,7 @@ pins =
     ∷ []))
     ∷ pin (fieldRows (0x1e345678 ∷ 0x9abcdef0 ∷ 0x13579bdf ∷ []))
     (rows
-    ((0xe3 ∷ 0x45678 ∷ 0x9abcdef013579bdf ∷ [])
+    ((0x63 ∷ 1 ∷ 0x45678 ∷ 0x9abcdef013579bdf ∷ [])
     ∷ (0xe ∷ 0x345678 ∷ 0x9abc ∷ 0xdef0 ∷ 0x1357 ∷ 0x9bdf ∷ [])
     ∷ (0 ∷ 0xe34 ∷ 0x5678 ∷ [])
     ∷ (3 ∷ 1 ∷ 0 ∷ 0x345678 ∷ 0x9abc ∷ 0xdef0 ∷ [])
@@ -416,8 +417,7 @@ pins =
     ∷ pin (numbers (word (5 ∷ []) 0 ∷ word (5 ∷ []) 1 ∷ [])) (numbers (5 ∷ 0 ∷ []))
     -- What an index that no VID has gives, a bridge and a VID that are not there, and the number of records of each kind.
     ∷ pin (numbers (map maskOf (0 ∷ 17 ∷ []))) (numbers (0 ∷ 0 ∷ []))
-    ∷ pin (ofChain λ p. numbers (bridgeAt p 4 .spSourceId ∷ bridgeAt p 4 .identifier ∷ vidAt p 2 .vid ∷ vidAt p 2 .index ∷ []))
-    (numbers (0 ∷ 0 ∷ 0 ∷ 0 ∷ []))
+    ∷ pin (ofChain λ p. numbers (fieldsOf (bridge (bridgeAt p 4)) ++ fieldsOf (vid (vidAt p 2)))) (numbers (0 ∷ 0 ∷ 0 ∷ 0 ∷ 0 ∷ []))
     ∷ pin (ofChain λ p. numbers (bridgeAt p 3 .spSourceId ∷ vidAt p 1 .vid ∷ vidAt p 1 .index ∷ [])) (numbers (4 ∷ 11 ∷ 2 ∷ []))
     ∷ pin
     (ofChain λ p.

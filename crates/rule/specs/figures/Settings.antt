@@ -4,6 +4,7 @@ use Prim.Native.Nat.{ℕ, _<_}
 use mathlib.Core.Path.{_≡_, refl, ap, _∙_}
 use mathlib.Core.List.{List, [], _∷_, map, reverse, flatMap}
 use mathlib.Core.Logic.{inl}
+use mathlib.Core.Bool.{false}
 use native.Mathlib.Omega.{arith}
 use lib.ListN.{length}
 use Rattle.lists.specs.Lists.{selected, anyPasses}
@@ -56,10 +57,10 @@ abbrev pub diamondPlan : Plan
 diamondPlan =
     record {
       bridges =
-          record { spSourceId = 1; identifier = 0x8000020000000001 }
-          ∷ record { spSourceId = 2; identifier = 0x8000020000000002 }
-          ∷ record { spSourceId = 3; identifier = 0x8000020000000003 }
-          ∷ record { spSourceId = 4; identifier = 0x8000020000000004 }
+          record { overloaded = false; spSourceId = 1; identifier = 0x8000020000000001 }
+          ∷ record { overloaded = false; spSourceId = 2; identifier = 0x8000020000000002 }
+          ∷ record { overloaded = false; spSourceId = 3; identifier = 0x8000020000000003 }
+          ∷ record { overloaded = false; spSourceId = 4; identifier = 0x8000020000000004 }
           ∷ [];
       halfLinks =
           record { metric = 10; near = 0; far = 1; port = 1; link = 1 }

@@ -76,8 +76,8 @@ abbrev pub workedPlan : Plan
 workedPlan =
     record {
       bridges =
-          record { spSourceId = 1; identifier = 0x8000020000000001 }
-          ∷ record { spSourceId = 2; identifier = 0x8000020000000002 }
+          record { overloaded = false; spSourceId = 1; identifier = 0x8000020000000001 }
+          ∷ record { overloaded = false; spSourceId = 2; identifier = 0x8000020000000002 }
           ∷ [];
       halfLinks =
           record { metric = 10; near = 0; far = 1; port = 1; link = 7 }

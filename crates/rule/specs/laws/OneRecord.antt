@@ -7,17 +7,17 @@ use Rattle.lists.specs.Members.{In}
 use Rattle.lists.specs.laws.ListNotions.{Distinct}
 use Rattle.lists.specs.laws.DistinctLaws.{every-two-one, every-two-distinct, place-in, distinct-places}
 use Rattle.rule.specs.Records.{HalfLink, Vid, Member, address}
-use Rattle.rule.specs.Plan.{Plan, bridgeAt}
+use Rattle.rule.specs.Plan.{Plan, noBridge, bridgeAt}
 use Rattle.rule.specs.PlanLaws.{BridgesApart, PortsApart, VidsApart, MembersApart, PlanLaws}
 
 module _ (p : Plan) (L : PlanLaws p) where
   pub listed-bridge : (u : ℕ) → u < length (p .bridges) → In (bridgeAt p u) (p .bridges)
-  listed-bridge u l = place-in (p .bridges) u (record { spSourceId = 0; identifier = 0 }) l
+  listed-bridge u l = place-in (p .bridges) u noBridge l
 
   -- Two numbers of bridges that are not apart are one.
   one-number : (u v : ℕ) → u < length (p .bridges) → v < length (p .bridges)
       → (BridgesApart (bridgeAt p u) (bridgeAt p v) → ⊥) → (BridgesApart (bridgeAt p v) (bridgeAt p u) → ⊥) → u ≡ v
-  one-number u v h k f g = distinct-places (p .bridges) (record { spSourceId = 0; identifier = 0 })
+  one-number u v h k f g = distinct-places (p .bridges) noBridge
       (every-two-distinct BridgesApart (p .bridges) (L .bridges .apart) (λ b i A. A .sources refl)) u v h k
       (every-two-one BridgesApart (p .bridges) (L .bridges .apart) (bridgeAt p u) (bridgeAt p v) (listed-bridge u h) (listed-bridge v k) f g)
 

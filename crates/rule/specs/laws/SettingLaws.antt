@@ -5,19 +5,20 @@ use native.Mathlib.Omega.{arith}
 use mathlib.Core.Path.{_≡_, refl, sym, ap, _∙_, subst}
 use mathlib.Core.List.{List, [], _∷_, _++_}
 use mathlib.Core.Option.{Option, none, some}
+use mathlib.Core.Bool.{Bool, false, not}
+use lib.Dec.{T}
 use lib.ListN.{length, drop}
-use Rattle.graph.specs.Graph.{IsPath, hops}
-use Rattle.graph.specs.laws.Notions.{Linked}
+use Rattle.graph.specs.Graph.{GoesOn, IsPath, hops}
 use Rattle.lists.specs.laws.DistinctLaws.{append-same}
-use Rattle.graph.specs.laws.Paths.{linked-path, path-linked}
 use Rattle.graph.specs.laws.ChosenPaths.{chosen-first}
 use Rattle.graph.specs.laws.Enumeration.{path-chosen}
 use Rattle.rule.specs.Outcome.{Outcome, answered, Written, lentTo}
+use Rattle.rule.specs.Plan.{bridgeAt}
 use Rattle.rule.specs.Paths.{chosenPath}
 use Rattle.rule.specs.Entries.{entryListOf}
 use Rattle.rule.specs.Answers.{CostAndHops}
 use Rattle.rule.specs.Calls.{measured, pathFound, pathOutcome, entriesOutcome}
-use Rattle.rule.specs.Demand3.{Setting, vidPlan, ChainIn, Given}
+use Rattle.rule.specs.Demand3.{LastOrNotOverloaded, Setting, vidPlan, ChainIn, Given}
 use Rattle.rule.specs.PlanLaws.{PlanLaws}
 use Rattle.rule.specs.laws.Accepted.{accepted-laws}
 use Rattle.rule.specs.laws.LinkLaws.{joined-says, says-joined}
@@ -47,20 +48,29 @@ module _ (s : Setting) where
   unfolding pathOutcome
   path-call a b h k lent = ap (lentTo lent) (path-asked (s .table) (s .plan) (s .accepted) laws (s .vid) (s .vidOfTable) a b h k)
 
-  -- A list of bridges, each joined to the next, is a path of the plan's graph, and a path of the graph is such a list.
-  chain-linked : (a b : ℕ) (q : List ℕ) → ChainIn s a b q → Linked (graph net) a b q
-  chain-linked a b (u ∷ []) (e, f) = (e, f)
-  chain-linked a b (u ∷ v ∷ t) (e, j, c) = (e, (joined-says (vidPlan s) (vid-laws net) u v j, chain-linked v b (v ∷ t) c .1))
+  -- The bridges of a chain that are not overloaded are those that may lie between.
+  may-go-on : (v : ℕ) (t : List ℕ) → LastOrNotOverloaded (vidPlan s) v t → GoesOn (graph net) v t
+  may-go-on v [] m = tt
+  may-go-on v (w ∷ t) m = subst (λ (z : Bool). T (not z)) (sym m) tt
 
-  linked-chain : (a b : ℕ) (q : List ℕ) → Linked (graph net) a b q → ChainIn s a b q
-  linked-chain a b (u ∷ []) (e, o) = (e, o)
-  linked-chain a b (u ∷ v ∷ t) (e, (j, o)) = (e, says-joined (vidPlan s) (vid-laws net) u v j, linked-chain v b (v ∷ t) (refl, o))
+  not-overloaded : (v : ℕ) (t : List ℕ) → GoesOn (graph net) v t → LastOrNotOverloaded (vidPlan s) v t
+  not-overloaded v [] m = tt
+  not-overloaded v (w ∷ t) m = clear (bridgeAt (vidPlan s) v .overloaded) m
+    where
+      clear : (o : Bool) → T (not o) → o ≡ false
+      clear false h = refl
 
+  -- A list of bridges, each joined to the next and no overloaded one between, is a path of the plan's graph, and a path of the graph is
+  -- such a list.
   pub chain-path : (a b : ℕ) (q : List ℕ) → ChainIn s a b q → IsPath (graph net) a b q
-  chain-path a b q c = linked-path (graph net) (λ v. tt) a b q (chain-linked a b q c)
+  chain-path a b (u ∷ []) (e, f) = (e, f)
+  chain-path a b (u ∷ v ∷ t) (e, j, m, c) =
+      (e, (joined-says (vidPlan s) (vid-laws net) u v j, may-go-on v t m, chain-path v b (v ∷ t) c .1))
 
   pub path-chain : (a b : ℕ) (q : List ℕ) → IsPath (graph net) a b q → ChainIn s a b q
-  path-chain a b q o = linked-chain a b q (path-linked (graph net) a b q o)
+  path-chain a b (u ∷ []) (e, o) = (e, o)
+  path-chain a b (u ∷ v ∷ t) (e, (j, m, o)) =
+      (e, says-joined (vidPlan s) (vid-laws net) u v j, not-overloaded v t m, path-chain v b (v ∷ t) (refl, o))
 
   -- Where a chain of usable links joins two bridges a path is chosen.
   pub chain-chosen : (a b : ℕ) (q : List ℕ) → ChainIn s a b q → (path : List ℕ) × ChosenFor net a b path

@@ -1,14 +1,15 @@
--- The two bridges of the listing program's table (01, "Diamonds and other figures"), joined at cost 12: what is asked of the lists
--- that stand for a graph can be met.
+-- The two bridges of the listing program's table (01, "Diamonds and other figures"), joined at cost 12, the second overloaded: what is
+-- asked of the lists that stand for a graph can be met.
 -- Assumes nothing.
 use Prim.Native.Nat.{ℕ, zero, suc, _+_, _≤_, _<_}
 use native.Mathlib.Omega.{arith}
 use mathlib.Core.Path.{_≡_, refl}
-use mathlib.Core.List.{List, [], _∷_}
-use mathlib.Core.Bool.{true}
-use lib.ListN.{getD}
+use mathlib.Core.List.{List, [], _∷_, _++_}
+use mathlib.Core.Bool.{Bool, true, false}
+use lib.Dec.{eqb}
+use lib.ListN.{getD, replicate}
 use Rattle.graph.specs.Graph.{Graph, Joined}
-use Rattle.tree.specs.Trees.{Represented}
+use Rattle.tree.specs.Trees.{markAt, Represented}
 
 abbrev pairHop : ℕ → ℕ → ℕ
 pairHop zero zero = 0
@@ -18,11 +19,16 @@ pairHop (suc zero) zero = 12
 pairHop (suc zero) (suc v) = 0
 pairHop (suc (suc u)) v = 0
 
-abbrev pair : Graph
-pair = record { size = 2; hop = pairHop; between = λ u. true }
+abbrev pairBetween : ℕ → Bool
+pairBetween zero = true
+pairBetween (suc u) = false
 
+abbrev pair : Graph
+pair = record { size = 2; hop = pairHop; between = pairBetween }
+
+-- The starts, and behind those of 64 bridges and one more the marks.
 abbrev starts : List ℕ
-starts = 0 ∷ 1 ∷ 2 ∷ []
+starts = 0 ∷ 1 ∷ 2 ∷ (replicate 62 0 ++ (0 ∷ 1 ∷ []))
 
 abbrev neighbours : List ℕ
 neighbours = 1 ∷ 0 ∷ []
@@ -84,7 +90,7 @@ pair-represented = record {
     size-is = refl;
     most = omega arith;
     laws = record { symmetric = symmetric; inside = inside };
-    all-between = λ u. tt;
+    marked = at-bridge (λ u. pairBetween u ≡ eqb (markAt starts u) 0) refl refl;
     hop-most = hop-most;
     has-starts = omega arith;
     in-order = at-bridge (λ u. getD starts u 0 ≤ getD starts (u + 1) 0) (omega arith) (omega arith);

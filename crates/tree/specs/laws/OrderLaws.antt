@@ -17,9 +17,8 @@ use Rattle.lists.specs.laws.SumLaws.{sum-falls, sum-bounded}
 use Rattle.graph.specs.Graph.{Graph}
 use Rattle.labels.specs.Labels.{noCost, labelAt, stateOf, settledLabels, settledPathIds}
 use Rattle.labels.specs.laws.LabelLaws.{settled-says, says-settled}
-use Rattle.labels.specs.Relaxing.{Relaxed}
 use Rattle.tree.specs.Trees.{Ordered}
-use Rattle.tree.specs.Tracked.{openBridges, InOrder, Noted}
+use Rattle.tree.specs.Tracked.{PassedOn, openBridges, InOrder, Noted}
 use Rattle.tree.specs.laws.StepLaws.{Step, settles, next-steps, only, still, done, steps-kept, next-kept}
 
 -- The root alone is settled.
@@ -61,7 +60,7 @@ module _ (n root : ℕ) (labels : List ℕ) (root-in : root < n) (root-settled :
 -- The bridge `u` is settled next.
 module _ {g : Graph} {key : ℕ → ℕ} {n root : ℕ} {starts neighbours costs keys labels path-ids : List ℕ} {u : ℕ}
     (Z : Step g key n root starts neighbours costs keys labels path-ids u) (labels₂ : List ℕ)
-    (X : Relaxed starts neighbours costs (settledPathIds labels path-ids u (getD keys u 0)) u (settledLabels labels root u) labels₂)
+    (X : PassedOn starts neighbours costs (settledPathIds labels path-ids u (getD keys u 0)) u (settledLabels labels root u) labels₂)
     (fewer : openBridges n labels₂ < openBridges n labels) (order : List ℕ) (count : ℕ) (O : InOrder n root labels order count) where
   abbrev order₂ : List ℕ
   order₂ = set order count u

@@ -2,12 +2,13 @@
 -- Assumes nothing.
 use Prim.Native.Nat.{ℕ, _+_, _≤_, _<_}
 use native.Mathlib.Omega.{arith}
-use mathlib.Core.Path.{_≡_, sym, ap, _∙_, subst}
+use mathlib.Core.Path.{_≡_, refl, sym, ap, _∙_, subst}
 use mathlib.Core.List.{List}
 use mathlib.Core.Logic.{_⊎_, inl, inr}
 use mathlib.Core.Bool.{Bool, true, false, cond}
-use lib.Dec.{T}
+use lib.Dec.{T, eqb}
 use lib.ListN.{length, getD, set}
+use borrow.Author.Tests.{eqb-true, eqb-false}
 use Rattle.lists.specs.Lists.{rising}
 use Rattle.lists.specs.laws.NumberLaws.{le-or-gt}
 use Rattle.lists.specs.laws.SelectedLaws.{in-rising}
@@ -21,9 +22,9 @@ use Rattle.labels.specs.Nearest.{BoundsOf, Nearest}
 use Rattle.labels.specs.laws.NearestLaws.{bounds-settled}
 use Rattle.labels.specs.Relaxing.{Relaxable, Relaxed}
 use Rattle.tree.specs.Settling.{Settleable, Begun}
-use Rattle.tree.specs.Trees.{Represents, Keyed, Represented, Ordered, TreeOf, IsTree}
-use Rattle.tree.specs.Tracked.{Tracked, Underway, openBridges, InOrder, Advanceable, Advanced, Finished, Noted}
-use Rattle.tree.specs.laws.TreeLaws.{beyond-same, search-paths, says-alike}
+use Rattle.tree.specs.Trees.{markAt, Represents, Keyed, Represented, Ordered, TreeOf, IsTree}
+use Rattle.tree.specs.Tracked.{Tracked, PassedOn, Underway, openBridges, InOrder, Advanceable, Advanced, Finished, Noted}
+use Rattle.tree.specs.laws.TreeLaws.{beyond-same, beyond-kept, search-paths, says-alike}
 use Rattle.tree.specs.laws.StartLaws.{start-relaxable, alone, start-tracked}
 use Rattle.tree.specs.laws.OrderLaws.{order-starts, order-goes-on, other-parts, order-left}
 use Rattle.tree.specs.laws.StepLaws.{Step, not-settled, step-settleable, step-relaxable, still, done, step-tracked, length-path-ids}
@@ -77,14 +78,14 @@ module _ (n : ℕ) (starts neighbours costs keys : List ℕ) (root : ℕ) where
     one-step : Step (U .represented .graph) (U .represented .key) n root starts neighbours costs keys labels path-ids u
     one-step = step (U .represented .graph) (U .represented .key) (U .represented .represents) (U .represented .keyed)
 
-    module _ (labels₂ : List ℕ) (X : Relaxed starts neighbours costs (settledPathIds labels path-ids u (getD keys u 0)) u (settledLabels labels root u) labels₂) where
+    module _ (labels₂ : List ℕ) (X : PassedOn starts neighbours costs (settledPathIds labels path-ids u (getD keys u 0)) u (settledLabels labels root u) labels₂) where
       underway : Underway n starts neighbours costs keys root labels₂ (settledPathIds labels path-ids u (getD keys u 0))
       underway = record {
         root-in = U .root-in;
         has-labels = omega (arith, X .same-length, length-settled labels root u, U .has-labels);
         has-path-ids = omega (arith, length-path-ids one-step, U .has-path-ids);
         represented = U .represented;
-        none-beyond = λ x l k. ap (λ (b : Label). b .waits) (beyond-same (U .represented .represents) u inside X x l k
+        none-beyond = λ x l k. ap (λ (b : Label). b .waits) (beyond-kept (U .represented .represents) u inside X x l k
             ∙ label-unsettled labels root u x k (N .inside) (omega (arith, inside))) ∙ U .none-beyond x l k;
         tracked = λ g key R K. step-tracked (step g key R K) labels₂ X;
       }
@@ -153,7 +154,7 @@ module _ (n : ℕ) (starts neighbours costs keys : List ℕ) (root : ℕ) where
     pub search-ends : IsTree n starts neighbours costs keys root labels′
     search-ends = record { of-graph = tree-of }
 
--- The bridge that is to be settled next is settled, and its neighbours are relaxed.
+-- The bridge that is to be settled next is settled, and passes the way on.
 module _ {starts neighbours costs keys : List ℕ} {root : ℕ} {labels path-ids : List ℕ} {u : ℕ} (A : Advanceable starts neighbours costs keys root labels path-ids u) where
   next-step : Step (A .underway .represented .graph) (A .underway .represented .key) (A .bridges) root starts neighbours costs keys labels path-ids u
   next-step = one-step (A .bridges) starts neighbours costs keys root (A .underway) (A .nearest) (A .waits)
@@ -161,19 +162,39 @@ module _ {starts neighbours costs keys : List ℕ} {root : ℕ} {labels path-ids
   pub search-settleable : Settleable labels path-ids keys u
   search-settleable = step-settleable next-step
 
+  pub search-marked : 65 + u < length starts
+  search-marked = omega (arith, next-step .u-in, next-step .represents .has-starts)
+
   module _ {labels₁ path-ids₁ : List ℕ} (e : labels₁ ≡ settledLabels labels root u) (f : path-ids₁ ≡ settledPathIds labels path-ids u (getD keys u 0)) where
     pub search-relaxable-on : {bounds : List ℕ} → BoundsOf labels bounds → Relaxable starts neighbours costs path-ids₁ labels₁ u × BoundsOf labels₁ bounds
     search-relaxable-on B =
         (rw (e, f) (step-relaxable next-step), rw e (bounds-settled B root u (A .nearest .inside) (A .underway .has-labels) (omega (arith, A .waits))))
 
-    pub search-advances : {labels₂ : List ℕ} → Relaxed starts neighbours costs path-ids₁ u labels₁ labels₂
+    search-advances : {labels₂ : List ℕ} → PassedOn starts neighbours costs path-ids₁ u labels₁ labels₂
         → Advanced starts neighbours costs keys root u labels path-ids labels₂ path-ids₁
     search-advances {labels₂} X = record {
-      goes-on = λ n U. rw f (underway n starts neighbours costs keys root U (A .nearest) (A .waits) labels₂ relaxed);
-      fewer-open = λ n U. fewer n starts neighbours costs keys root U (A .nearest) (A .waits) labels₂ relaxed;
-      next-in-order = λ n U. order-goes-on (one-step n starts neighbours costs keys root U (A .nearest) (A .waits)) labels₂ relaxed
-          (fewer n starts neighbours costs keys root U (A .nearest) (A .waits) labels₂ relaxed);
+      goes-on = λ n U. rw f (underway n starts neighbours costs keys root U (A .nearest) (A .waits) labels₂ passed-on);
+      fewer-open = λ n U. fewer n starts neighbours costs keys root U (A .nearest) (A .waits) labels₂ passed-on;
+      next-in-order = λ n U. order-goes-on (one-step n starts neighbours costs keys root U (A .nearest) (A .waits)) labels₂ passed-on
+          (fewer n starts neighbours costs keys root U (A .nearest) (A .waits) labels₂ passed-on);
     }
       where
-        relaxed : Relaxed starts neighbours costs (settledPathIds labels path-ids u (getD keys u 0)) u (settledLabels labels root u) labels₂
-        relaxed = rw (e, f) at X
+        passed-on : PassedOn starts neighbours costs (settledPathIds labels path-ids u (getD keys u 0)) u (settledLabels labels root u) labels₂
+        passed-on = rw (e, f) at X
+
+    -- By the test of its mark it offers its neighbours the way through it, or keeps it back.
+    module _ {test : Bool} (g : test ≡ eqb (markAt starts u) 0) where
+      pub search-offers : {labels₂ : List ℕ} → test ≡ true → Relaxed starts neighbours costs path-ids₁ u labels₁ labels₂
+          → Advanced starts neighbours costs keys root u labels path-ids labels₂ path-ids₁
+      search-offers h X = search-advances (record {
+        same-length = X .same-length;
+        offered = λ m. X;
+        kept-back = λ n. absurd (n (eqb-true (markAt starts u) 0 (sym g ∙ h)));
+      })
+
+      pub search-keeps-back : test ≡ false → Advanced starts neighbours costs keys root u labels path-ids labels₁ path-ids₁
+      search-keeps-back h = search-advances (record {
+        same-length = refl;
+        offered = λ m. absurd (eqb-false (markAt starts u) 0 (sym g ∙ h) m);
+        kept-back = λ n. refl;
+      })

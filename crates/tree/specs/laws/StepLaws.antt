@@ -6,7 +6,7 @@ use mathlib.Core.Path.{_≡_, refl, sym, ap, _∙_, subst}
 use mathlib.Core.List.{List, [], _∷_, map}
 use mathlib.Core.Logic.{_⊎_, inl, inr}
 use mathlib.Core.Bool.{cond}
-use lib.Dec.{T, ltb, eqb, ltb→lt, lt→ltb}
+use lib.Dec.{T, ltb, eqb, ltb→lt, lt→ltb, eqb→eq}
 use lib.ListN.{length, getD}
 use borrow.Author.Tests.{eq-eqb, ne-eqb}
 use Rattle.graph.specs.Order.{Lower, insertUpward, Upward}
@@ -24,11 +24,11 @@ use Rattle.ect.specs.Rows.{rowOf, Insertable}
 use Rattle.ect.specs.laws.RowLaws.{insertion-read-back, insertion-keeps, length-after}
 use Rattle.labels.specs.Labels.{noCost, Label, labelAt, labelRank, settledLabels, settledPathIds, stateOf}
 use Rattle.labels.specs.laws.LabelLaws.{length-settled, label-settled, label-unsettled, settling-keeps, settled-says, says-settled}
-use Rattle.labels.specs.Relaxing.{Relaxable, offerAt, Unchanged, Changed, Relaxed}
+use Rattle.labels.specs.Relaxing.{Relaxable, offerAt, Unchanged, Changed}
 use Rattle.tree.specs.Settling.{Settleable}
-use Rattle.tree.specs.Trees.{Represents, Keyed, firstBack}
+use Rattle.tree.specs.Trees.{markAt, Represents, Keyed, firstBack}
 use Rattle.tree.specs.laws.TreeLaws.{neighbour-in, offered-cost, offered-joined, joined-listed, one-cost}
-use Rattle.tree.specs.Tracked.{Tracked}
+use Rattle.tree.specs.Tracked.{Tracked, PassedOn}
 
 -- An offer that is lower than a label costs no more.
 pub lower-cost : (costs path-ids labels : List ℕ) (via i : ℕ) (b : Label) → Lower (offerAt costs path-ids labels via i) (labelRank path-ids b)
@@ -191,16 +191,41 @@ module _ {g : Graph} {key : ℕ → ℕ} {n root : ℕ} {starts neighbours costs
   low : (x : ℕ) → x < n → x < 64
   low x l = omega (arith, R .most)
 
-  -- After the neighbours were offered the way through `u`.
-  module _ (labels₂ : List ℕ) (X : Relaxed starts neighbours costs path-ids₁ u labels₁ labels₂) where
+  -- Who is offered the way through `u` is offered it by a bridge that may lie between: it is not the root, which is settled already.
+  no-root : u ≡ root → ⊥
+  no-root e = not-settled (subst (λ (z : ℕ). T (st .settled z)) (sym e) (M .kept .root))
+
+  may-pass : (u ≡ root) ⊎ T (g .between u) → markAt starts u ≡ 0
+  may-pass (inl e) = absurd (no-root e)
+  may-pass (inr b) = eqb→eq (markAt starts u) 0 (subst T (R .marked u u-in) b)
+
+  passes : markAt starts u ≡ 0 → T (g .between u)
+  passes e = subst T (sym (R .marked u u-in ∙ eq-eqb (markAt starts u) 0 e)) tt
+
+  -- After `u` passed the way on.
+  module _ (labels₂ : List ℕ) (X : PassedOn starts neighbours costs path-ids₁ u labels₁ labels₂) where
     abbrev st′ : State
     st′ = stateOf n labels₂ path-ids₁
 
-    abbrev Same : ℕ → Type 0
-    Same x = Unchanged neighbours costs path-ids₁ u from end labels₁ labels₂ x
+    -- The label of the bridge `x` is as it was, and no offer to it was lower; or it was offered the way through `u` and took it.
+    record Same (x : ℕ) : Type 0 where
+      same : labelAt labels₂ x ≡ labelAt labels₁ x
+      not-lower : markAt starts u ≡ 0 → (i : ℕ) → from ≤ i → i < end → getD neighbours i 0 ≡ x
+          → Lower (offerAt costs path-ids₁ labels₁ u i) (labelRank path-ids₁ (labelAt labels₁ x)) → ⊥
 
     abbrev Took : ℕ → Type 0
     Took x = Changed neighbours costs path-ids₁ u from end labels₁ labels₂ x
+
+    each : (x : ℕ) → x < 64 → Same x ⊎ ((markAt starts u ≡ 0) × Took x)
+    each x l = go (same-or-not (markAt starts u) 0)
+      where
+        relaxed : markAt starts u ≡ 0 → Unchanged neighbours costs path-ids₁ u from end labels₁ labels₂ x ⊎ Took x → Same x ⊎ ((markAt starts u ≡ 0) × Took x)
+        relaxed e (inl U) = inl (record { same = U .same; not-lower = λ f. U .not-lower })
+        relaxed e (inr C) = inr (e, C)
+
+        go : (markAt starts u ≡ 0) ⊎ (markAt starts u ≡ 0 → ⊥) → Same x ⊎ ((markAt starts u ≡ 0) × Took x)
+        go (inl e) = relaxed e (X .offered e .each x l)
+        go (inr f) = inl (record { same = ap (λ (z : List ℕ). labelAt z x) (X .kept-back f); not-lower = λ e. absurd (f e) })
 
     -- A settled bridge takes nothing: the way through `u` costs more.
     not-taken : (x : ℕ) → x < n → T (st .settled x) ⊎ (x ≡ u) → Took x → ⊥
@@ -222,11 +247,11 @@ module _ {g : Graph} {key : ℕ → ℕ} {n root : ℕ} {starts neighbours costs
     )
 
     settled-same : (x : ℕ) → x < n → T (st .settled x) ⊎ (x ≡ u) → labelAt labels₂ x ≡ labelAt labels₁ x
-    settled-same x l k = go (X .each x (low x l))
+    settled-same x l k = go (each x (low x l))
       where
-        go : Same x ⊎ Took x → labelAt labels₂ x ≡ labelAt labels₁ x
+        go : Same x ⊎ ((markAt starts u ≡ 0) × Took x) → labelAt labels₂ x ≡ labelAt labels₁ x
         go (inl U) = U .same
-        go (inr C) = absurd (not-taken x l k C)
+        go (inr (e, C)) = absurd (not-taken x l k C)
 
     taken-waits : (x : ℕ) (C : Took x) → labelAt labels₂ x .waits < noCost
     taken-waits x C = omega (arith, ap (λ (b : Label). b .waits) (C .took), way-bound (C .place) (C .after) (C .before))
@@ -234,15 +259,16 @@ module _ {g : Graph} {key : ℕ → ℕ} {n root : ℕ} {starts neighbours costs
     pub only : (v : ℕ) → T (st′ .settled v) → T (st .settled v) ⊎ (v ≡ u)
     only v k = go (settled-says n labels₂ path-ids₁ v k) (same-or-not v u)
       where
-        old : (v < n) × (labelAt labels₂ v .cost < noCost) × (noCost ≤ labelAt labels₂ v .waits) → (v ≡ u → ⊥) → Same v ⊎ Took v → T (st .settled v)
+        old : (v < n) × (labelAt labels₂ v .cost < noCost) × (noCost ≤ labelAt labels₂ v .waits) → (v ≡ u → ⊥)
+            → Same v ⊎ ((markAt starts u ≡ 0) × Took v) → T (st .settled v)
         old (l, j, m) f (inl U) =
             let e : labelAt labels₂ v ≡ labelAt labels v = U .same ∙ label-unsettled labels root u v (low v l) u-low f in
             says-settled n labels path-ids v l (omega (arith, ap (λ (b : Label). b .cost) e)) (omega (arith, ap (λ (b : Label). b .waits) e))
-        old (l, j, m) f (inr C) = absurd (omega (arith, taken-waits v C))
+        old (l, j, m) f (inr (e, C)) = absurd (omega (arith, taken-waits v C))
 
         go : (v < n) × (labelAt labels₂ v .cost < noCost) × (noCost ≤ labelAt labels₂ v .waits) → (v ≡ u) ⊎ (v ≡ u → ⊥) → T (st .settled v) ⊎ (v ≡ u)
         go s (inl e) = inr e
-        go s (inr f) = inl (old s f (X .each v (low v (s .0))))
+        go s (inr f) = inl (old s f (each v (low v (s .0))))
 
     pub still : (v : ℕ) → T (st .settled v) → T (st′ .settled v)
     still v k = go (settled-says n labels path-ids v k)
@@ -353,23 +379,23 @@ module _ {g : Graph} {key : ℕ → ℕ} {n root : ℕ} {starts neighbours costs
       same-far = ap (λ (b : Label). b .cost) same;
       same-steps = ap (λ (b : Label). b .hops) same;
       same-next = ap (λ (b : Label). b .next) same;
-      enough = λ O. enough (joined-listed R u u-in x (O .joined));
+      enough = λ O. enough (may-pass (O .passes)) (joined-listed R u u-in x (O .joined));
     }
       where
         same : labelAt labels₂ x ≡ labelAt labels x
         same = U .same ∙ label-unsettled labels root u x (low x l) u-low (not-u x f)
 
-        enough : ((i : ℕ) × (from ≤ i) × (i < end) × (getD neighbours i 0 ≡ x)) → T (st .labelled x) × (Lower (offer g st′ x u) (label st x) → ⊥)
-        enough (i, h, k, e) = let t = labelled-x (le-or-gt noCost (st .far x)) in
-            (t, λ q. U .not-lower i h k e (lower-is i x h k e l f t .1 q))
+        enough : markAt starts u ≡ 0 → ((i : ℕ) × (from ≤ i) × (i < end) × (getD neighbours i 0 ≡ x)) → T (st .labelled x) × (Lower (offer g st′ x u) (label st x) → ⊥)
+        enough m (i, h, k, e) = let t = labelled-x (le-or-gt noCost (st .far x)) in
+            (t, λ q. U .not-lower m i h k e (lower-is i x h k e l f t .1 q))
           where
             labelled-x : (noCost ≤ st .far x) ⊎ (st .far x < noCost) → T (st .labelled x)
-            labelled-x (inl m) = absurd (U .not-lower i h k e (inl (omega (arith, way-bound i h k, same-cost x (low x l)))))
-            labelled-x (inr m) = lt→ltb (st .far x) noCost m
+            labelled-x (inl c) = absurd (U .not-lower m i h k e (inl (omega (arith, way-bound i h k, same-cost x (low x l)))))
+            labelled-x (inr c) = lt→ltb (st .far x) noCost c
 
-    takes : (x : ℕ) → x < n → (T (st′ .settled x) → ⊥) → Took x → Takes g root u st st′ x
-    takes x l f C = record {
-      offers = record { done = done; joined = offered-joined R u u-in (C .place) x (C .after) (C .before) (C .offered); passes = inr (R .all-between u) };
+    takes : (x : ℕ) → x < n → (T (st′ .settled x) → ⊥) → markAt starts u ≡ 0 → Took x → Takes g root u st st′ x
+    takes x l f m C = record {
+      offers = record { done = done; joined = offered-joined R u u-in (C .place) x (C .after) (C .before) (C .offered); passes = inr (passes m) };
       now-labelled = lt→ltb (st′ .far x) noCost (omega (arith, far-x, way-bound (C .place) (C .after) (C .before)));
       new-far = omega (arith, far-x, same-cost u u-low, offered-cost R u u-in (C .place) x (C .after) (C .before) (C .offered));
       new-steps = omega (arith, ap (λ (b : Label). b .hops) (C .took), same-hops u u-low);
@@ -390,12 +416,13 @@ module _ {g : Graph} {key : ℕ → ℕ} {n root : ℕ} {starts neighbours costs
       next-kept = next-kept;
       row-kept = row-kept;
       row-new = row-new;
-      relaxed = λ x i f. go x (omega (arith, R .size-is)) f (X .each x (low x (omega (arith, R .size-is))));
+      relaxed = λ x i f. go x (omega (arith, R .size-is)) f (each x (low x (omega (arith, R .size-is))));
     }
       where
-        go : (x : ℕ) → x < n → (T (st′ .settled x) → ⊥) → Same x ⊎ Took x → Stays g root u st st′ x ⊎ Takes g root u st st′ x
+        go : (x : ℕ) → x < n → (T (st′ .settled x) → ⊥) → Same x ⊎ ((markAt starts u ≡ 0) × Took x)
+            → Stays g root u st st′ x ⊎ Takes g root u st st′ x
         go x l f (inl U) = inl (stays x l f U)
-        go x l f (inr C) = inr (takes x l f C)
+        go x l f (inr (m, C)) = inr (takes x l f m C)
 
     kept-now : Kept g key root st′
     kept-now = kept-advances g (R .laws) key (K .laws) root u st st′ (M .kept) inside not-settled labelled-u nearest advances
@@ -432,29 +459,29 @@ module _ {g : Graph} {key : ℕ → ℕ} {n root : ℕ} {starts neighbours costs
     pub step-tracked : Tracked g key n root labels₂ path-ids₁
     step-tracked = record {
       kept = kept-now;
-      waits-or-not = λ x l. waits-or-not x l (X .each x (low x l)) (same-or-not x u);
-      cost-at-most = λ x l. cost-at-most x l (X .each x (low x l));
-      next-in = λ x l h. next-in x l h (X .each x (low x l));
+      waits-or-not = λ x l. waits-or-not x l (each x (low x l)) (same-or-not x u);
+      cost-at-most = λ x l. cost-at-most x l (each x (low x l));
+      next-in = λ x l h. next-in x l h (each x (low x l));
       root-next = next-kept root (still root (M .kept .root)) ∙ M .root-next;
       first-is = first-now;
     }
       where
-        waits-or-not : (x : ℕ) → x < n → Same x ⊎ Took x → (x ≡ u) ⊎ (x ≡ u → ⊥)
+        waits-or-not : (x : ℕ) → x < n → Same x ⊎ ((markAt starts u ≡ 0) × Took x) → (x ≡ u) ⊎ (x ≡ u → ⊥)
             → (labelAt labels₂ x .waits ≡ noCost) ⊎ (labelAt labels₂ x .waits ≡ labelAt labels₂ x .cost)
         waits-or-not x l s (inl e) = inl (ap (λ (z : ℕ). labelAt labels₂ z .waits) e ∙ ap (λ (b : Label). b .waits) (label-u ∙ label-settled labels root u u-low (Z .has-labels)))
-        waits-or-not x l (inr C) (inr f) = inr (ap (λ (b : Label). b .waits) (C .took) ∙ sym (ap (λ (b : Label). b .cost) (C .took)))
+        waits-or-not x l (inr (m, C)) (inr f) = inr (ap (λ (b : Label). b .waits) (C .took) ∙ sym (ap (λ (b : Label). b .cost) (C .took)))
         waits-or-not x l (inl U) (inr f) =
             subst (λ (b : Label). (b .waits ≡ noCost) ⊎ (b .waits ≡ b .cost)) (sym (U .same ∙ label-unsettled labels root u x (low x l) u-low f)) (M .waits-or-not x l)
 
-        cost-at-most : (x : ℕ) → x < n → Same x ⊎ Took x → labelAt labels₂ x .cost ≤ noCost
+        cost-at-most : (x : ℕ) → x < n → Same x ⊎ ((markAt starts u ≡ 0) × Took x) → labelAt labels₂ x .cost ≤ noCost
         cost-at-most x l (inl U) = omega (arith, ap (λ (b : Label). b .cost) (U .same), same-cost x (low x l), M .cost-at-most x l)
-        cost-at-most x l (inr C) = omega (arith, ap (λ (b : Label). b .cost) (C .took), way-bound (C .place) (C .after) (C .before))
+        cost-at-most x l (inr (m, C)) = omega (arith, ap (λ (b : Label). b .cost) (C .took), way-bound (C .place) (C .after) (C .before))
 
-        next-in : (x : ℕ) → x < n → labelAt labels₂ x .cost < noCost → Same x ⊎ Took x → labelAt labels₂ x .next < n
+        next-in : (x : ℕ) → x < n → labelAt labels₂ x .cost < noCost → Same x ⊎ ((markAt starts u ≡ 0) × Took x) → labelAt labels₂ x .next < n
         next-in x l h (inl U) = omega (
           arith,
           ap (λ (b : Label). b .next) (U .same),
           same-next x (low x l),
           M .next-in x l (omega (arith, ap (λ (b : Label). b .cost) (U .same), same-cost x (low x l))),
         )
-        next-in x l h (inr C) = omega (arith, ap (λ (b : Label). b .next) (C .took))
+        next-in x l h (inr (m, C)) = omega (arith, ap (λ (b : Label). b .next) (C .took))

@@ -8,7 +8,7 @@ use mathlib.Core.Option.{Option, none, some}
 use mathlib.Core.Logic.{_⊎_, inl, inr}
 use lib.Dec.{T, ltb→lt, lt→ltb}
 use lib.ListN.{getD}
-use Rattle.lists.specs.laws.NumberLaws.{le-or-gt}
+use Rattle.lists.specs.laws.NumberLaws.{le-or-gt, same-or-not}
 use Rattle.graph.specs.Graph.{Graph, Joined}
 use Rattle.graph.specs.laws.Notions.{Least}
 use Rattle.graph.specs.laws.Paths.{entered-inside}
@@ -20,8 +20,8 @@ use Rattle.graph.specs.laws.LookupLaws.{kept-ends}
 use Rattle.labels.specs.Labels.{noCost, Label, labelAt, stateOf}
 use Rattle.labels.specs.laws.LabelLaws.{says-settled}
 use Rattle.labels.specs.Relaxing.{Unchanged, Changed, Relaxed}
-use Rattle.tree.specs.Trees.{Represents, Keyed, nextOf, SaysPath}
-use Rattle.tree.specs.Tracked.{Tracked}
+use Rattle.tree.specs.Trees.{markAt, Represents, Keyed, nextOf, SaysPath}
+use Rattle.tree.specs.Tracked.{Tracked, PassedOn}
 
 module _ {g : Graph} {n : ℕ} {starts neighbours costs : List ℕ} (R : Represents g n starts neighbours costs) (u : ℕ) (u-in : u < n) where
   pub neighbour-in : (i : ℕ) → getD starts u 0 ≤ i → i < getD starts (u + 1) 0 → getD neighbours i 0 < n
@@ -50,6 +50,15 @@ module _ {g : Graph} {n : ℕ} {starts neighbours costs : List ℕ} (R : Represe
           ⊎ Changed neighbours costs path-ids u (getD starts u 0) (getD starts (u + 1) 0) labels labels′ x → labelAt labels′ x ≡ labelAt labels x
       go (inl U) = U .same
       go (inr C) = absurd (omega (arith, C .offered, neighbour-in (C .place) (C .after) (C .before)))
+
+  -- So they do where `u` passes the way on.
+  pub beyond-kept : {path-ids labels labels′ : List ℕ} → PassedOn starts neighbours costs path-ids u labels labels′ → (x : ℕ) → n ≤ x → x < 64
+      → labelAt labels′ x ≡ labelAt labels x
+  beyond-kept {path-ids} {labels} {labels′} X x l k = go (same-or-not (markAt starts u) 0)
+    where
+      go : (markAt starts u ≡ 0) ⊎ (markAt starts u ≡ 0 → ⊥) → labelAt labels′ x ≡ labelAt labels x
+      go (inl e) = beyond-same (X .offered e) x l k
+      go (inr f) = ap (λ (z : List ℕ). labelAt z x) (X .kept-back f)
 
 -- With no bridge waiting each label says the chosen path.
 module _ (g : Graph) (key : ℕ → ℕ) (n root : ℕ) (starts neighbours costs keys : List ℕ) (R : Represents g n starts neighbours costs) (K : Keyed g key keys)

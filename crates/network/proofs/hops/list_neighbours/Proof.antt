@@ -4,6 +4,7 @@ use native.Mathlib.Omega.{arith}
 use mathlib.Core.Path.{_≡_, _∙_}
 use lib.ListN.{length, length-set}
 use Rattle.verdict.specs.laws.CheckedLaws.{few-bridges}
+use Rattle.network.specs.Layout.{startsAt}
 use Rattle.network.specs.laws.VisitLaws.{visited-few}
 use Rattle.network.specs.laws.NeighbourLaws.{Filling, filling-starts, filling-goes-on, filling-ends}
 use borrow.Author.Needs.{needs}
@@ -21,7 +22,7 @@ start-of c = c .before .before .before .before .before
 
 -- At the loop the network is as long as it was lent.
 network-length : (c : tie.At-loop Inv-loop μ-loop) → length (c .loop .network) ≡ length (start-of c .args .network .now)
-network-length c = c .loop .inv .same-length ∙ length-set (start-of c .args .network .now) 1 _
+network-length c = c .loop .inv .same-length ∙ length-set (start-of c .args .network .now) startsAt _
 
 slice-write-network : tie.Need-slice-write-network Inv-loop μ-loop
 slice-write-network c =

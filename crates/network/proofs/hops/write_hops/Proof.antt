@@ -2,7 +2,7 @@
 use Prim.Native.Nat.{_+_, _-_, _≤_, _<_}
 use native.Mathlib.Omega.{arith}
 use lib.ListN.{length, getD, length-set}
-use Rattle.network.specs.Layout.{neighboursAt, identifiersAt}
+use Rattle.network.specs.Layout.{neighboursAt, marksAt}
 use Rattle.network.specs.Rows.{HopsWritten}
 use Rattle.network.specs.laws.RowLaws.{writing-starts, hop-there, writing-goes-on, writing-ends}
 use borrow.Author.Needs.{needs}
@@ -28,7 +28,7 @@ abbrev start-of : tie.In-loop Inv-loop μ-loop → tie.Start Inv-loop μ-loop
 start-of c = turn-of c .before .before .before
 
 -- The network has room for the hop of a turn.
-room : (c : tie.In-loop Inv-loop μ-loop) → (turn-of c .loop .k < 512) × (identifiersAt ≤ length (turn-of c .loop .network))
+room : (c : tie.In-loop Inv-loop μ-loop) → (turn-of c .loop .k < 512) × (marksAt ≤ length (turn-of c .loop .network))
 room c =
     let at-loop = turn-of c in
     let (_, most, network-room, _) = start-of c .pre in

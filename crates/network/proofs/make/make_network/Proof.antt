@@ -1,4 +1,4 @@
--- `network::make::make_network` lists the hops, writes the identifiers behind them and the number of bridges in front. Assumes nothing.
+-- `network::make::make_network` lists the hops, writes marks and identifiers behind them and the number of bridges in front. Assumes nothing.
 use native.Mathlib.Omega.{arith}
 use mathlib.Core.Path.{sym, _∙_}
 use lib.ListN.{length-take, length-drop}
@@ -18,38 +18,41 @@ enter-near-bridges-requires c κs =
 abbrev start-of : tie.After-list-neighbours → tie.Start
 start-of c = c .before .before .before .before .before .before .before .before .before
 
-write-identifiers-requires : tie.Need-write-identifiers-requires
-write-identifiers-requires c κs =
+write-bridges-requires : tie.Need-write-bridges-requires
+write-bridges-requires c κs =
     let at-list-neighbours = c .before .before .before in
     let (checked, _, network-length) = start-of at-list-neighbours .pre in
-    let (_, same-length-listed) = at-list-neighbours .list-neighbours .ensures in
-    (checked .whole, simp (length-take, length-drop) (omega (arith, same-length-listed, network-length, few-bridges checked)))
+    let (_, same-length-listed) = at-list-neighbours .list-neighbours .ensures in (
+      checked .whole,
+      few-bridges checked,
+      simp (length-take, length-drop) (omega (arith, same-length-listed, network-length, few-bridges checked)),
+    )
 
 same-length : tie.Need-same-length
 same-length c =
-    let at-write-identifiers = c .before .before .before in
-    let at-list-neighbours = at-write-identifiers .before .before .before .before in
+    let at-write-bridges = c .before .before .before in
+    let at-list-neighbours = at-write-bridges .before .before .before .before in
     let (checked, _, network-length) = start-of at-list-neighbours .pre in
     let (listed, same-length-listed) = at-list-neighbours .list-neighbours .ensures in
-    made-length checked listed (same-length-listed ∙ network-length) (at-write-identifiers .write-identifiers .ensures)
-    (omega (arith, at-write-identifiers .write-identifiers .kept))
+    made-length checked listed (same-length-listed ∙ network-length) (at-write-bridges .write-bridges .ensures)
+    (omega (arith, at-write-bridges .write-bridges .kept))
     ∙ sym network-length
 
 returns : tie.Need-returns
 returns c =
-    let at-write-identifiers = c .before .before .before in
-    let at-list-neighbours = at-write-identifiers .before .before .before .before in
+    let at-write-bridges = c .before .before .before in
+    let at-list-neighbours = at-write-bridges .before .before .before .before in
     let (checked, _, network-length) = start-of at-list-neighbours .pre in
     let (listed, same-length-listed) = at-list-neighbours .list-neighbours .ensures in
     record {
       checked = checked;
       network =
-          network-of-table checked listed (same-length-listed ∙ network-length) (at-write-identifiers .write-identifiers .ensures)
-          (omega (arith, at-write-identifiers .write-identifiers .kept));
+          network-of-table checked listed (same-length-listed ∙ network-length) (at-write-bridges .write-bridges .ensures)
+          (omega (arith, at-write-bridges .write-bridges .kept));
     }
 
 pub make-network-spec : {M : Type 1} → statement M
 make-network-spec =
     tie.close
     (tie.spec (λ c. search needs) enter-near-bridges-requires (λ c. search needs) (λ c κs. search needs) (λ c. search needs)
-    (λ c. search needs) (λ c. search needs) write-identifiers-requires (λ c. search needs) (λ c. search needs) same-length returns)
+    (λ c. search needs) (λ c. search needs) write-bridges-requires (λ c. search needs) (λ c. search needs) same-length returns)

@@ -10,7 +10,7 @@ use Rattle.network.proofs.parts.first_hop.Tie as tie
 returns : tie.Need-returns
 returns c =
     let at-start = c .before .before .before in
-    c .wide .ensures ∙ sym (part-at (at-start .args .network .now) startsAt 65 (at-start .args .u) (omega arith))
+    c .wide .ensures ∙ sym (part-at (at-start .args .network .now) startsAt 129 (at-start .args .u) (omega arith))
 
 pub first-hop-spec : {M : Type 1} → statement M
 first-hop-spec =

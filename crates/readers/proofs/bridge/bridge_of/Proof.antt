@@ -6,7 +6,7 @@ use Rattle.readers.proofs.bridge.bridge_of.Statement.{statement}
 use Rattle.readers.proofs.bridge.bridge_of.Tie as tie
 
 returns : tie.Need-returns
-returns c = same-bridge (omega arith) (omega arith)
+returns c = same-bridge (cc) (omega arith) (omega arith)
 
 pub bridge-of-spec : {M : Type 1} → statement M
 bridge-of-spec =

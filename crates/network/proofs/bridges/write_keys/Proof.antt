@@ -1,13 +1,13 @@
--- `network::identifiers::write_keys` writes the masked identifier of each bridge. Assumes nothing.
+-- `network::bridges::write_keys` writes the masked identifier of each bridge. Assumes nothing.
 use Prim.Native.Nat.{ℕ, _-_}
 use mathlib.Core.Path.{ap, _∙_}
 use Rattle.rule.specs.Identifiers.{maskedBytes}
 use native.Mathlib.Omega.{arith}
 use Rattle.network.specs.Layout.{bridgesIn}
-use Rattle.network.specs.laws.IdentifierLaws.{Masking, masking-starts, masking-on, masking-ends}
+use Rattle.network.specs.laws.BridgeLaws.{Masking, masking-starts, masking-on, masking-ends}
 use borrow.Author.Needs.{needs}
-use Rattle.network.proofs.identifiers.write_keys.Statement.{statement}
-use Rattle.network.proofs.identifiers.write_keys.Tie as tie
+use Rattle.network.proofs.bridges.write_keys.Statement.{statement}
+use Rattle.network.proofs.bridges.write_keys.Tie as tie
 
 abbrev Inv-loop : tie.InvT-loop
 Inv-loop network mask keys₀ n u₀ keys u = Masking network mask keys₀ keys u
