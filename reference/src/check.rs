@@ -1,7 +1,10 @@
 //! The check: refusals 1 to 10 in their order, and the five counts.
 
 use crate::links::{joined_pairs, usable_links};
-use crate::records::{Kind, Plan, Record, GREATEST_USABLE_METRIC, GROUP_BIT, LEAST_METRIC, UNUSABLE_METRIC};
+use crate::records::{
+    Bridge, Kind, Plan, Record, BELOW_OVERLOAD_BIT, GREATEST_USABLE_METRIC, GROUP_BIT, LEAST_METRIC,
+    OVERLOAD_BIT, UNUSABLE_METRIC,
+};
 use crate::refusal::Refusal;
 use crate::rules::{Misreading, Rules};
 use crate::words::words_of;
@@ -68,7 +71,7 @@ impl Reader<'_> {
         if part.len() < kind.words() {
             return Err(self.cut_off(kind));
         }
-        let record = Record::read(kind, part);
+        let record = Record::read(self.rules, kind, part);
         let faults = self.fault_order();
         match faults.into_iter().find(|&number| self.has_fault(number, kind, &record)) {
             Some(number) => Err(Refusal::of_record(number, kind, self.first)),
@@ -140,7 +143,7 @@ impl Reader<'_> {
 
     fn has_fault(&self, number: u32, kind: Kind, record: &Record) -> bool {
         match number {
-            4 => self.words[self.first] & kind.zero_bits() != 0,
+            4 => self.words[self.first] & self.zero_bits(kind) != 0,
             5 => self.is_over_limit(kind),
             6 => self.is_out_of_range(record),
             7 => self.names_nothing(record),
@@ -148,6 +151,21 @@ impl Reader<'_> {
             9 => self.is_no_mirror(record),
             10 => kind == Kind::End && self.has_words_after(),
             _ => unreachable!("a whole record's faults are 4 to 10"),
+        }
+    }
+
+    fn zero_bits(&self, kind: Kind) -> u32 {
+        let written = kind.zero_bits();
+        if kind != Kind::Bridge {
+            written
+        } else if self.rules.has(Misreading::OverloadAtBit26) {
+            written & !BELOW_OVERLOAD_BIT | OVERLOAD_BIT
+        } else if self.rules.has(Misreading::Bit26Accepted) {
+            written & !BELOW_OVERLOAD_BIT
+        } else if self.rules.has(Misreading::OverloadRefused) {
+            written | OVERLOAD_BIT
+        } else {
+            written
         }
     }
 
@@ -229,14 +247,7 @@ impl Reader<'_> {
     fn repeats(&self, record: &Record) -> bool {
         let plan = &self.plan;
         match record {
-            Record::Bridge(bridge) => {
-                let with_priority = self.rules.has(Misreading::RepeatWithPriority);
-                plan.bridges.iter().any(|earlier| {
-                    earlier.source_id == bridge.source_id
-                        || (earlier.address == bridge.address
-                            && (!with_priority || earlier.priority == bridge.priority))
-                })
-            }
+            Record::Bridge(bridge) => plan.bridges.iter().any(|earlier| self.repeats_bridge(bridge, earlier)),
             Record::HalfLink(half_link) => {
                 let anywhere = self.rules.has(Misreading::PortRepeatsAnywhere);
                 plan.half_links.iter().any(|earlier| {
@@ -253,6 +264,17 @@ impl Reader<'_> {
             }
             Record::End { .. } => false,
         }
+    }
+
+    /// Whether the bridge has the earlier one's address or SPsourceID.
+    fn repeats_bridge(&self, bridge: &Bridge, earlier: &Bridge) -> bool {
+        let with_priority = self.rules.has(Misreading::RepeatWithPriority);
+        let with_overload = self.rules.has(Misreading::RepeatWithOverload);
+        let source_id = earlier.source_id == bridge.source_id
+            && (!with_overload || earlier.overloaded == bridge.overloaded);
+        let address =
+            earlier.address == bridge.address && (!with_priority || earlier.priority == bridge.priority);
+        source_id || address
     }
 
     /// Refusal 9: a third half-link of a link number, or a second that is no mirror.

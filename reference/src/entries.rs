@@ -75,11 +75,12 @@ fn group_entries(checked: &Checked, bridge: usize, vid: &Vid) -> Vec<u32> {
     let of_vid = |member: &&Member| member.vid == vid.vid && transmits(rules, member);
     let mut words = Vec::new();
     for transmitter in checked.plan.members.iter().filter(of_vid) {
-        if usize::from(transmitter.bridge) == bridge && rules.has(Misreading::NoneAtTransmitter) {
+        let sender = &checked.plan.bridges[usize::from(transmitter.bridge)];
+        let none_here = usize::from(transmitter.bridge) == bridge && rules.has(Misreading::NoneAtTransmitter);
+        if none_here || (sender.overloaded && rules.has(Misreading::OverloadedSendsNone)) {
             continue;
         }
-        let source_id = checked.plan.bridges[usize::from(transmitter.bridge)].source_id;
-        let address = group_address(rules, source_id, transmitter.service);
+        let address = group_address(rules, sender.source_id, transmitter.service);
         for port in group_ports(checked, bridge, vid, transmitter) {
             words.extend(entry(rules, GROUP, vid.vid, port, address));
         }

@@ -53,8 +53,12 @@ fn unusable_from(rules: Rules) -> u32 {
 
 /// The number of usable links. Each is seen from both of its ends.
 pub fn usable_links(rules: Rules, plan: &Plan) -> usize {
-    let ends = plan.half_links.iter().filter(|near| usable_hop(rules, plan, near).is_some());
-    ends.count().div_ceil(2)
+    let overloaded = |bridge: u16| plan.bridges[usize::from(bridge)].overloaded;
+    let left_out = |near: &HalfLink| {
+        rules.has(Misreading::OverloadedLinksUncounted) && (overloaded(near.near) || overloaded(near.far))
+    };
+    let is_counted = |near: &&HalfLink| usable_hop(rules, plan, near).is_some() && !left_out(near);
+    plan.half_links.iter().filter(is_counted).count().div_ceil(2)
 }
 
 pub fn joined_pairs(rules: Rules, plan: &Plan) -> usize {

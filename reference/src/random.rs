@@ -15,6 +15,11 @@ impl Random {
         random
     }
 
+    /// A source of its own beside this one, whose numbers it does not take from.
+    pub fn beside(&self) -> Random {
+        Random(self.0 ^ 0xA076_1D64_78BD_642F)
+    }
+
     pub fn number(&mut self) -> u64 {
         self.0 = self.0.wrapping_add(0x9E37_79B9_7F4A_7C15);
         let mut mixed = self.0;

@@ -54,13 +54,15 @@ pub struct Ranking<'a> {
     pub rules: Rules,
     pub network: &'a Network,
     identifiers: Vec<u64>,
+    overloaded: Vec<bool>,
     index: u16,
 }
 
 impl<'a> Ranking<'a> {
     pub fn new(rules: Rules, plan: &Plan, network: &'a Network, index: u16) -> Ranking<'a> {
         let identifiers = plan.bridges.iter().map(|bridge| bridge.identifier()).collect();
-        Ranking { rules, network, identifiers, index }
+        let overloaded = plan.bridges.iter().map(|bridge| bridge.overloaded).collect();
+        Ranking { rules, network, identifiers, overloaded, index }
     }
 
     /// The path of one bridge: cost 0, hops 0.
@@ -68,7 +70,17 @@ impl<'a> Ranking<'a> {
         Path { bridges: vec![bridge], cost: 0 }
     }
 
-    /// The path with one more bridge at its end, if the last is joined to it.
+    pub fn is_overloaded(&self, bridge: usize) -> bool {
+        self.overloaded[bridge]
+    }
+
+    /// Whether a list has no overloaded bridge at any place but the first and the
+    /// last. Each such place is the middle of three.
+    pub fn has_none_between(&self, bridges: &[usize]) -> bool {
+        bridges.windows(3).all(|three| !self.overloaded[three[1]])
+    }
+
+    /// The list with one more bridge at its end, if the last is joined to it.
     pub fn extended(&self, path: &Path, to: usize) -> Option<Path> {
         let hop = self.network.hop(path.last(), to)?;
         let mut bridges = Vec::with_capacity(path.bridges.len() + 1);
@@ -77,10 +89,12 @@ impl<'a> Ranking<'a> {
         Some(Path { bridges, cost: path.cost + u64::from(hop.cost) })
     }
 
-    /// A list of bridges as a path, when each is joined to the next.
+    /// A list of bridges as a path, when each is joined to the next and none between
+    /// is overloaded.
     pub fn path(&self, bridges: &[usize]) -> Option<Path> {
         let (&first, rest) = bridges.split_first()?;
-        rest.iter().try_fold(self.start(first), |path, &next| self.extended(&path, next))
+        let path = rest.iter().try_fold(self.start(first), |path, &next| self.extended(&path, next))?;
+        self.has_none_between(bridges).then_some(path)
     }
 
     pub fn compare(&self, left: &Path, right: &Path) -> Ordering {

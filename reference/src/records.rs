@@ -1,6 +1,7 @@
 //! The records of a table: kinds, layouts, fields, and a plan of decoded
 //! records with the words that it makes.
 
+use crate::rules::{Misreading, Rules};
 use crate::words::{halves, pair};
 
 #[derive(Clone, Copy, PartialEq, Eq, PartialOrd, Ord, Debug)]
@@ -42,7 +43,7 @@ impl Kind {
     /// The bits of the first word that are to be zero.
     pub fn zero_bits(self) -> u32 {
         match self {
-            Kind::Bridge => 0x0FF0_0000,
+            Kind::Bridge => 0x07F0_0000,
             Kind::HalfLink => 0x0F00_0000,
             Kind::Member => 0x0C00_0000,
             Kind::Vid | Kind::End => 0,
@@ -60,11 +61,18 @@ pub const LEAST_METRIC: u32 = 1;
 pub const GREATEST_USABLE_METRIC: u32 = 16_777_214;
 pub const UNUSABLE_METRIC: u32 = 16_777_215;
 
+/// The bit of a bridge's first word that says that it is overloaded, and the zero
+/// bit below it.
+pub const OVERLOAD_BIT: u32 = 1 << 27;
+pub const BELOW_OVERLOAD_BIT: u32 = 1 << 26;
+
 /// The group bit of a 48-bit address: the lowest bit of its first octet.
 pub const GROUP_BIT: u64 = 1 << 40;
 
 #[derive(Clone, Copy, PartialEq, Eq, Debug)]
 pub struct Bridge {
+    /// It may begin or end a path and never lies between.
+    pub overloaded: bool,
     pub source_id: u32,
     pub priority: u16,
     pub address: u64,
@@ -78,12 +86,15 @@ impl Bridge {
 
     pub fn words(&self) -> [u32; 3] {
         let identifier = self.identifier();
-        [Kind::Bridge.tag() | self.source_id, (identifier >> 32) as u32, identifier as u32]
+        let overload = if self.overloaded { OVERLOAD_BIT } else { 0 };
+        [Kind::Bridge.tag() | overload | self.source_id, (identifier >> 32) as u32, identifier as u32]
     }
 
-    fn read(part: &[u32]) -> Bridge {
+    fn read(rules: Rules, part: &[u32]) -> Bridge {
         let (priority, address_high) = halves(part[1]);
+        let overload = if rules.has(Misreading::OverloadAtBit26) { BELOW_OVERLOAD_BIT } else { OVERLOAD_BIT };
         Bridge {
+            overloaded: part[0] & overload != 0,
             source_id: part[0] & 0x000F_FFFF,
             priority,
             address: u64::from(address_high) << 32 | u64::from(part[2]),
@@ -172,9 +183,9 @@ pub enum Record {
 
 impl Record {
     /// Reads a record from the part of the table that starts at its first word.
-    pub fn read(kind: Kind, part: &[u32]) -> Record {
+    pub fn read(rules: Rules, kind: Kind, part: &[u32]) -> Record {
         match kind {
-            Kind::Bridge => Record::Bridge(Bridge::read(part)),
+            Kind::Bridge => Record::Bridge(Bridge::read(rules, part)),
             Kind::HalfLink => Record::HalfLink(HalfLink::read(part)),
             Kind::Vid => Record::Vid(Vid::read(part)),
             Kind::Member => Record::Member(Member::read(part)),

@@ -1,5 +1,6 @@
-//! The rules that the calls follow: those of document 01, or those of document
-//! 01 with one deliberate misreading, by which the tests are shown to notice it.
+//! The rules that the calls follow: those of document 01 with request A1 of document
+//! 02, or the same with one deliberate misreading, by which the tests are shown to
+//! notice it.
 
 /// The comparers that are tried with misreadings.
 #[derive(Clone, Copy, PartialEq, Eq, Debug)]
@@ -67,6 +68,18 @@ misreadings! {
     "identifiers are compared as signed numbers" SignedIdentifiers: [Listing, Calls],
     "the masks of index 15 and 16 are exchanged" LastMasksExchanged: [Listing, Calls],
     "the index counts from 0" IndexFromZero: [Listing, Calls],
+    // Overloaded bridges, request A1 of document 02.
+    "an overloaded bridge may lie between" OverloadIgnored: [Listing, Calls],
+    "an overloaded bridge begins no path" OverloadedBeginsNone: [Listing, Calls],
+    "an overloaded bridge ends no path" OverloadedEndsNone: [Listing, Calls],
+    "of two overloaded bridges neither reaches the other" OverloadedApart: [Listing, Calls],
+    "12 where the lowest list of all has an overloaded bridge between" TwelveAtOverloaded: [Listing, Calls],
+    "an overloaded bridge sends no group frames" OverloadedSendsNone: [Listing, Calls],
+    "overload is bit 26" OverloadAtBit26: [Listing, Check, Calls],
+    "bit 26 of a bridge is no zero bit" Bit26Accepted: [Listing, Check, Calls],
+    "bit 27 of a bridge is a zero bit" OverloadRefused: [Listing, Check, Calls],
+    "usable links of an overloaded bridge are not counted" OverloadedLinksUncounted: [Listing, Check],
+    "SPsourceIDs repeat with equal overload only" RepeatWithOverload: [Listing, Check, Calls],
     // Calls.
     "12 is given before searching beyond one hop" TwelveBeforeSearching: [Listing, Calls],
     "13 though the answer just fits" ThirteenThoughItFits: [Calls],
@@ -142,7 +155,7 @@ misreadings! {
 pub struct Rules(Option<Misreading>);
 
 impl Rules {
-    /// Document 01, to the word.
+    /// Document 01 with request A1 of document 02, to the word.
     pub const AS_WRITTEN: Rules = Rules(None);
 
     pub fn with(misreading: Misreading) -> Rules {

@@ -1,4 +1,5 @@
-//! The chosen path by brute force: every simple path is tried. For small tables.
+//! The chosen path by brute force: every list of joined bridges that has none twice
+//! is tried, and counts where none between is overloaded. For small tables.
 
 use std::cmp::Ordering;
 
@@ -39,7 +40,7 @@ fn for_each_walk(
     admit: &dyn Fn(&Path, usize) -> bool,
     visit: &mut dyn FnMut(&Path),
 ) {
-    if path.last() == to {
+    if path.last() == to && ranking.has_none_between(&path.bridges) {
         visit(path);
     }
     for (next, _) in ranking.network.neighbours(path.last()) {

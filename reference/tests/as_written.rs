@@ -35,6 +35,12 @@ tests! {
     longest_table
     longest_entry_list
     exported_figures
+    overloaded_diamond
+    overloaded_bridge_between
+    overload_bit_alone_accepted
+    tables_without_overload_list_as_before
+    overload_changes_no_count
+    overload_takes_paths_away
     masks_of_table_28_1
     fewer_bridges_first
     higher_fourth_bridge

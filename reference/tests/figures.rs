@@ -15,6 +15,7 @@ use reference::rules::Rules;
 /// each member; no record has a fault but one over its limit.
 fn plan([bridges, half_links, vids, members]: [u16; 4]) -> Plan {
     let bridge = |n: u16| Bridge {
+        overloaded: false,
         source_id: u32::from(n) + 1,
         priority: 0x8000,
         address: 0x0200_0000_0001 + u64::from(n),
@@ -47,7 +48,12 @@ fn line(name: &str, records: [u16; 4], more: usize) -> String {
 
 /// Bridges with these identifiers and links between them, and VID 1 with index 1.
 fn network<const LINKS: usize>(identifiers: &[u64], links: [(u16, u16, u32); LINKS]) -> Vec<u8> {
-    let bridge = |(n, &address): (usize, &u64)| Bridge { source_id: n as u32 + 1, priority: 0, address };
+    let bridge = |(n, &address): (usize, &u64)| Bridge {
+        overloaded: false,
+        source_id: n as u32 + 1,
+        priority: 0,
+        address,
+    };
     let half_links = |(n, (one, other, metric)): (usize, (u16, u16, u32))| {
         let half_link = |near, far, port| HalfLink { metric, near, far, port, link: n as u16 + 1 };
         [half_link(one, other, 2 * n as u16 + 1), half_link(other, one, 2 * n as u16 + 2)]

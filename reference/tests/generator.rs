@@ -8,12 +8,15 @@ use reference::checked::Checked;
 use reference::generate::stream::case;
 use reference::links::Network;
 use reference::rank::Path;
-use reference::records::{Kind, Plan, UNUSABLE_METRIC};
-use reference::rules::Rules;
+use reference::records::{Kind, Member, Plan, UNUSABLE_METRIC};
+use reference::rules::{Misreading, Rules};
 use reference::search::for_each_simple_path;
 
 const SEED: u64 = 1;
 const CASES: u64 = 4_000;
+
+/// Where paths are looked at, plans with more bridges are left out or looked at in part.
+const MOST_BRIDGES: usize = 6;
 
 #[test]
 fn every_refusal_is_reached_with_every_kind_that_has_it() {
@@ -56,6 +59,16 @@ fn sorts() -> Vec<Sort> {
                 && plan.members.iter().any(|member| member.receives)
         }),
         ("parts that are apart", has_parts_apart),
+        ("no overloaded bridge", |plan| overloaded(plan) == 0),
+        ("one overloaded bridge", |plan| overloaded(plan) == 1),
+        ("overloaded bridges only", |plan| plan.bridges.len() > 1 && overloaded(plan) == plan.bridges.len()),
+        ("64 bridges, some overloaded", |plan| {
+            plan.bridges.len() == 64 && (1..64).contains(&overloaded(plan))
+        }),
+        ("path around an overloaded bridge", |plan| is_changed_by_overload(plan, true)),
+        ("12 by an overloaded bridge", |plan| is_changed_by_overload(plan, false)),
+        ("two overloaded bridges that are joined", has_overloaded_pair),
+        ("overloaded transmitter with a receiver", has_overloaded_transmitter),
         ("tie of cost and hops", |plan| has_tie(plan, true)),
         ("tie of cost with other hops", |plan| has_tie(plan, false)),
     ]
@@ -86,9 +99,42 @@ fn has_parts_apart(plan: &Plan) -> bool {
     plan.bridges.len() > 1 && !plan.half_links.is_empty() && (0..plan.bridges.len()).any(lone)
 }
 
+fn overloaded(plan: &Plan) -> usize {
+    plan.bridges.iter().filter(|bridge| bridge.overloaded).count()
+}
+
+/// Whether some chosen path differs from the one without overload, or is none now.
+fn is_changed_by_overload(plan: &Plan, is_left: bool) -> bool {
+    let [now, before] = [Rules::AS_WRITTEN, Rules::with(Misreading::OverloadIgnored)]
+        .map(|rules| Checked::new(rules, &plan.bytes()).expect("the plan is valid"));
+    (0..plan.bridges.len().min(MOST_BRIDGES)).any(|from| {
+        let (now, before) = (now.paths_from(1, from), before.paths_from(1, from));
+        now.iter().zip(before.iter()).any(|(now, before)| now != before && now.is_some() == is_left)
+    })
+}
+
+fn has_overloaded_pair(plan: &Plan) -> bool {
+    let network = Network::of(Rules::AS_WRITTEN, plan);
+    let marked = |bridge: usize| plan.bridges[bridge].overloaded;
+    (0..network.size).any(|one| marked(one) && network.neighbours(one).any(|(other, _)| marked(other)))
+}
+
+fn has_overloaded_transmitter(plan: &Plan) -> bool {
+    let members = &plan.members;
+    let sends = |member: &Member| member.transmits && plan.bridges[usize::from(member.bridge)].overloaded;
+    members.iter().filter(|member| sends(member)).any(|one| {
+        let receives = |other: &Member| {
+            other.receives
+                && other.bridge != one.bridge
+                && (other.service, other.vid) == (one.service, one.vid)
+        };
+        members.iter().any(receives)
+    })
+}
+
 /// Whether two least-cost paths between two bridges differ, with equal hops or not.
 fn has_tie(plan: &Plan, equal_hops: bool) -> bool {
-    if !(2..=6).contains(&plan.bridges.len()) {
+    if !(2..=MOST_BRIDGES).contains(&plan.bridges.len()) {
         return false;
     }
     let checked = Checked::new(Rules::AS_WRITTEN, &plan.bytes()).expect("the plan is valid");

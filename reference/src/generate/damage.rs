@@ -8,7 +8,7 @@ use super::shapes::Shape;
 use super::valid::{full_network, fullest, plan, Size};
 use crate::check::LONGEST_TABLE;
 use crate::random::Random;
-use crate::records::{HalfLink, Kind, Member, Plan, Vid};
+use crate::records::{HalfLink, Kind, Member, Plan, Vid, OVERLOAD_BIT};
 use crate::refusal::Refusal;
 use crate::words::bytes_of;
 
@@ -171,6 +171,9 @@ fn one_over(kind: Kind, random: &mut Random) -> Vec<Damaged> {
     if kind.zero_bits() != 0 {
         let lowest_zero_bit = 1 << kind.zero_bits().trailing_zeros();
         family.push(with("one over the limit, zero bit", &|record| record[0] |= lowest_zero_bit, 4));
+    }
+    if kind == Kind::Bridge {
+        family.push(with("one over the limit, overloaded", &|record| record[0] |= OVERLOAD_BIT, 5));
     }
     family
 }

@@ -1,7 +1,7 @@
 //! Edits of one record of a valid plan that make it faulty, each with the refusal
 //! that it leads to. Every record, field and limit of a range is edited.
 
-use crate::records::{Bridge, HalfLink, Kind, Member, Plan, Vid, GROUP_BIT};
+use crate::records::{Bridge, HalfLink, Kind, Member, Plan, Vid, GROUP_BIT, OVERLOAD_BIT};
 use crate::refusal::Refusal;
 
 /// A record of a plan: its kind, its number among its kind, its first word.
@@ -107,12 +107,16 @@ impl Editor<'_> {
         }
     }
 
-    /// Every zero bit alone, and one with the rest of its word zero.
+    /// Every zero bit alone, and one with the rest of its word zero; of a bridge also
+    /// beside the overload bit.
     fn edit_zero_bits(&mut self) {
         let zero_bits = self.place.kind.zero_bits();
         for bit in (0..32).map(|bit| 1 << bit).filter(|bit| zero_bits & bit != 0) {
             self.add("zero bit set", 4, &[self.first_word() | bit]);
             self.add("zero bit set, field zero", 4, &[self.place.kind.tag() | bit]);
+            if self.place.kind == Kind::Bridge {
+                self.add("zero bit set, overloaded", 4, &[self.first_word() | OVERLOAD_BIT | bit]);
+            }
         }
     }
 
@@ -131,7 +135,7 @@ impl Editor<'_> {
         self.add("address zero", 6, &Bridge { address: 0, ..bridge }.words());
         self.add("group address", 6, &Bridge { address: bridge.address | GROUP_BIT, ..bridge }.words());
         for place in self.earlier() {
-            let Bridge { address, source_id, priority } = self.plan.bridges[place];
+            let Bridge { address, source_id, priority, .. } = self.plan.bridges[place];
             self.add("address repeated", 8, &Bridge { address, ..bridge }.words());
             self.add("identifier repeated", 8, &Bridge { address, priority, ..bridge }.words());
             let other_priority = !priority;
@@ -141,7 +145,16 @@ impl Editor<'_> {
                 &Bridge { address, priority: other_priority, ..bridge }.words(),
             );
             self.add("SPsourceID repeated", 8, &Bridge { source_id, ..bridge }.words());
+            self.repeat_with_other_overload(bridge, self.plan.bridges[place]);
         }
+    }
+
+    /// A repeat is one whether both bridges are overloaded or one of them.
+    fn repeat_with_other_overload(&mut self, bridge: Bridge, earlier: Bridge) {
+        let Bridge { address, source_id, .. } = earlier;
+        let marked = Bridge { overloaded: !earlier.overloaded, ..bridge };
+        self.add("address repeated, other overload", 8, &Bridge { address, ..marked }.words());
+        self.add("SPsourceID repeated, other overload", 8, &Bridge { source_id, ..marked }.words());
     }
 
     fn edit_half_link(&mut self) {

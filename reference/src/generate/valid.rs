@@ -1,6 +1,6 @@
 //! Valid plans of every shape: ties, parallel links, asymmetric and unusable
 //! metrics, lone half-links, parts that are apart, equal and varied priorities,
-//! largest sizes, and the star that reaches the longest entry list.
+//! overloaded bridges, largest sizes, and the star that reaches the longest entry list.
 
 use std::collections::BTreeSet;
 
@@ -48,7 +48,28 @@ pub fn plan_of_shape(shape: Shape, size: Size, random: &mut Random) -> Plan {
     let half_links = half_links(&pairs, random);
     let vids = vids(size.vids, random);
     let members = members(size, &vids, random);
-    Plan { bridges, half_links, vids, members }
+    with_overload(Plan { bridges, half_links, vids, members }, random)
+}
+
+/// The plan with overloaded bridges: none in a third of the plans, else one, one in
+/// four, every other one, or all.
+fn with_overload(mut plan: Plan, random: &Random) -> Plan {
+    let mut random = random.beside();
+    let bridges = &mut plan.bridges;
+    if bridges.is_empty() {
+        return plan;
+    }
+    match random.between(0, 8) {
+        0..=2 => {}
+        3 | 4 => {
+            let place = random.below(bridges.len());
+            bridges[place].overloaded = true;
+        }
+        5 | 6 => bridges.iter_mut().for_each(|bridge| bridge.overloaded = random.one_in(4)),
+        7 => bridges.iter_mut().for_each(|bridge| bridge.overloaded = random.one_in(2)),
+        _ => bridges.iter_mut().for_each(|bridge| bridge.overloaded = true),
+    }
+    plan
 }
 
 /// Numbers from `least` to `greatest`, all different, the ends among the likely ones.
@@ -75,6 +96,7 @@ fn bridges(count: usize, random: &mut Random) -> Vec<Bridge> {
     let addresses = addresses(count, random);
     let priorities = random.between(0, 3);
     let bridge = |(&source_id, &address): (&u64, &u64)| Bridge {
+        overloaded: false,
         source_id: source_id as u32,
         priority: priority(priorities, random),
         address,
@@ -241,6 +263,7 @@ fn members(size: Size, vids: &[Vid], random: &mut Random) -> Vec<Member> {
 /// every bridge a transmitting and receiving member of one service.
 pub fn longest_star() -> Plan {
     let bridge = |number: u32| Bridge {
+        overloaded: false,
         source_id: number + 1,
         priority: 0x8000,
         address: 0x0200_0000_0001 + u64::from(number),
@@ -258,10 +281,12 @@ pub fn longest_star() -> Plan {
     }
 }
 
-/// A table of the greatest length, full in every kind.
+/// A table of the greatest length, full in every kind. It may have overloaded
+/// bridges, which the tables that the benchmark measures have not.
 pub fn fullest(random: &mut Random) -> Plan {
     let shape = *random.pick(&Shape::MEASURED);
-    fullest_of_shape(shape, Kind::Bridge.limit(), random)
+    let plan = fullest_of_shape(shape, Kind::Bridge.limit(), random);
+    with_overload(plan, random)
 }
 
 /// A full network with all 16 VIDs and a member for each bridge.

@@ -13,7 +13,7 @@ use crate::generate::valid::{fullest, longest_star, plan as random_plan, Size};
 use crate::path::{named_path, path};
 use crate::random::Random;
 use crate::rank::{Path, Ranking};
-use crate::records::{Member, Plan, Vid, UNUSABLE_METRIC};
+use crate::records::{HalfLink, Member, Plan, Vid, UNUSABLE_METRIC};
 use crate::refusal::Refusal;
 use crate::rules::Rules;
 use crate::search::{for_each_path_up_to, for_each_simple_path};
@@ -102,30 +102,49 @@ fn written_lists(setting: &Setting, plan: &Plan, table: &[u8]) -> Result<Vec<Vec
     Ok(lists)
 }
 
-/// Which bridges a chain of usable links joins.
+/// Which bridges a chain of usable links joins that has no overloaded bridge between.
 struct Joined {
-    part: Vec<usize>,
+    /// The ends of usable links, each link both ways.
+    links: BTreeSet<(usize, usize)>,
+    /// For each bridge the parts that a chain from it enters, or in which it lies: a
+    /// part is what links between bridges that are not overloaded hold together.
+    parts: Vec<BTreeSet<usize>>,
 }
 
 impl Joined {
-    /// Joins the parts of both ends for each two half-links that make a link.
     fn of(plan: &Plan) -> Joined {
+        let links = usable_ends(plan);
+        let overloaded = |bridge: usize| plan.bridges[bridge].overloaded;
         let mut part: Vec<usize> = (0..plan.bridges.len()).collect();
-        for near in &plan.half_links {
-            for far in &plan.half_links {
-                let is_link = near.link == far.link && near.near == far.far && near.far == far.near;
-                if is_link && near.metric < UNUSABLE_METRIC && far.metric < UNUSABLE_METRIC {
-                    let (one, other) = (part[usize::from(near.near)], part[usize::from(near.far)]);
-                    part.iter_mut().filter(|part| **part == other).for_each(|part| *part = one);
-                }
-            }
+        for &(near, far) in links.iter().filter(|&&(near, far)| !overloaded(near) && !overloaded(far)) {
+            let (one, other) = (part[near], part[far]);
+            part.iter_mut().filter(|part| **part == other).for_each(|part| *part = one);
         }
-        Joined { part }
+        let mut parts = vec![BTreeSet::new(); part.len()];
+        for bridge in (0..part.len()).filter(|&bridge| !overloaded(bridge)) {
+            parts[bridge].insert(part[bridge]);
+        }
+        for &(near, far) in links.iter().filter(|&&(_, far)| !overloaded(far)) {
+            parts[near].insert(part[far]);
+        }
+        Joined { links, parts }
     }
 
+    /// By a link of their own, or both by one part.
     fn joins(&self, one: usize, other: usize) -> bool {
-        self.part[one] == self.part[other]
+        self.links.contains(&(one, other)) || !self.parts[one].is_disjoint(&self.parts[other])
     }
+}
+
+/// The ends of each two half-links that make a usable link, both ways.
+fn usable_ends(plan: &Plan) -> BTreeSet<(usize, usize)> {
+    let halves = &plan.half_links;
+    let makes_link = |near: &HalfLink, far: &HalfLink| {
+        let mirrored = near.link == far.link && near.near == far.far && near.far == far.near;
+        mirrored && near.metric < UNUSABLE_METRIC && far.metric < UNUSABLE_METRIC
+    };
+    let is_usable = |near: &&HalfLink| halves.iter().any(|far| makes_link(near, far));
+    halves.iter().filter(is_usable).map(|near| (usize::from(near.near), usize::from(near.far))).collect()
 }
 
 /// What demand 3 says of one VID of a table.
@@ -221,7 +240,9 @@ impl VidVerifier<'_> {
 
     /// Every other list of bridges between the ends ranks higher: all of them on
     /// small tables, some with bridges twice; on larger ones each neighbour's
-    /// path with one hop more, which is enough because hops add to a rank alike.
+    /// path with one hop more, which is enough because hops add to a rank alike. That of
+    /// an overloaded neighbour that is not the end makes no path; a neighbour may have
+    /// none where this bridge is overloaded.
     fn verify_least(&self, given: &Path) -> Outcome {
         let (from, to) = (given.bridges[0], given.last());
         let mut lower = None;
@@ -235,9 +256,10 @@ impl VidVerifier<'_> {
             for_each_path_up_to(&self.ranking, (from, to), 4, &mut compare);
         } else {
             for (next, _) in self.ranking.network.neighbours(from) {
-                let rest = self.given(next, to).map(|path| path.bridges).unwrap_or_default();
-                let longer: Vec<usize> = std::iter::once(from).chain(rest).collect();
-                self.ranking.path(&longer).iter().for_each(&mut compare);
+                if let Ok(rest) = self.given(next, to) {
+                    let longer: Vec<usize> = std::iter::once(from).chain(rest.bridges).collect();
+                    self.ranking.path(&longer).iter().for_each(&mut compare);
+                }
             }
         }
         ensure!(lower.is_none(), "{:?} is given, {lower:?} does not rank higher", given.bridges);
@@ -289,7 +311,8 @@ impl VidVerifier<'_> {
     }
 
     /// Each other receiving member with a path is reached exactly once, no bridge
-    /// twice, the sender never, and the copies come to an end.
+    /// twice, the sender never, the copies come to an end, and an overloaded bridge
+    /// that received one passes none on.
     fn verify_group(&self, transmitter: &Member) -> Outcome {
         let sender = usize::from(transmitter.bridge);
         let address = expected_group_address(self.forwarding.plan, transmitter);
@@ -298,6 +321,10 @@ impl VidVerifier<'_> {
         for crossings in &rounds {
             self.verify_arrival_ports(sender, crossings)?;
             crossings.iter().for_each(|crossing| reached[crossing.entered] += 1);
+            let passed_on = crossings.iter().find(|crossing| {
+                crossing.left != sender && self.forwarding.plan.bridges[crossing.left].overloaded
+            });
+            equal("passed on by an overloaded bridge", passed_on, None)?;
         }
         ensure!(rounds.last().is_some_and(Vec::is_empty), "copies are left after {} rounds", rounds.len());
         equal("the sender is reached", reached[sender], 0)?;

@@ -24,6 +24,7 @@ pub fn plan(bridges: &[(u16, u64)], links: &[FixedLink]) -> Plan {
 /// As `plan`, with the link numbers given.
 pub fn numbered_plan(bridges: &[(u16, u64)], links: &[FixedLink], numbers: &[u16]) -> Plan {
     let bridge = |(place, &(priority, end)): (usize, &(u16, u64))| Bridge {
+        overloaded: false,
         source_id: place as u32 + 1,
         priority,
         address: 0x0200_0000_0000 + end,

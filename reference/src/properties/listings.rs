@@ -13,11 +13,11 @@ use crate::records::{Plan, Vid};
 use crate::refusal::Refusal;
 use crate::words::from_text;
 
-const WORKED_TABLE: &str = "10000001 80000200 00000001 10000002 80000200 00000002 \
+pub(super) const WORKED_TABLE: &str = "10000001 80000200 00000001 10000002 80000200 00000002 \
     2000000A 00000001 00010007 2000000C 00010000 00020007 300A0001 \
     42000100 0000000A 41000100 0001000A F0000011";
 
-const WORKED_LISTING: &str = "\
+pub(super) const WORKED_LISTING: &str = "\
 counts 2 2 1 1 2
 path 10 0 1 12 1 0 1
 path 10 1 0 12 1 1 0

@@ -8,6 +8,7 @@ pub mod figures;
 pub mod fixture;
 pub mod listings;
 pub mod lookups;
+pub mod overload;
 pub mod standard;
 pub mod tables;
 
@@ -41,6 +42,8 @@ properties! {
     figures: diamond, diamond_with_priority, direct_link, six_bridges, parallel_links, metric_ends,
         least_and_empty_table, sixty_four_bridges, places_for_two_hops, longest_table, longest_entry_list,
         exported_figures;
+    overload: overloaded_diamond, overloaded_bridge_between, overload_bit_alone_accepted,
+        tables_without_overload_list_as_before, overload_changes_no_count, overload_takes_paths_away;
     standard: masks_of_table_28_1, fewer_bridges_first, higher_fourth_bridge, complement_is_not_greatest,
         equal_priorities, group_addresses;
     tables: every_edit_refused, every_truncation_refused, wrong_lengths_refused, words_after_end_refused,

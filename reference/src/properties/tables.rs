@@ -63,8 +63,8 @@ pub fn two_faults_refused(setting: &Setting) -> Outcome {
 
 /// The least and the greatest value of each range, and what is no repeat.
 pub fn ends_of_ranges_accepted(setting: &Setting) -> Outcome {
-    let one = Bridge { source_id: 1, priority: 0, address: 1 };
-    let two = Bridge { source_id: 1_048_575, priority: 0xFFFF, address: 0xFEFF_FFFF_FFFF };
+    let one = Bridge { overloaded: false, source_id: 1, priority: 0, address: 1 };
+    let two = Bridge { overloaded: true, source_id: 1_048_575, priority: 0xFFFF, address: 0xFEFF_FFFF_FFFF };
     let least = HalfLink { metric: 1, near: 0, far: 1, port: 1, link: 1 };
     let greatest = HalfLink { metric: UNUSABLE_METRIC, near: 0, far: 1, port: 4_095, link: 65_535 };
     let mirror = |half: HalfLink| HalfLink { near: half.far, far: half.near, ..half };

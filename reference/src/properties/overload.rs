@@ -1,0 +1,158 @@
+//! Request A1 of document 02: the diamond and the worked listing with overloaded
+//! bridges, the bits around the overload bit, and what overload leaves as it was.
+
+use std::cmp::Ordering;
+
+use super::agreement::{every_pair, for_small_plans};
+use super::fixture::{diamond, ends, link, plan as fixed_plan, route};
+use super::listings::{WORKED_LISTING, WORKED_TABLE};
+use super::{ensure, equal, Outcome, Setting};
+use crate::check::{check, Counts};
+use crate::checked::Checked;
+use crate::listing::listing;
+use crate::path::{exported_path_cost, PathAnswer};
+use crate::records::{Kind, Plan, BELOW_OVERLOAD_BIT, OVERLOAD_BIT};
+use crate::refusal::Refusal;
+use crate::rules::{Misreading, Rules};
+use crate::search::chosen_path;
+use crate::words::{bytes_of, from_text, words_of};
+
+/// The plan with these bridges overloaded and no others.
+pub fn overloaded(mut plan: Plan, bridges: &[usize]) -> Plan {
+    for (number, bridge) in plan.bridges.iter_mut().enumerate() {
+        bridge.overloaded = bridges.contains(&number);
+    }
+    plan
+}
+
+/// A path by its bridges and cost; without them, 12.
+type Figure<'a> = ([u32; 2], Option<(&'a [u32], u64)>);
+
+/// The figures of a plan for an index, each in both directions.
+fn holds(setting: &Setting, plan: &Plan, index: u32, figures: &[Figure]) -> Outcome {
+    for &([from, to], path) in figures {
+        let answer = |bridges: &[u32], cost| (bridges.to_vec(), PathAnswer { cost, hops: bridges.len() - 1 });
+        let expected = path.map(|(bridges, cost)| answer(bridges, cost)).ok_or(Refusal::NO_PATH);
+        let reversed = expected.clone().map(|(bridges, given)| (bridges.into_iter().rev().collect(), given));
+        let name = format!("index {index}, {from} and {to}");
+        equal(&name, route(setting.rules, plan, index, from, to), expected)?;
+        equal(&name, route(setting.rules, plan, index, to, from), reversed)?;
+    }
+    Ok(())
+}
+
+/// The diamond with overloaded bridges, index 1 and 2.
+pub fn overloaded_diamond(setting: &Setting) -> Outcome {
+    let with = |bridges: &[usize]| overloaded(diamond([0x8000; 4]), bridges);
+    for index in [1, 2] {
+        let by_1 = ([0, 3], Some((&[0, 1, 3][..], 20)));
+        let by_2 = ([0, 3], Some((&[0, 2, 3][..], 20)));
+        let by_0 = ([1, 2], Some((&[1, 0, 2][..], 20)));
+        let by_3 = ([1, 2], Some((&[1, 3, 2][..], 20)));
+        let (end_to_end, across) = if index == 1 { (by_1, by_0) } else { (by_2, by_3) };
+        holds(setting, &with(&[]), index, &[end_to_end, across])?;
+        holds(setting, &with(&[1]), index, &[by_2, across, ([0, 1], Some((&[0, 1], 10)))])?;
+        holds(setting, &with(&[2]), index, &[by_1, across])?;
+        holds(setting, &with(&[1, 2]), index, &[([0, 3], None), across])?;
+        holds(setting, &with(&[0, 3]), index, &[end_to_end, ([1, 2], None)])?;
+        holds(setting, &with(&[0, 1]), index, &[([0, 1], Some((&[0, 1], 10))), by_2, by_3])?;
+        let apart = [([0, 3], None), ([1, 2], None), ([2, 3], Some((&[2, 3][..], 10)))];
+        holds(setting, &with(&[0, 1, 2, 3]), index, &apart)?;
+    }
+    Ok(())
+}
+
+/// A direct link of 50 against 10 and 10 by an overloaded bridge: direct. Without
+/// it 12, also from exported path cost.
+pub fn overloaded_bridge_between(setting: &Setting) -> Outcome {
+    const TWELVE: u64 = 4_294_967_308;
+    let line = [link(0, 1, 10), link(1, 2, 10)];
+    let direct = [line[0], line[1], link(0, 2, 50)];
+    let with = |links: &[_], bridges: &[usize]| overloaded(fixed_plan(&ends([1, 2, 3]), links), bridges);
+    holds(setting, &with(&direct, &[1]), 1, &[([0, 2], Some((&[0, 2], 50)))])?;
+    holds(setting, &with(&direct, &[0, 2]), 1, &[([0, 2], Some((&[0, 1, 2], 20)))])?;
+    let alone = with(&line, &[1]);
+    let reached = [([0, 1], Some((&[0, 1][..], 10))), ([1, 2], Some((&[1, 2][..], 10)))];
+    holds(setting, &alone, 1, &[([0, 2], None), reached[0], reached[1]])?;
+    equal("exported", exported_path_cost(setting.rules, &alone.bytes(), 1, 0, 2), TWELVE)
+}
+
+/// The worked table with bits set in the first words of its bridges.
+fn worked_with(bits: [u32; 2]) -> Result<Vec<u8>, String> {
+    let mut words = words_of(&from_text(WORKED_TABLE)?);
+    words[0] |= bits[0];
+    words[Kind::Bridge.words()] |= bits[1];
+    Ok(bytes_of(&words))
+}
+
+/// Both bridges of the worked table are ends alone, so that it lists as it does
+/// whichever is overloaded; the bit below is a zero bit, beside the overload bit too.
+pub fn overload_bit_alone_accepted(setting: &Setting) -> Outcome {
+    let (set, below) = (OVERLOAD_BIT, BELOW_OVERLOAD_BIT);
+    for bits in [[set, 0], [0, set], [set, set]] {
+        let text = listing(setting.rules, &worked_with(bits)?);
+        equal(&format!("bits {bits:08X?}"), text, WORKED_LISTING.to_string())?;
+    }
+    for (bits, word) in [([below, 0], 0), ([set, below], 3), ([set, set | below], 3), ([set | below, 0], 0)] {
+        let found = check(setting.rules, &worked_with(bits)?);
+        equal(&format!("bits {bits:08X?}"), found, Err(Refusal::of_record(4, Kind::Bridge, word)))?;
+    }
+    Ok(())
+}
+
+/// Tables without the bit list as before, when a bridge could lie between anywhere.
+pub fn tables_without_overload_list_as_before(setting: &Setting) -> Outcome {
+    let before = Rules::with(Misreading::OverloadIgnored);
+    for_small_plans(setting, 7, &|plan, _| {
+        let table = overloaded(plan.clone(), &[]).bytes();
+        equal("listing", listing(setting.rules, &table), listing(before, &table))
+    })
+}
+
+/// The counts of a plan as its records have them, and with any one bridge's bit
+/// flipped.
+pub fn overload_changes_no_count(setting: &Setting) -> Outcome {
+    for_small_plans(setting, 7, &|plan, table| {
+        let unmarked = overloaded(plan.clone(), &[]).bytes();
+        let counts: Result<Counts, Refusal> = check(setting.rules, &unmarked);
+        ensure!(counts.is_ok(), "without overloaded bridges: {counts:?}");
+        equal("counts", check(setting.rules, table), counts)?;
+        for bridge in 0..plan.bridges.len() {
+            let mut words = plan.words();
+            words[bridge * Kind::Bridge.words()] ^= OVERLOAD_BIT;
+            let flipped = check(setting.rules, &bytes_of(&words));
+            equal(&format!("counts with bridge {bridge} flipped"), flipped, counts)?;
+        }
+        Ok(())
+    })
+}
+
+/// Overload takes paths away and adds none: the chosen path stays where none between
+/// is overloaded, else a higher one takes its place, or none.
+pub fn overload_takes_paths_away(setting: &Setting) -> Outcome {
+    for_small_plans(setting, 7, &|plan, table| {
+        let refused = |refusal: Refusal| format!("a valid table is refused: {refusal:?}");
+        let marked = Checked::new(setting.rules, table).map_err(refused)?;
+        let unmarked = overloaded(plan.clone(), &[]).bytes();
+        let unmarked = Checked::new(Rules::AS_WRITTEN, &unmarked).map_err(refused)?;
+        let ranking = unmarked.ranking(1);
+        for (from, to) in every_pair(plan) {
+            let before = chosen_path(&ranking, from, to);
+            let found = marked.paths_from(1, from)[to].clone();
+            let has_between = |bridges: &[usize]| {
+                bridges.len() > 2
+                    && bridges[1..bridges.len() - 1].iter().any(|&bridge| plan.bridges[bridge].overloaded)
+            };
+            let Some(before) = before.filter(|path| has_between(&path.bridges)) else {
+                let before = chosen_path(&ranking, from, to);
+                equal(&format!("from {from} to {to}"), found, before)?;
+                continue;
+            };
+            let lower = found.filter(|path| {
+                has_between(&path.bridges) || ranking.compare(path, &before) != Ordering::Greater
+            });
+            equal(&format!("no higher path from {from} to {to}"), lower, None)?;
+        }
+        Ok(())
+    })
+}
