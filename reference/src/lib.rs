@@ -1,5 +1,5 @@
-//! A separate implementation of document 01, written from its text and the
-//! readings in docs/DECISIONS.md.
+//! A separate implementation of document 01 with request A1 of document 02, written
+//! from their text and the readings in docs/DECISIONS.md.
 //!
 //! The calls (`check`, `path`, `tree`, `entries`, `lookup`, `listing`), the frames
 //! that move by the words written (`frames`), generators of tables (`generate`),

@@ -1,6 +1,7 @@
 //! The stored case of the program `probe_calls`: questions to the worked example of
 //! document 01, to the same bridges without links, to a small plan of a seed, to
-//! the table of one word and to refused tables.
+//! the table of one word and to refused tables; and all paths, trees and entries of
+//! the diamond with overloaded bridges.
 //! Holds a folder's `stdin` and `stdout` to it, or writes them with `--write`.
 
 use std::io;
@@ -13,12 +14,18 @@ use reference::check::read;
 use reference::comparing::stored;
 use reference::generate::questions::questions;
 use reference::generate::valid::{plan, Size};
+use reference::properties::fixture::diamond;
+use reference::properties::overload::overloaded;
 use reference::random::Random;
+use reference::records::{Member, Plan, BELOW_OVERLOAD_BIT};
 use reference::rules::Rules;
 use reference::words::{bytes_of, from_text};
 
 const USAGE: Usage =
     Usage { text: "call-vectors --folder NAME [--write]", values: &["folder"], flags: &["write"] };
+
+/// The words of a list that holds the entries of any bridge of the diamond.
+const MOST_WORDS: usize = 60;
 
 fn main() -> io::Result<ExitCode> {
     let arguments = Arguments::of_process(&USAGE);
@@ -49,5 +56,42 @@ fn asked() -> Vec<(Vec<u8>, Vec<Question>)> {
         })
         .collect();
     asked.push((worked, Vec::new()));
+    asked.extend(overloaded_diamonds());
     asked
+}
+
+/// No bridge of the diamond overloaded, one, two next to each other, the two pairs
+/// that are not joined, and all; and one with a zero bit set, which is refused.
+fn overloaded_diamonds() -> Vec<(Vec<u8>, Vec<Question>)> {
+    let choices: [&[usize]; 6] = [&[], &[1], &[0, 1], &[1, 2], &[0, 3], &[0, 1, 2, 3]];
+    let plans = choices.map(|bridges| overloaded(diamond_of_service(), bridges));
+    let mut faulty = plans[1].words();
+    faulty[0] |= BELOW_OVERLOAD_BIT;
+    let questions = every_question(&plans[0]);
+    let tables = plans.iter().map(Plan::bytes).chain([bytes_of(&faulty)]);
+    tables.map(|table| (table, questions.clone())).collect()
+}
+
+/// The diamond with index 1 and 2, and all bridges members of one service.
+fn diamond_of_service() -> Plan {
+    let mut plan = diamond([0x8000; 4]);
+    plan.vids.truncate(2);
+    let member = |bridge: u16| Member { transmits: true, receives: true, service: 256, bridge, vid: 1 };
+    plan.members = (0..4).map(member).collect();
+    plan
+}
+
+/// Every path, tree and list of entries of a plan, into lists that hold them.
+fn every_question(plan: &Plan) -> Vec<Question> {
+    let size = plan.bridges.len();
+    let bridges = || 0..size as u32;
+    let mut questions = Vec::new();
+    for vid in plan.vids.iter().map(|record| u32::from(record.vid)) {
+        for from in bridges() {
+            questions.extend(bridges().map(|to| Question::Path { vid, from, to, places: size }));
+            questions.push(Question::Tree { vid, from, places: [size; 3] });
+        }
+    }
+    questions.extend(bridges().map(|bridge| Question::Entries { bridge, places: MOST_WORDS }));
+    questions
 }

@@ -1,7 +1,7 @@
 //! The stored case of the program `probe_check`: the worked example of document 01,
-//! an empty table, the table of one word, and for each refusal number and kind
-//! one damaged table. Holds a folder's `stdin` and `stdout` to it, or
-//! writes them with `--write`.
+//! an empty table, the table of one word, for each refusal number and kind one
+//! damaged table, and the worked example with bits set in a bridge's first word.
+//! Holds a folder's `stdin` and `stdout` to it, or writes them with `--write`.
 
 use std::collections::BTreeMap;
 use std::io;
@@ -15,8 +15,9 @@ use reference::comparing::stored;
 use reference::generate::damage::{edited_once, over_limit, truncations, words_after_end, Damaged};
 use reference::generate::valid::{plan as seeded_plan, Size};
 use reference::random::Random;
+use reference::records::{Kind, BELOW_OVERLOAD_BIT, OVERLOAD_BIT};
 use reference::rules::Rules;
-use reference::words::{bytes_of, from_text};
+use reference::words::{bytes_of, from_text, words_of};
 
 const USAGE: Usage =
     Usage { text: "check-vectors --folder NAME [--write]", values: &["folder"], flags: &["write"] };
@@ -40,9 +41,28 @@ fn tables() -> Vec<Vec<u8>> {
     damaged.extend((0..9).map(|_| words_after_end(&plan, &mut random)));
     damaged.extend(edited_once(&seeded_plan(Size { bridges: 3, vids: 2, members: 2 }, &mut random)));
     damaged.extend(over_limit(&mut random));
+    let with_bits = worked_with_bits(&worked);
     let mut tables = vec![worked, Vec::new(), bytes_of(&[0xF000_0000])];
     tables.extend(one_for_each(damaged).into_values().map(|damaged| damaged.table));
+    tables.extend(with_bits);
     tables
+}
+
+/// The worked example with the overload bit, each zero bit of a bridge, and both set
+/// in the first words of its bridges.
+fn worked_with_bits(worked: &[u8]) -> Vec<Vec<u8>> {
+    let zero_bits = (0..32).map(|bit| 1 << bit).filter(|bit| Kind::Bridge.zero_bits() & bit != 0);
+    let mut bits = vec![[OVERLOAD_BIT, 0], [0, OVERLOAD_BIT], [OVERLOAD_BIT, OVERLOAD_BIT]];
+    bits.extend(zero_bits.map(|bit| [0, bit]));
+    bits.push([OVERLOAD_BIT | BELOW_OVERLOAD_BIT, 0]);
+    bits.push([OVERLOAD_BIT, OVERLOAD_BIT | BELOW_OVERLOAD_BIT]);
+    let with_bits = |[first, second]: [u32; 2]| {
+        let mut words = words_of(worked);
+        words[0] |= first;
+        words[Kind::Bridge.words()] |= second;
+        bytes_of(&words)
+    };
+    bits.into_iter().map(with_bits).collect()
 }
 
 /// The first of the damaged tables for each refusal number and kind.

@@ -11,6 +11,7 @@ use crate::check::{check, Counts};
 use crate::checked::Checked;
 use crate::listing::listing;
 use crate::path::{exported_path_cost, PathAnswer};
+use crate::rank::Path;
 use crate::records::{Kind, Plan, BELOW_OVERLOAD_BIT, OVERLOAD_BIT};
 use crate::refusal::Refusal;
 use crate::rules::{Misreading, Rules};
@@ -132,27 +133,29 @@ pub fn overload_changes_no_count(setting: &Setting) -> Outcome {
 pub fn overload_takes_paths_away(setting: &Setting) -> Outcome {
     for_small_plans(setting, 7, &|plan, table| {
         let refused = |refusal: Refusal| format!("a valid table is refused: {refusal:?}");
-        let marked = Checked::new(setting.rules, table).map_err(refused)?;
-        let unmarked = overloaded(plan.clone(), &[]).bytes();
-        let unmarked = Checked::new(Rules::AS_WRITTEN, &unmarked).map_err(refused)?;
-        let ranking = unmarked.ranking(1);
+        let now = Checked::new(setting.rules, table).map_err(refused)?;
+        let before =
+            Checked::new(Rules::AS_WRITTEN, &overloaded(plan.clone(), &[]).bytes()).map_err(refused)?;
+        let ranking = before.ranking(1);
         for (from, to) in every_pair(plan) {
-            let before = chosen_path(&ranking, from, to);
-            let found = marked.paths_from(1, from)[to].clone();
-            let has_between = |bridges: &[usize]| {
-                bridges.len() > 2
-                    && bridges[1..bridges.len() - 1].iter().any(|&bridge| plan.bridges[bridge].overloaded)
-            };
-            let Some(before) = before.filter(|path| has_between(&path.bridges)) else {
-                let before = chosen_path(&ranking, from, to);
-                equal(&format!("from {from} to {to}"), found, before)?;
-                continue;
-            };
-            let lower = found.filter(|path| {
-                has_between(&path.bridges) || ranking.compare(path, &before) != Ordering::Greater
-            });
-            equal(&format!("no higher path from {from} to {to}"), lower, None)?;
+            let found = now.paths_from(1, from)[to].clone();
+            match chosen_path(&ranking, from, to) {
+                Some(taken) if has_overloaded_between(plan, &taken) => {
+                    let is_higher = |path: &Path| ranking.compare(path, &taken) == Ordering::Greater;
+                    let remains = |path: &Path| is_higher(path) && !has_overloaded_between(plan, path);
+                    ensure!(found.as_ref().is_none_or(remains), "from {from} to {to}: {found:?}");
+                }
+                kept => equal(&format!("from {from} to {to}"), found, kept)?,
+            }
         }
         Ok(())
     })
+}
+
+fn has_overloaded_between(plan: &Plan, path: &Path) -> bool {
+    let last = path.hops();
+    path.bridges
+        .iter()
+        .enumerate()
+        .any(|(place, &bridge)| place != 0 && place != last && plan.bridges[bridge].overloaded)
 }
