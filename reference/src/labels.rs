@@ -36,7 +36,8 @@ pub fn chosen_paths(ranking: &Ranking, from: usize) -> Vec<Option<Path>> {
     labels
 }
 
-/// Whether a bridge hands its label on to its neighbours.
+/// Whether a bridge hands its label on to its neighbours: where the paths begin, and
+/// where it is not overloaded.
 fn hands_on(ranking: &Ranking, root: usize, bridge: usize) -> bool {
     let rules = ranking.rules;
     if bridge == root {

@@ -1,7 +1,7 @@
 //! Writes a module of the proof checker's language that holds the definitions of
-//! document 01 in `crates/rule` to the reference: for seeded tables, what each
-//! call gives, as equations that the checker computes. The script
-//! `compare-definitions` has it checked.
+//! document 01 in `crates/rule` to the reference: for seeded tables and the diamond
+//! with overloaded bridges, what each call gives, as equations that the checker
+//! computes. The script `compare-definitions` has it checked.
 
 use reference::arguments::{Arguments, Usage};
 use reference::check::check;
@@ -10,8 +10,9 @@ use reference::generate::damage::damaged;
 use reference::generate::valid::{plan, Size};
 use reference::lookup::lookup;
 use reference::path::{exported_path_cost, path};
+use reference::properties::fixture::{diamond, overloaded};
 use reference::random::Random;
-use reference::records::Plan;
+use reference::records::{Member, Plan};
 use reference::refusal::Refusal;
 use reference::rules::Rules;
 use reference::tree::{tree, TreeLists};
@@ -24,6 +25,9 @@ const USAGE: Usage = Usage {
 
 /// Longer tables take the checker too long.
 const LONGEST: usize = 1_200;
+
+/// Which bridges of the diamond are overloaded.
+const OVERLOADED: [&[usize]; 3] = [&[1], &[1, 2], &[0, 3]];
 
 /// What the lent lists hold before a call.
 const OLD: u32 = 7;
@@ -62,8 +66,11 @@ fn main() {
     let first = arguments.number("first", 0);
     let bridges = arguments.number("bridges", 4) as usize;
     println!("{HEADER}");
+    for (number, bridges) in OVERLOADED.iter().enumerate() {
+        Vectors::new(format!("diamond{number}"), Random::new(seed)).of_diamond(bridges);
+    }
     for number in first..first + arguments.number("count", 50) {
-        let mut vectors = Vectors { random: Random::for_case(seed, number), number, written: 0 };
+        let mut vectors = Vectors::new(format!("table{number}"), Random::for_case(seed, number));
         if number % 2 == 0 {
             let size = Size::up_to(bridges, &mut vectors.random);
             let plan = plan(size, &mut vectors.random);
@@ -77,11 +84,31 @@ fn main() {
 /// The equations about one table.
 struct Vectors {
     random: Random,
-    number: u64,
+    name: String,
     written: usize,
 }
 
 impl Vectors {
+    fn new(name: String, random: Random) -> Vectors {
+        Vectors { random, name, written: 0 }
+    }
+
+    /// The diamond with overloaded bridges, of which few seeded tables have one
+    /// between: paths from end to end and across, a tree, and the entries of an end.
+    fn of_diamond(&mut self, bridges: &[usize]) {
+        let mut plan = overloaded(diamond([0x8000; 4]), bridges);
+        plan.vids.truncate(1);
+        let member = |bridge: u16| Member { transmits: true, receives: true, service: 256, bridge, vid: 1 };
+        plan.members = [0, 3].map(member).to_vec();
+        let table = plan.bytes();
+        self.table(&table);
+        for (from, to) in [(0, 3), (1, 2)] {
+            self.path(&table, (1, from, to), plan.bridges.len());
+        }
+        self.tree(&table, 1, 0, plan.bridges.len());
+        self.entries(&table, 0);
+    }
+
     fn of_damaged(&mut self) {
         let table = damaged(&mut self.random).table;
         if table.len() <= LONGEST {
@@ -101,7 +128,8 @@ impl Vectors {
                     self.random.between(0, bridges.into()) as u32,
                     self.random.between(0, bridges.into()) as u32,
                 );
-                self.path(&table, question, plan.bridges.len());
+                let places = self.random.below(plan.bridges.len() + 2);
+                self.path(&table, question, places);
             }
             let from = self.random.between(0, bridges.into()) as u32;
             self.tree(&table, vid, from, plan.bridges.len());
@@ -114,30 +142,27 @@ impl Vectors {
     /// Declares the table, and what check gives.
     fn table(&mut self, table: &[u8]) {
         let bytes: Vec<u32> = table.iter().map(|&byte| byte.into()).collect();
-        println!("abbrev table{} : List ℕ\ntable{} = {}\n", self.number, self.number, list(&bytes));
+        println!("abbrev {0} : List ℕ\n{0} = {1}\n", self.name, list(&bytes));
         let counts = check(Rules::AS_WRITTEN, table).map(|counts| {
             format!(
                 "(record {{ bridges = {}; «half_links» = {}; «usable_links» = {}; vids = {}; members = {} }})",
                 counts.bridges, counts.half_links, counts.usable_links, counts.vids, counts.members
             )
         });
-        self.equation(&format!("checkOutcome table{}", self.number), &outcome(counts));
+        self.equation(&format!("checkOutcome {}", self.name), &outcome(counts));
     }
 
-    fn path(&mut self, table: &[u8], question: (u32, u32, u32), bridges: usize) {
+    fn path(&mut self, table: &[u8], question: (u32, u32, u32), places: usize) {
         let (vid, from, to) = question;
-        let mut lent = vec![OLD; self.random.below(bridges + 2)];
+        let mut lent = vec![OLD; places];
         let before = list(&lent);
         let answer = path(Rules::AS_WRITTEN, table, question, &mut lent);
         let values =
             answer.map(|given| format!("(record {{ cost = {}; hops = {} }})", given.cost, given.hops));
-        let call = format!("pathOutcome table{} {vid} {from} {to} ({before})", self.number);
+        let call = format!("pathOutcome {} {vid} {from} {to} ({before})", self.name);
         self.equation(&call, &format!("({}, {})", outcome(values), list(&lent)));
         let exported = exported_path_cost(Rules::AS_WRITTEN, table, vid, from, to);
-        self.equation(
-            &format!("exportedPathCost table{} {vid} {from} {to}", self.number),
-            &exported.to_string(),
-        );
+        self.equation(&format!("exportedPathCost {} {vid} {from} {to}", self.name), &exported.to_string());
     }
 
     fn tree(&mut self, table: &[u8], vid: u32, from: u32, bridges: usize) {
@@ -148,7 +173,7 @@ impl Vectors {
         let [costs, hops, before_last] = &mut lists;
         let given = tree(Rules::AS_WRITTEN, table, vid, from, TreeLists { costs, hops, before_last });
         let after = lists.map(|lent| list(&lent)).join(", ");
-        let call = format!("treeOutcome table{} {vid} {from} {before}", self.number);
+        let call = format!("treeOutcome {} {vid} {from} {before}", self.name);
         self.equation(&call, &format!("({}, {after})", outcome(given.map(|size| size.to_string()))));
     }
 
@@ -159,7 +184,7 @@ impl Vectors {
         let mut lent = vec![OLD; (needed + 2).saturating_sub(self.random.below(4))];
         let before = list(&lent);
         let given = entries(Rules::AS_WRITTEN, table, bridge, &mut lent);
-        let call = format!("entriesOutcome table{} {bridge} ({before})", self.number);
+        let call = format!("entriesOutcome {} {bridge} ({before})", self.name);
         self.equation(
             &call,
             &format!("({}, {})", outcome(given.map(|words| words.to_string())), list(&lent)),
@@ -187,7 +212,7 @@ impl Vectors {
     }
 
     fn equation(&mut self, computed: &str, expected: &str) {
-        let name = format!("table{}-{}", self.number, self.written);
+        let name = format!("{}-{}", self.name, self.written);
         println!("{name} : {computed} ≡ {expected}\n{UNFOLDING}\n{name} = refl\n");
         self.written += 1;
     }

@@ -70,3 +70,11 @@ pub fn diamond(priorities: [u16; 4]) -> Plan {
     let bridges = [1, 2, 3, 4].map(|end| (priorities[end as usize - 1], end));
     plan(&bridges, &[link(0, 1, 10), link(1, 3, 10), link(0, 2, 10), link(2, 3, 10)])
 }
+
+/// The plan with these bridges overloaded and no others.
+pub fn overloaded(mut plan: Plan, bridges: &[usize]) -> Plan {
+    for (number, bridge) in plan.bridges.iter_mut().enumerate() {
+        bridge.overloaded = bridges.contains(&number);
+    }
+    plan
+}

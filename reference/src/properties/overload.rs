@@ -4,7 +4,7 @@
 use std::cmp::Ordering;
 
 use super::agreement::{every_pair, for_small_plans};
-use super::fixture::{diamond, ends, link, plan as fixed_plan, route};
+use super::fixture::{diamond, ends, link, overloaded, plan as fixed_plan, route};
 use super::listings::{WORKED_LISTING, WORKED_TABLE};
 use super::{ensure, equal, Outcome, Setting};
 use crate::check::{check, Counts};
@@ -17,14 +17,6 @@ use crate::refusal::Refusal;
 use crate::rules::{Misreading, Rules};
 use crate::search::chosen_path;
 use crate::words::{bytes_of, from_text, words_of};
-
-/// The plan with these bridges overloaded and no others.
-pub fn overloaded(mut plan: Plan, bridges: &[usize]) -> Plan {
-    for (number, bridge) in plan.bridges.iter_mut().enumerate() {
-        bridge.overloaded = bridges.contains(&number);
-    }
-    plan
-}
 
 /// A path by its bridges and cost; without them, 12.
 type Figure<'a> = ([u32; 2], Option<(&'a [u32], u64)>);
