@@ -44,6 +44,15 @@ impl Checked {
         })
     }
 
+    /// The paths that group entries follow: the chosen ones.
+    pub fn group_paths_from(&self, index: u16, from: usize) -> Paths {
+        if !self.rules.has(Misreading::OverloadedPassesGroups) {
+            return self.paths_from(index, from);
+        }
+        let rules = Rules::with(Misreading::OverloadIgnored);
+        Rc::new(chosen_paths(&Ranking::new(rules, &self.plan, &self.network, index), from))
+    }
+
     /// The ECT index of a VID that a call names, or 11.
     pub fn index_of(&self, vid: u32) -> Result<u16, Refusal> {
         let vid = self.name(vid)?;

@@ -91,7 +91,7 @@ fn group_entries(checked: &Checked, bridge: usize, vid: &Vid) -> Vec<u32> {
 /// The ports of a bridge behind which the transmitter has a receiver, rising.
 fn group_ports(checked: &Checked, bridge: usize, vid: &Vid, transmitter: &Member) -> Vec<u16> {
     let rules = checked.rules;
-    let paths = checked.paths_from(vid.index, usize::from(transmitter.bridge));
+    let paths = checked.group_paths_from(vid.index, usize::from(transmitter.bridge));
     let mut listed = Vec::new();
     for port in ports_of(checked, bridge) {
         for receiver in receivers(checked, transmitter) {

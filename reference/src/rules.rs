@@ -75,6 +75,7 @@ misreadings! {
     "of two overloaded bridges neither reaches the other" OverloadedApart: [Listing, Calls],
     "12 where the lowest list of all has an overloaded bridge between" TwelveAtOverloaded: [Listing, Calls],
     "an overloaded bridge sends no group frames" OverloadedSendsNone: [Listing, Calls],
+    "an overloaded bridge passes group frames on" OverloadedPassesGroups: [Listing, Calls],
     "overload is bit 26" OverloadAtBit26: [Listing, Check, Calls],
     "bit 26 of a bridge is no zero bit" Bit26Accepted: [Listing, Check, Calls],
     "bit 27 of a bridge is a zero bit" OverloadRefused: [Listing, Check, Calls],
