@@ -14,8 +14,7 @@ use Rattle.graph.specs.Chosen.{Chosen}
 use Rattle.graph.specs.Lookups.{Kept}
 use Rattle.labels.specs.Labels.{noCost, labelAt, stateOf}
 use Rattle.labels.specs.Nearest.{Nearest}
-use Rattle.labels.specs.Relaxing.{Relaxed}
-use Rattle.tree.specs.Trees.{markAt, Represents, Keyed, Represented, firstBack}
+use Rattle.tree.specs.Trees.{Represents, Keyed, Represented, firstBack}
 
 -- For one graph and key that the lists stand for.
 pub record Tracked (g : Graph) (key : ℕ → ℕ) (n root : ℕ) (labels path-ids : List ℕ) : Type 0 where
@@ -51,13 +50,6 @@ pub record InOrder (n root : ℕ) (labels order : List ℕ) (count : ℕ) : Type
   pub has-hops : (k : ℕ) → 0 < k → k < count → 0 < labelAt labels (getD order k 0) .hops
   pub after-next : (k : ℕ) → 0 < k → k < count → (j : ℕ) × (j < k) × (getD order j 0 ≡ labelAt labels (getD order k 0) .next)
   pub listed : (u : ℕ) → T (stateOf n labels labels .settled u) → (k : ℕ) × (k < count) × (getD order k 0 ≡ u)
-
--- The settled bridge `u`, which is not the root, passes the way on: its neighbours were offered the way through it where it may lie
--- between, and nothing where it may not.
-pub record PassedOn (starts neighbours costs path-ids : List ℕ) (u : ℕ) (labels labels′ : List ℕ) : Type 0 where
-  pub same-length : length labels′ ≡ length labels
-  pub offered : markAt starts u ≡ 0 → Relaxed starts neighbours costs path-ids u labels labels′
-  pub kept-back : (markAt starts u ≡ 0 → ⊥) → labels′ ≡ labels
 
 -- A search is under way, of some number of bridges, and the bridge `u` is to be settled next: it waits at the least cost.
 pub record Advanceable (starts neighbours costs keys : List ℕ) (root : ℕ) (labels path-ids : List ℕ) (u : ℕ) : Type 0 where

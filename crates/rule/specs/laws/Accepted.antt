@@ -2,7 +2,7 @@
 -- Assumes nothing.
 use Prim.Native.Nat.{ℕ, zero, suc, _+_, _≤_, _<_}
 use native.Mathlib.Omega.{arith}
-use mathlib.Core.Path.{_≡_, refl, sym, _∙_, subst}
+use mathlib.Core.Path.{_≡_, refl, sym, subst}
 use mathlib.Core.List.{List, [], _∷_, _++_}
 use mathlib.Core.Option.{Option, none, some}
 use mathlib.Core.Logic.{_⊎_, inl, inr}
@@ -293,14 +293,6 @@ kept s r l (inr (inr (inr (inl e)))) = rw e (keeps-member s r)
 kept s r l (inr (inr (inr (inr (inl e))))) = rw e (λ F L. L)
 kept s r l (inr (inr (inr (inr (inr k))))) = absurd k
 
--- The end record leaves the plan as it is.
-end-leaves : (p : Plan) (e : Record) (n : ℕ) → endCount e ≡ some n → withRecord p e ≡ p
-end-leaves p (bridge b) n e = absurd (none-not-some e)
-end-leaves p (halfLink h) n e = absurd (none-not-some e)
-end-leaves p (vid v) n e = absurd (none-not-some e)
-end-leaves p (member m) n e = absurd (none-not-some e)
-end-leaves p (end k) n e = refl
-
 row-listed : (k : ℕ) (l : Layout) → layoutOf k ≡ some l → In l layouts
 unfolding layoutOf
 row-listed k l e = selected-in (λ l. eqb k (l .kind)) l layouts (first-in (selected (λ l. eqb k (l .kind)) layouts) l e) .0
@@ -308,31 +300,47 @@ row-listed k l e = selected-in (λ l. eqb k (l .kind)) l layouts (first-in (sele
 not-answered : {number : ℕ} {kind : Option ℕ} {at : ℕ} {p : Plan} → refused number kind at ≡ answered p → ⊥
 not-answered {number} {kind} {at} {p} e = let z : _≡_ {A = ℕ} 0 1 = cc in omega arith
 
--- Reading on from a plan that meets the laws ends, where it ends with an answer, with one that meets them.
-module _ (p : Plan) (next : Reading → Outcome Plan) (on : (s : Reading) → PlanLaws (s .plan) → next s ≡ answered p → PlanLaws p) (s : Reading)
-    (L : PlanLaws (s .plan)) where
-  taken-laws : (l : Layout) (e : Record) (c : Option ℕ) → endCount e ≡ c → PlanLaws (withRecord (s .plan) e)
-      → after next (taken s l e c) ≡ answered p → PlanLaws p
-  taken-laws l e none i K h = on (record { at = s .at + l .words; last = l .kind; plan = withRecord (s .plan) e }) K h
-  taken-laws l e (some c) i K h = let j : s .plan ≡ p = cc in subst (λ (q : Plan). PlanLaws q) (end-leaves (s .plan) e c i ∙ j) K
+-- A reading with one record more.
+abbrev pub readOne : Reading → Layout → List ℕ → Reading
+readOne s l r = record { at = s .at + l .words; last = l .kind; plan = withRecord (s .plan) (l .decoded r) }
 
-  judged-laws : (l : Layout) (r : List ℕ) (f : Option ℕ) → lowestFault (faults s l r) ≡ f → In l layouts
-      → after next (judged s l r f) ≡ answered p → PlanLaws p
-  judged-laws l r none i k h = taken-laws l (l .decoded r) (endCount (l .decoded r)) refl (kept s r l k (faultless s l r i) L) h
-  judged-laws l r (some f) i k h = absurd (not-answered h)
+-- What holds where the reading of the words `ws` stands, and still holds after each record without a fault, holds where the end record is
+-- read.
+module _ (ws : List ℕ) (Holds : Reading → Type 0)
+    (keeps : (s : Reading) (l : Layout) → In l layouts → lowestFault (faults s l (drop (s .at) ws)) ≡ none → Holds s → Holds (readOne s l (drop (s .at) ws))) where
+  abbrev Ends : Plan → Type 0
+  Ends p = (s : Reading) × Holds s × (s .plan ≡ p)
 
-  row-laws : (r : List ℕ) (o : Option Layout) → ((l : Layout) → o ≡ some l → In l layouts) → after next (readAs s r o) ≡ answered p → PlanLaws p
-  row-laws r none i h = absurd (not-answered h)
-  row-laws r (some l) i h = judged-laws l r (lowestFault (faults s l r)) refl (i l refl) h
+  module _ (p : Plan) (next : Reading → Outcome Plan) (on : (s : Reading) → Holds s → next s ≡ answered p → Ends p) (s : Reading) (H : Holds s) where
+    taken-ends : (l : Layout) (r : List ℕ) (c : Option ℕ) → Holds (readOne s l r) → after next (taken s l (l .decoded r) c) ≡ answered p → Ends p
+    taken-ends l r none K h = on (readOne s l r) K h
+    taken-ends l r (some c) K h = (s, H, cc)
 
-  step-laws : (total : ℕ) (r : List ℕ) → after next (readFrom total s r) ≡ answered p → PlanLaws p
-  step-laws total [] h = absurd (not-answered h)
-  step-laws total (w ∷ r) h = row-laws (w ∷ r) (layoutOf (bits w 31 28)) (row-listed (bits w 31 28)) h
+    judged-ends : (l : Layout) (r : List ℕ) (f : Option ℕ) → (f ≡ none → Holds (readOne s l r)) → after next (judged s l r f) ≡ answered p → Ends p
+    judged-ends l r none K h = taken-ends l r (endCount (l .decoded r)) (K refl) h
+    judged-ends l r (some f) K h = absurd (not-answered h)
 
-read-laws : (p : Plan) (n : ℕ) (ws : List ℕ) (s : Reading) → PlanLaws (s .plan) → readOn n ws s ≡ answered p → PlanLaws p
-unfolding readOn
-read-laws p zero ws s L e = absurd (not-answered e)
-read-laws p (suc n) ws s L e = step-laws p (readOn n ws) (read-laws p n ws) s L (length ws) (drop (s .at) ws) e
+    row-ends : (r : List ℕ) (o : Option Layout) → ((l : Layout) → o ≡ some l → In l layouts) → r ≡ drop (s .at) ws
+        → after next (readAs s r o) ≡ answered p → Ends p
+    row-ends r none i e h = absurd (not-answered h)
+    row-ends r (some l) i e h = judged-ends l r (lowestFault (faults s l r)) (λ f. rw e (keeps s l (i l refl) (rw e at f) H)) h
+
+    step-ends : (total : ℕ) (r : List ℕ) → r ≡ drop (s .at) ws → after next (readFrom total s r) ≡ answered p → Ends p
+    step-ends total [] e h = absurd (not-answered h)
+    step-ends total (w ∷ r) e h = row-ends (w ∷ r) (layoutOf (bits w 31 28)) (row-listed (bits w 31 28)) e h
+
+  reading-ends : (p : Plan) (n : ℕ) (s : Reading) → Holds s → readOn n ws s ≡ answered p → Ends p
+  unfolding readOn
+  reading-ends p zero s H e = absurd (not-answered e)
+  reading-ends p (suc n) s H e = step-ends p (readOn n ws) (reading-ends p n) s H (length ws) (drop (s .at) ws) refl e
+
+  pub accepted-ends : (t : List ℕ) (p : Plan) → ws ≡ wordsOf t → Holds start → verdict t ≡ answered p → Ends p
+  unfolding verdict
+  accepted-ends t p f H e = go (badLength (length t)) e
+    where
+      go : (b : Bool) → cond b (refusedAs 1) (readOn (length (wordsOf t)) (wordsOf t) start) ≡ answered p → Ends p
+      go true e = absurd (not-answered e)
+      go false e = reading-ends p (length ws) start H (rw f e)
 
 -- The plan of no records meets them.
 no-records : PlanLaws noRecords
@@ -345,9 +353,7 @@ no-records = record {
 
 -- "every accepted table" (demand 3): its plan meets the laws.
 pub accepted-laws : (t : List ℕ) (p : Plan) → verdict t ≡ answered p → PlanLaws p
-unfolding verdict
-accepted-laws t p e = go (badLength (length t)) e
-  where
-    go : (b : Bool) → cond b (refusedAs 1) (readOn (length (wordsOf t)) (wordsOf t) start) ≡ answered p → PlanLaws p
-    go true e = absurd (not-answered e)
-    go false e = read-laws p (length (wordsOf t)) (wordsOf t) start no-records e
+accepted-laws t p e =
+    let (s, L, f) = accepted-ends (wordsOf t) (λ s. PlanLaws (s .plan)) (λ s l k n L. kept s (drop (s .at) (wordsOf t)) l k (faultless s l (drop (s .at) (wordsOf t)) n) L)
+    t p refl no-records e
+    in subst PlanLaws f L

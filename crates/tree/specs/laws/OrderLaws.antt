@@ -18,7 +18,8 @@ use Rattle.graph.specs.Graph.{Graph}
 use Rattle.labels.specs.Labels.{noCost, labelAt, stateOf, settledLabels, settledPathIds}
 use Rattle.labels.specs.laws.LabelLaws.{settled-says, says-settled}
 use Rattle.tree.specs.Trees.{Ordered}
-use Rattle.tree.specs.Tracked.{PassedOn, openBridges, InOrder, Noted}
+use Rattle.tree.specs.Tracked.{openBridges, InOrder, Noted}
+use Rattle.tree.specs.laws.TreeLaws.{PassedOn}
 use Rattle.tree.specs.laws.StepLaws.{Step, settles, next-steps, only, still, done, steps-kept, next-kept}
 
 -- The root alone is settled.

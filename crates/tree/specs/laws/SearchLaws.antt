@@ -23,8 +23,8 @@ use Rattle.labels.specs.laws.NearestLaws.{bounds-settled}
 use Rattle.labels.specs.Relaxing.{Relaxable, Relaxed}
 use Rattle.tree.specs.Settling.{Settleable, Begun}
 use Rattle.tree.specs.Trees.{markAt, Represents, Keyed, Represented, Ordered, TreeOf, IsTree}
-use Rattle.tree.specs.Tracked.{Tracked, PassedOn, Underway, openBridges, InOrder, Advanceable, Advanced, Finished, Noted}
-use Rattle.tree.specs.laws.TreeLaws.{beyond-same, beyond-kept, search-paths, says-alike}
+use Rattle.tree.specs.Tracked.{Tracked, Underway, openBridges, InOrder, Advanceable, Advanced, Finished, Noted}
+use Rattle.tree.specs.laws.TreeLaws.{PassedOn, beyond-same, beyond-kept, search-paths, says-alike}
 use Rattle.tree.specs.laws.StartLaws.{start-relaxable, alone, start-tracked}
 use Rattle.tree.specs.laws.OrderLaws.{order-starts, order-goes-on, other-parts, order-left}
 use Rattle.tree.specs.laws.StepLaws.{Step, not-settled, step-settleable, step-relaxable, still, done, step-tracked, length-path-ids}

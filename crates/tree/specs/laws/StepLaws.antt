@@ -27,8 +27,8 @@ use Rattle.labels.specs.laws.LabelLaws.{length-settled, label-settled, label-un
 use Rattle.labels.specs.Relaxing.{Relaxable, offerAt, Unchanged, Changed}
 use Rattle.tree.specs.Settling.{Settleable}
 use Rattle.tree.specs.Trees.{markAt, Represents, Keyed, firstBack}
-use Rattle.tree.specs.laws.TreeLaws.{neighbour-in, offered-cost, offered-joined, joined-listed, one-cost}
-use Rattle.tree.specs.Tracked.{Tracked, PassedOn}
+use Rattle.tree.specs.laws.TreeLaws.{PassedOn, neighbour-in, offered-cost, offered-joined, joined-listed, one-cost}
+use Rattle.tree.specs.Tracked.{Tracked}
 
 -- An offer that is lower than a label costs no more.
 pub lower-cost : (costs path-ids labels : List ℕ) (via i : ℕ) (b : Label) → Lower (offerAt costs path-ids labels via i) (labelRank path-ids b)

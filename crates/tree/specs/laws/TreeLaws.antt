@@ -7,7 +7,7 @@ use mathlib.Core.List.{List, [], _∷_}
 use mathlib.Core.Option.{Option, none, some}
 use mathlib.Core.Logic.{_⊎_, inl, inr}
 use lib.Dec.{T, ltb→lt, lt→ltb}
-use lib.ListN.{getD}
+use lib.ListN.{length, getD}
 use Rattle.lists.specs.laws.NumberLaws.{le-or-gt, same-or-not}
 use Rattle.graph.specs.Graph.{Graph, Joined}
 use Rattle.graph.specs.laws.Notions.{Least}
@@ -21,7 +21,14 @@ use Rattle.labels.specs.Labels.{noCost, Label, labelAt, stateOf}
 use Rattle.labels.specs.laws.LabelLaws.{says-settled}
 use Rattle.labels.specs.Relaxing.{Unchanged, Changed, Relaxed}
 use Rattle.tree.specs.Trees.{markAt, Represents, Keyed, nextOf, SaysPath}
-use Rattle.tree.specs.Tracked.{Tracked, PassedOn}
+use Rattle.tree.specs.Tracked.{Tracked}
+
+-- The settled bridge `u`, which is not the root, passes the way on: its neighbours were offered the way through it where it may lie
+-- between, and nothing where it may not.
+pub record PassedOn (starts neighbours costs path-ids : List ℕ) (u : ℕ) (labels labels′ : List ℕ) : Type 0 where
+  pub same-length : length labels′ ≡ length labels
+  pub offered : markAt starts u ≡ 0 → Relaxed starts neighbours costs path-ids u labels labels′
+  pub kept-back : (markAt starts u ≡ 0 → ⊥) → labels′ ≡ labels
 
 module _ {g : Graph} {n : ℕ} {starts neighbours costs : List ℕ} (R : Represents g n starts neighbours costs) (u : ℕ) (u-in : u < n) where
   pub neighbour-in : (i : ℕ) → getD starts u 0 ≤ i → i < getD starts (u + 1) 0 → getD neighbours i 0 < n
