@@ -10,7 +10,8 @@ use lib.ListN.{length}
 use Rattle.graph.specs.Order.{sorted}
 
 -- Bridges are numbered from 0. A hop of cost 0 stands for two bridges that are not joined.
--- `between` says which bridges may lie between the ends of a path: all of them in document 01.
+-- `between` says which bridges may lie between the ends of a path: all of them in document 01, with request A1 (02) those that are not
+-- overloaded.
 pub record Graph : Type 0 where
   pub size : ℕ
   pub hop : ℕ → ℕ → ℕ

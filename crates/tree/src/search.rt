@@ -1,5 +1,5 @@
 // The search for the tree of chosen paths to a root (01, "The chosen path"): again and again the nearest bridge that waits is settled
-// and its neighbours are relaxed, until none waits.
+// and, where it may lie between (02, A1), its neighbours are relaxed, until none waits.
 use crate::marks::may_lie_between;
 use crate::settle::begin;
 use crate::settle::settle;

@@ -6,19 +6,18 @@ use native.Mathlib.Omega.{arith}
 use mathlib.Core.Path.{_≡_, refl, sym, ap, _∙_, subst}
 use mathlib.Core.List.{List, [], _∷_, _++_, map, reverse, append-nil, append-assoc, append-cancel-left, append-cancel-right, reverse-reverse}
 use mathlib.Core.Logic.{_⊎_, inl, inr}
-use lib.Dec.{T}
 use lib.ListN.{length, length-map}
 use Rattle.graph.specs.Order.{Lower}
 use Rattle.graph.specs.Graph.{Graph, GraphLaws, KeyLaws, Onward, IsPath, cost, hops, pathId, rank}
 use Rattle.graph.specs.Chosen.{Chosen}
 use Rattle.lists.specs.Members.{In}
 use Rattle.lists.specs.laws.ListNotions.{Distinct, lastOf, HasPart}
-use Rattle.graph.specs.laws.Notions.{Joint, Linked, Least, RanksAbove}
+use Rattle.graph.specs.laws.Notions.{Joint, Least, RanksAbove}
 use Rattle.lists.specs.laws.NumberLaws.{le-or-gt}
 use Rattle.lists.specs.laws.MemberLaws.{nil-not-cons, lastOf-append, two-in}
 use Rattle.graph.specs.laws.OrderLaws.{lower-never, lower-one-way, lower-compared, length-sorted}
 use Rattle.graph.specs.laws.Ranks.{rank-places, rank-around, rank-around-same, rank-reverse, cost-stay}
-use Rattle.graph.specs.laws.Paths.{ends, split, replaced, cost-positive, path-first, path-reverse, linked-path}
+use Rattle.graph.specs.laws.Paths.{ends, split, replaced, cost-positive, path-first, path-reverse}
 use Rattle.graph.specs.laws.LeastPaths.{least-distinct, distinct-bounded, no-tie, least-apart}
 
 module _ (g : Graph) (key : ℕ → ℕ) where
@@ -58,11 +57,6 @@ module _ (g : Graph) (key : ℕ → ℕ) where
   pub pathId-lengths : (a b : ℕ) (p q : List ℕ) → IsPath g a b p → IsPath g a b q → hops p ≡ hops q → length (pathId key p) ≡ length (pathId key q)
   pathId-lengths a b (x ∷ p) (y ∷ q) P Q e =
       omega (arith, length-sorted (map key (x ∷ p)), length-sorted (map key (y ∷ q)), length-map p key, length-map q key)
-
-  -- The same where all bridges may lie between, with the part about lying between gone.
-  pub chosen-below-linked : ((v : ℕ) → T (g .between v)) → (a b : ℕ) (p q : List ℕ) → Chosen g key a b p → Linked g a b q → (q ≡ p → ⊥)
-      → RanksAbove g key q p
-  chosen-below-linked all a b p q P o n = chosen-below a b p q P (linked-path g all a b q o) n
 
   -- No path is lower than the chosen one.
   pub chosen-lowest : (a b : ℕ) (p q : List ℕ) → Chosen g key a b p → IsPath g a b q → Lower (rank g key q) (rank g key p) → ⊥

@@ -5,22 +5,12 @@ use mathlib.Core.Path.{_≡_}
 use mathlib.Core.List.{List, [], _∷_}
 use mathlib.Core.Logic.{_⊎_}
 use Rattle.graph.specs.Order.{Lower}
-use Rattle.graph.specs.Graph.{Graph, Joined, GoesOn, Onward, costOnward, cost, hops, pathId}
+use Rattle.graph.specs.Graph.{Graph, GoesOn, Onward, costOnward, cost, hops, pathId}
 
 -- A path that came to `c` by the list `t` may go on from there by the list `s`: `c` is an end of the whole or may lie between.
 abbrev pub Joint : Graph → List ℕ → ℕ → List ℕ → Type 0
 Joint g [] c s = Unit {0}
 Joint g (v ∷ t) c s = GoesOn g c s
-
--- `Onward` where all bridges may lie between: "each joined to the next" and no more.
-abbrev pub Chain : Graph → ℕ → List ℕ → ℕ → Type 0
-Chain g u [] b = u ≡ b
-Chain g u (v ∷ t) b = Joined g u v × Chain g v t b
-
--- "A path is a list of bridges, each joined to the next", from `a` to `b`.
-abbrev pub Linked : Graph → ℕ → ℕ → List ℕ → Type 0
-Linked g a b [] = ⊥
-Linked g a b (u ∷ t) = (u ≡ a) × Chain g u t b
 
 -- "the least cost": the list `t` leads on from `u` to `b`, and no list that does so costs less.
 pub record Least (g : Graph) (u : ℕ) (t : List ℕ) (b : ℕ) : Type 0 where

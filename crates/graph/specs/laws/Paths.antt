@@ -10,12 +10,12 @@ use lib.ListN.{length, length-append}
 use Rattle.graph.specs.Graph.{Graph, GraphLaws, Joined, GoesOn, Onward, IsPath, costOnward}
 use Rattle.lists.specs.Members.{In}
 use Rattle.lists.specs.laws.ListNotions.{lastOf}
-use Rattle.graph.specs.laws.Notions.{Joint, Chain, Linked}
+use Rattle.graph.specs.laws.Notions.{Joint}
 use Rattle.lists.specs.laws.MemberLaws.{nil-not-cons, append-empty}
 use Rattle.graph.specs.laws.Ranks.{cost-step, cost-behind}
 
 module _ (g : Graph) where
-  -- Which bridges may lie between goes by place: every place of a list but the first and the last. In document 01 all may.
+  -- Which bridges may lie between goes by place: every place of a list but the first and the last.
 
   -- A bridge that may have a list after it may have any other that is empty where the first is.
   pub goes-on : (v : ℕ) (s t : List ℕ) → (s ≡ [] → t ≡ []) → GoesOn g v s → GoesOn g v t
@@ -77,26 +77,6 @@ module _ (g : Graph) where
       before : (t : List ℕ) → Joint g t c (t₂ ++ t₃) → Joint g t c (s ++ t₃)
       before [] h = tt
       before (x ∷ t) h = goes-on c (t₂ ++ t₃) (s ++ t₃) empty h
-
-  -- Where all bridges may lie between, the part about lying between falls away:
-  -- "A path is a list of bridges, each joined to the next" and no more.
-  pub onward-chain : (u : ℕ) (t : List ℕ) (b : ℕ) → Onward g u t b → Chain g u t b
-  onward-chain u [] b e = e
-  onward-chain u (v ∷ t) b (j, m, o) = (j, onward-chain v t b o)
-
-  pub chain-onward : ((v : ℕ) → T (g .between v)) → (u : ℕ) (t : List ℕ) (b : ℕ) → Chain g u t b → Onward g u t b
-  chain-onward all u [] b e = e
-  chain-onward all u (v ∷ t) b (j, o) = (j, on t, chain-onward all v t b o)
-    where
-      on : (t : List ℕ) → GoesOn g v t
-      on [] = tt
-      on (w ∷ t) = all v
-
-  pub path-linked : (a b : ℕ) (p : List ℕ) → IsPath g a b p → Linked g a b p
-  path-linked a b (u ∷ t) (e, o) = (e, onward-chain u t b o)
-
-  pub linked-path : ((v : ℕ) → T (g .between v)) → (a b : ℕ) (p : List ℕ) → Linked g a b p → IsPath g a b p
-  linked-path all a b (u ∷ t) (e, o) = (e, chain-onward all u t b o)
 
   -- Cost along a path
 

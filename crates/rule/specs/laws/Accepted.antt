@@ -16,7 +16,7 @@ use Rattle.lists.specs.laws.MemberLaws.{in-append, in-left, none-not-some}
 use Rattle.lists.specs.laws.SelectedLaws.{selected-in, in-selected, any-in, in-any}
 use Rattle.lists.specs.laws.DistinctLaws.{every-two-end, first-in}
 use Rattle.rule.specs.Words.{wordsOf, bits}
-use Rattle.rule.specs.Records.{Bridge, HalfLink, Vid, Member, Record, bridge, halfLink, vid, member, end, address, endCount, Layout, Range, inLimits, bridgeOf, halfLinkOf, vidOf, memberOf, layouts, layoutOf, bridgeLayout, halfLinkLayout, vidLayout, memberLayout}
+use Rattle.rule.specs.Records.{Bridge, HalfLink, Vid, Member, bridge, halfLink, vid, member, end, address, endCount, Layout, Range, inLimits, bridgeOf, halfLinkOf, vidOf, memberOf, layouts, layoutOf, bridgeLayout, halfLinkLayout, vidLayout, memberLayout}
 use Rattle.rule.specs.Outcome.{Outcome, answered, refused, refusedAs}
 use Rattle.rule.specs.Plan.{Plan, noRecords, withRecord, alike, knownBridge, knownVid}
 use Rattle.rule.specs.Check.{badLength, outsideRange, wrongEndCount, unknownName, repeated, wrongHalf, wrongLink, Reading, start, Fault, faults, lowestFault, taken, judged, readAs, readFrom, after, readOn, verdict}
