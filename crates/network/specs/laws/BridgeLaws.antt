@@ -50,7 +50,7 @@ module _ {ws : List ℕ} {s : Shape} {before now : List ℕ} {u : ℕ} (W : Writ
     upper-length : length upper ≡ length now
     upper-length = length-set marked (64 + 2 * u) (b .identifier / 4294967296) ∙ marked-length
 
-    -- What stands at another place than these three is as it was.
+    -- A word before the identifier, other than the mark, is as it was.
     elsewhere : (i : ℕ) → (i ≡ u → ⊥) → (i < 64 + 2 * u) → getD both i 0 ≡ getD now i 0
     elsewhere i n h =
         getD-set-other upper (64 + 2 * u + 1) i (b .identifier % 4294967296) 0 (λ q. omega arith)
