@@ -116,7 +116,7 @@ misreadings! {
     "lookup refuses an empty list" LookupEmptyRefused: [],
     "lookup refuses address zero" LookupZeroRefused: [],
     // The check. The listing's comparer is given fewer tables than the others: I-SID
-    // 255, VID 4,095 and index 0 are too rare in them.
+    // 255 is too rare in them.
     "all tables are refused" AllRefused: [Listing, Check, Calls],
     "the limit is tested before the zero bits" LimitBeforeZeroBits: [Listing, Check, Calls],
     "ranges are tested before the limit" RangeBeforeLimit: [Listing, Check, Calls],
@@ -131,9 +131,9 @@ misreadings! {
     "words after the end are accepted" WordsAfterEnd: [Listing, Check, Calls],
     "metric 16,777,215 is out of range" UnusableOutOfRange: [Listing, Check, Calls],
     "I-SID 255 is in range" ServiceFrom255: [Check, Calls],
-    "VID 4,095 is in range" VidTo4095: [Check, Calls],
+    "VID 4,095 is in range" VidTo4095: [Listing, Check, Calls],
     "port 4,096 is in range" PortTo4096: [Listing, Check, Calls],
-    "ECT index 0 is in range" IndexZeroAccepted: [Check, Calls],
+    "ECT index 0 is in range" IndexZeroAccepted: [Listing, Check, Calls],
     "a group address is accepted" GroupAddressAccepted: [Listing, Check, Calls],
     "a member's VID out of range is 7" MemberVidUnknown: [Listing, Check, Calls],
     "a half-link may join a bridge to itself" LoopAccepted: [Listing, Check, Calls],
