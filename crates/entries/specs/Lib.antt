@@ -1,4 +1,3 @@
 -- From the rows of a plan to the words of the definitions, and the entries of a table that passed the check.
 pub mod Parts
-pub mod Whole
 pub mod laws

@@ -21,7 +21,7 @@ ghost use lib.ListN.{length};
 ghost use Rattle.lists.specs.Lists.{spliced};
 ghost use Rattle.lists.specs.Appending.{Appended};
 ghost use Rattle.rule.specs.Words.{wordsOf};
-ghost use Rattle.rule.specs.Outcome.{Outcome, lentTo};
+ghost use Rattle.rule.specs.Outcome.{Outcome, listAnswer, lentTo};
 ghost use Rattle.rule.specs.Answers.{entriesValues};
 ghost use Rattle.rule.specs.Calls.{planEntries};
 ghost use Rattle.rule.specs.Entries.{entryListOf};
@@ -29,7 +29,6 @@ ghost use Rattle.table.specs.Positions.{planAt};
 ghost use Rattle.verdict.specs.Examination.{Checked, LinkIndex};
 ghost use Rattle.network.specs.Networks.{TableNetwork};
 ghost use Rattle.trees.specs.Store.{TreesKept};
-ghost use Rattle.entries.specs.Whole.{listAnswer};
 
 // "No bridge's list exceeds 14,931 words": individual entries for the other bridges in each VID, and group entries as `ListBound` counts
 // them.

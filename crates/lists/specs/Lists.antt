@@ -28,6 +28,11 @@ module _ {A : Type 0} where
   anyPasses test [] = false
   anyPasses test (x ∷ xs) = test x || anyPasses test xs
 
+  -- The place of the first that passes the test, counted from 0; as many as there are where none passes.
+  unfoldable pub firstPassing : (A → Bool) → List A → ℕ
+  firstPassing test [] = 0
+  firstPassing test (x ∷ xs) = cond (test x) 0 (suc (firstPassing test xs))
+
   -- `x`, or the one found already where the test puts it before `x`.
   abbrev pub lowerOf : (A → A → Bool) → A → Option A → Option A
   lowerOf before x none = some x

@@ -10,3 +10,5 @@ pub mod SumLaws
 pub mod Searching
 pub mod Splices
 pub mod AppendingLaws
+pub mod PartLaws
+pub mod FirstPassing

@@ -1,8 +1,7 @@
 -- The outcomes of path, tree and entries as lines of text: the answer, and every place of the lent lists after the call. A house form:
 -- docs/DECISIONS.md. Assumes nothing.
-use Prim.Native.Nat.{ℕ, _+_}
-use mathlib.Core.List.{List, [], _∷_, _++_, map}
-use Rattle.lists.specs.Lists.{rising}
+use Prim.Native.Nat.{ℕ}
+use mathlib.Core.List.{List, [], _∷_, _++_}
 use Rattle.rule.specs.Outcome.{Outcome, answered, refused}
 use Rattle.rule.specs.Answers.{CostAndHops}
 use Rattle.text.specs.Text.{newline, fieldText, fields, pathWord}
@@ -42,10 +41,3 @@ treeText (o, costs, hopCounts, lasts) = treeAnswerText o ++ (fields costs ++ (fi
 -- The line of a bridge's entries.
 abbrev pub entriesText : Outcome ℕ × List ℕ → List ℕ
 entriesText (o, list) = entriesAnswerText o ++ (fields list ++ (newline ∷ []))
-
--- What a lent list holds before a call: in each place a number that no call gives, so that what a call leaves alone shows.
-abbrev pub untouchedPlace : ℕ → ℕ
-untouchedPlace place = 4000000000 + place
-
-abbrev pub untouched : ℕ → List ℕ
-untouched places = map untouchedPlace (rising 0 places)

@@ -1,3 +1,3 @@
 -- Theorems: nothing here is cited by a contract.
 pub mod LineLaws
-pub mod UntouchedLaws
+pub mod SameTexts

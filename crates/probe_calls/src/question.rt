@@ -1,15 +1,16 @@
 // Questions: path, tree and entries into lists of so many untouched places, each as one line.
 use crate::lent::MOST_PLACES;
 use crate::lent::MOST_WORDS;
-use crate::lent::set_untouched;
 use crate::line::write_entries;
 use crate::line::write_path;
 use crate::line::write_tree;
+use probe_input::lent::set_untouched;
 ghost use Prim.Native.Nat.{_≤_};
 ghost use lib.ListN.{length};
 ghost use Rattle.rule.specs.Calls.{pathOutcome, treeOutcome, entriesOutcome};
 ghost use Rattle.text.specs.Text.{WrittenAt};
-ghost use Rattle.probe_calls.specs.AnswerText.{untouched, pathText, treeText, entriesText};
+ghost use Rattle.probe_input.specs.Lent.{untouched};
+ghost use Rattle.probe_calls.specs.AnswerText.{pathText, treeText, entriesText};
 
 // The bytes of a path's line at most: an answer of 40, a field of 11 for each place, and its end.
 pub const PATH_LINE: usize = 41 + 11 * MOST_PLACES;

@@ -1,2 +1,4 @@
--- What the next table of an input is on paper.
+-- What the next table of an input and a lent list before a call are on paper.
 pub mod Lengths
+pub mod Lent
+pub mod laws

@@ -12,6 +12,8 @@ use Rattle.rule.specs.declared.answer.PathAnswer.{PathAnswer}
 use Rattle.rule.specs.declared.answer.TreeAnswer.{TreeAnswer}
 use Rattle.rule.specs.declared.answer.EntriesAnswer.{EntriesAnswer}
 use Rattle.rule.specs.declared.answer.LookupAnswer.{LookupAnswer}
+use Rattle.rule.specs.declared.answer.ReadServicesAnswer.{ReadServicesAnswer}
+use Rattle.rule.specs.declared.answer.WriteServicesAnswer.{WriteServicesAnswer}
 
 -- The kinds by their numbers in the table.
 abbrev pub kindNumber : RecordKind → Option ℕ
@@ -50,3 +52,13 @@ abbrev pub lookupValues : LookupAnswer → Outcome (Option ℕ)
 lookupValues (LookupAnswer.Port port) = answered (some port)
 lookupValues LookupAnswer.None = answered none
 lookupValues (LookupAnswer.Refused number kind at) = refused number (kindNumber kind) at
+
+-- The words of the member records (02, A2).
+abbrev pub readServicesValues : ReadServicesAnswer → Outcome ℕ
+readServicesValues (ReadServicesAnswer.Read words) = answered words
+readServicesValues (ReadServicesAnswer.Refused number kind at) = refused number (kindNumber kind) at
+
+-- The bytes of the sub-TLVs (02, A2).
+abbrev pub writeServicesValues : WriteServicesAnswer → Outcome ℕ
+writeServicesValues (WriteServicesAnswer.Written bytes) = answered bytes
+writeServicesValues (WriteServicesAnswer.Refused number kind at) = refused number (kindNumber kind) at

@@ -9,7 +9,7 @@ use lib.ListN.{length}
 use Rattle.lists.specs.Lists.{rising}
 use Rattle.graph.specs.Graph.{cost, hops}
 use Rattle.rule.specs.Records.{Vid}
-use Rattle.rule.specs.Outcome.{Outcome, answered, refused, andThen, refusedAs, Written, lentTo, overwritten}
+use Rattle.rule.specs.Outcome.{Outcome, answered, refused, andThen, refusedAs, Written, listAnswer, lentTo, overwritten}
 use Rattle.rule.specs.Plan.{Plan, knownBridge, vidRecord, planOfVid}
 use Rattle.rule.specs.Check.{verdict}
 use Rattle.rule.specs.Links.{countUsable, graphOf}
@@ -110,10 +110,7 @@ treeOutcome t vid a costs hopCounts lasts =
 
 -- What the entries call answers, whatever list is lent: the number of words, and the words; of an accepted plan, and of a table.
 abbrev pub planEntries : Plan → ℕ → Outcome (Written ℕ)
-planEntries p b =
-    cond (knownBridge p b)
-    (answered (record { values = length (entryListOf p b); words = entryListOf p b }))
-    (refusedAs 11)
+planEntries p b = cond (knownBridge p b) (listAnswer (entryListOf p b)) (refusedAs 11)
 
 unfoldable pub entriesAnswer : List ℕ → ℕ → Outcome (Written ℕ)
 entriesAnswer t b = andThen (verdict t) λ p. planEntries p b

@@ -1,5 +1,5 @@
--- Document 01 as definitions. Read in this order: the table, what it says, the calls, the frames, demand 3. The laws that prove demand 3,
--- and its proof, stand apart, and so do the figures.
+-- Documents 01 and 02 as definitions. Read in this order: the table, what it says, the calls, the frames, demand 3. The laws that prove
+-- demand 3, and its proof, stand apart, and so do the figures.
 pub mod Words
 pub mod Records
 pub mod Outcome
@@ -13,6 +13,8 @@ pub mod Answers
 pub mod Calls
 pub mod Lookup
 pub mod Exported
+pub mod Services
+pub mod ComesBack
 pub mod Frames
 pub mod Demand3
 pub mod PlanLaws

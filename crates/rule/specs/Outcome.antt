@@ -32,6 +32,10 @@ pub record Written (A : Type 0) : Type 0 where
   pub values : A
   pub words : List ℕ
 
+-- An answer that is how many words it writes, and the words.
+abbrev pub listAnswer : List ℕ → Outcome (Written ℕ)
+listAnswer words = answered (record { values = length words; words = words })
+
 -- The contents of a lent list after `words` were written to its front: "Words past those written keep their contents."
 abbrev pub overwritten : List ℕ → List ℕ → List ℕ
 overwritten words old = words ++ drop (length words) old

@@ -50,6 +50,7 @@ pub record VidFits (v : Vid) : Type 0 where
 
 -- A member within its ranges, of a bridge and a VID of the plan.
 pub record MemberFits (bridges : ℕ) (vids : List Vid) (m : Member) : Type 0 where
+  pub least-isid : 256 ≤ m .isid
   pub isid : m .isid ≤ 16777214
   pub bridge-known : m .bridge < bridges
   pub vid-known : (v : Vid) × In v vids × (v .vid ≡ m .vid)

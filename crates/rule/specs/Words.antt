@@ -12,6 +12,10 @@ wordsOf (a ∷ b ∷ []) = []
 wordsOf (a ∷ b ∷ c ∷ []) = []
 wordsOf (a ∷ b ∷ c ∷ d ∷ rest) = (((a * 256 + b) * 256 + c) * 256 + d) ∷ wordsOf rest
 
+-- The bytes of a word, "high byte first".
+abbrev pub bytesOf : ℕ → List ℕ
+bytesOf w = (w / 2 ^ 24) ∷ (w / 2 ^ 16 % 256) ∷ (w / 2 ^ 8 % 256) ∷ (w % 256) ∷ []
+
 -- "Words count from 0": the word `n` of a list of words.
 abbrev pub word : List ℕ → ℕ → ℕ
 word ws n = getD ws n 0

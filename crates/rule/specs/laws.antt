@@ -15,3 +15,6 @@ pub mod ListBound
 pub mod SettingLaws
 pub mod NoneOverloaded
 pub mod Demand3Proved
+pub mod MemberWords
+pub mod ServiceLaws
+pub mod ComesBackProved

@@ -1,4 +1,4 @@
-// What the calls answer (01, "Calls" and "Refusals in checking order"). The refusal case of each answer holds the refusal's
+// What the calls answer (01, "Calls" and "Refusals in checking order"; 02). The refusal case of each answer holds the refusal's
 // number, the kind of the record concerned and the number of that record's first word. The values that a case stands for on
 // paper are given in specs/Answers.
 use measures::measure::Cost;
@@ -74,6 +74,30 @@ pub enum EntriesAnswer {
 pub enum LookupAnswer {
     Port(u32),
     None,
+    Refused {
+        number: u32,
+        kind: RecordKind,
+        word: u32,
+    },
+}
+
+// Services read from a sub-TLV: the number of words written to the lent list, two for each member record (02, A2).
+pub enum ReadServicesAnswer {
+    Read {
+        words: u32,
+    },
+    Refused {
+        number: u32,
+        kind: RecordKind,
+        word: u32,
+    },
+}
+
+// Services written as sub-TLVs: the number of bytes written to the lent list (02, A2).
+pub enum WriteServicesAnswer {
+    Written {
+        bytes: u32,
+    },
     Refused {
         number: u32,
         kind: RecordKind,

@@ -7,14 +7,13 @@ use mathlib.Core.List.{List, [], _++_, map, flatMap}
 use mathlib.Core.Bool.{Bool, true, false, cond, _&&_}
 use lib.Dec.{T, eqb, eqb→eq}
 use lib.ListN.{length, take, drop, length-take, length-drop, length-append}
-use lib.Seq.{take-append-seam}
 use borrow.Author.Tests.{eq-eqb, ne-eqb}
-use Rattle.lists.specs.Lists.{rising, selected, spliced}
+use Rattle.lists.specs.Lists.{rising, selected}
 use Rattle.lists.specs.laws.NumberLaws.{first-of, last-of, is-true}
 use Rattle.lists.specs.laws.SelectedLaws.{rising-in}
 use Rattle.lists.specs.laws.GivenLaws.{flatMap-map, flatMap-flatMap, flatMap-append, flatMap-selected, flatMap-same}
 use Rattle.lists.specs.Appending.{Appended, Room}
-use Rattle.lists.specs.laws.AppendingLaws.{appended-nothing, appended-both, appended-length}
+use Rattle.lists.specs.laws.AppendingLaws.{front-is, appended-nothing, appended-both, appended-length}
 use Rattle.rule.specs.Words.{wordsOf}
 use Rattle.rule.specs.Records.{Bridge, Vid, Member}
 use Rattle.rule.specs.Plan.{Plan, bridgeAt}
@@ -116,14 +115,6 @@ row-place-inside R I k l b h v e place f =
       arith,
       I .inside (v .index) b (omega (arith, g .least-index, ap (λ (w : Vid). w .index) e)) (omega (arith, g .greatest-index, ap (λ (w : Vid). w .index) e)) h,
     )
-
--- What was appended from the front on is the front.
-pub front-is : {lent part written : List ℕ} {end : ℕ} → Appended lent 0 part written end → take end written ≡ part
-front-is {lent} {part} {written} {end} A =
-    ap (take end) (A .words-are) ∙ ap (λ (k : ℕ). take k (spliced lent 0 part)) (A .end-is ∙ none) ∙ take-append-seam part (drop (0 + length part) lent)
-  where
-    none : 0 + length part ≡ length part
-    none = omega arith
 
 module _ (ws : List ℕ) (s : Shape) (rows ports : List ℕ) (v : Vid) (m : Member) (place : ℕ) (e : place ≡ egressRowAt rows (v .index) (m .bridge))
     (lent behind : List ℕ) (count : ℕ) (A : Appended lent 0 (portsBehind ws s (take (length rows - place) (drop place rows)) m) behind count)

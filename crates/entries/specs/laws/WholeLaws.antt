@@ -3,17 +3,17 @@
 use Prim.Native.Nat.{ℕ, _+_, _≤_, _<_}
 use native.Mathlib.Omega.{arith}
 use mathlib.Core.Path.{_≡_, refl, sym, ap, _∙_, subst}
-use mathlib.Core.List.{List, [], _∷_, _++_}
-use lib.ListN.{length, getD, set, take, drop}
-use borrow.Author.Tests.{lt-leb, le-leb, lt-ltb, le-ltb}
+use mathlib.Core.List.{List, [], _∷_}
+use lib.ListN.{length, getD, set, take}
+use borrow.Author.Tests.{le-leb, lt-ltb, le-ltb}
 use Rattle.lists.specs.Lists.{rising, spliced}
 use Rattle.lists.specs.laws.GivenLaws.{flatMap-one, by-places}
 use Rattle.lists.specs.Appending.{Appended, Room, eachOf}
-use Rattle.lists.specs.laws.AppendingLaws.{one-word, Appending, appending-starts, appending-length, appending-room, appending-goes-on, appending-ends}
+use Rattle.lists.specs.laws.AppendingLaws.{front-is, one-word, Appending, appending-starts, appending-length, appending-room, appending-goes-on, appending-ends}
 use Rattle.rule.specs.Words.{wordsOf}
 use Rattle.rule.specs.Plan.{Plan}
 use Rattle.rule.specs.PlanLaws.{PlanLaws}
-use Rattle.rule.specs.Outcome.{Outcome, answered, refusedAs, overwritten, lentTo}
+use Rattle.rule.specs.Outcome.{Outcome, answered, refusedAs, listAnswer, overwritten, lentTo}
 use Rattle.rule.specs.Calls.{planEntries}
 use Rattle.rule.specs.Entries.{entryListOf}
 use Rattle.rule.specs.laws.ListBound.{few-words}
@@ -29,8 +29,7 @@ use Rattle.egress.specs.laws.PlanPortLaws.{plan-hops, hops-in-range, plan-ports
 use Rattle.verdict.specs.laws.CheckedLaws.{bridges-counted}
 use Rattle.entry_rows.specs.Needed.{HopsReady, EgressRowsReady}
 use Rattle.entries.specs.Parts.{wholeList}
-use Rattle.entries.specs.laws.PartLaws.{whole-is, front-is}
-use Rattle.entries.specs.Whole.{listAnswer}
+use Rattle.entries.specs.laws.PartLaws.{whole-is}
 
 module _ {t : List ℕ} {s : Shape} {net : List ℕ} (N : TableNetwork t s net) (b : ℕ) (known : b < s .bridges) where
   pub in-network : b < bridgesIn net
@@ -91,20 +90,6 @@ module _ {words list₀ list : List ℕ} {i : ℕ} (C : Copying words list₀ li
 
   pub copying-ends : length words ≤ i → list ≡ spliced list₀ 0 words
   copying-ends l = appending-ends (C .so-far) l .words-are ∙ ap (spliced list₀ 0) (copied words)
-
-module _ (words list : List ℕ) where
-  pub fits-not : length list < length words → _≡_ {A = Outcome ℕ × List ℕ} (refusedAs 13, list) (lentTo list (listAnswer words))
-  fits-not l = rw (lt-leb (length words) (length list) l)
-
-  pub fits-in : length words ≤ length list → {list′ : List ℕ} → list′ ≡ spliced list 0 words
-      → _≡_ {A = Outcome ℕ × List ℕ} (answered (length words), list′) (lentTo list (listAnswer words))
-  fits-in l e = rw (le-leb (length words) (length list) l) (λ i. (answered (length words), (e ∙ front) i))
-    where
-      front : spliced list 0 words ≡ overwritten words list
-      front = ap (λ (k : ℕ). words ++ drop k list) zero
-        where
-          zero : 0 + length words ≡ length words
-          zero = omega arith
 
 module _ {t : List ℕ} {s : Shape} (C : Checked t s) (bridge : ℕ) where
   pub lacks-bridge : s .bridges ≤ bridge → (list : List ℕ) → _≡_ {A = Outcome ℕ × List ℕ} (refusedAs 11, list) (lentTo list (planEntries (planAt (wordsOf t) s) bridge))

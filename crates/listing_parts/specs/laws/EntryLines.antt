@@ -15,7 +15,7 @@ use Rattle.table.specs.declared.shape.Shape.{Shape}
 use Rattle.table.specs.Positions.{planAt}
 use Rattle.verdict.specs.Examination.{Checked}
 use Rattle.verdict.specs.laws.CheckedLaws.{bridges-counted}
-use Rattle.entries.specs.laws.PartLaws.{front-is}
+use Rattle.lists.specs.laws.AppendingLaws.{front-is}
 use Rattle.listing_lines.specs.Listing.{entryLine, entryLines}
 
 module _ {t : List ℕ} {s : Shape} (R : Checked t s) (b : ℕ) (known : b < s .bridges) {lent written : List ℕ} {count : ℕ}

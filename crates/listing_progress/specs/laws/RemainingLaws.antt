@@ -26,7 +26,7 @@ use Rattle.verdict.specs.declared.examine.Examined.{Examined}
 use Rattle.verdict.specs.Examination.{examinedValues}
 use Rattle.network.specs.Networks.{TableNetwork}
 use Rattle.trees.specs.Store.{TreesKept}
-use Rattle.entries.specs.laws.PartLaws.{front-is}
+use Rattle.lists.specs.laws.AppendingLaws.{front-is}
 use Rattle.text.specs.Text.{line}
 use Rattle.check_text.specs.CheckText.{refusedWord}
 use Rattle.listing_lines.specs.Listing.{verdictListing, listing}

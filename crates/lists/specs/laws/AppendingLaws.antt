@@ -4,7 +4,8 @@ use native.Mathlib.Omega.{arith}
 use native.Mathlib.Nat.{mul-le-mul-left}
 use mathlib.Core.Path.{_≡_, refl, sym, ap, subst, _∙_}
 use mathlib.Core.List.{List, [], _∷_, _++_, flatMap, append-nil, append-assoc}
-use lib.ListN.{length, set, length-append}
+use lib.ListN.{length, set, take, drop, length-append}
+use lib.Seq.{take-append-seam}
 use Rattle.lists.specs.Lists.{rising, spliced}
 use Rattle.lists.specs.laws.Splices.{length-spliced, spliced-nothing, spliced-next, spliced-twice}
 use Rattle.lists.specs.Appending.{Appended, Room, eachOf}
@@ -26,27 +27,50 @@ appended-both {lent} {part} {written} {more} {last} {at} {end} A B r = record {
   end-is = omega (arith, A .end-is, B .end-is, length-append part more);
 }
 
--- One word, and three written one after the other.
-first-word : (lent : List ℕ) (at a : ℕ) → at < length lent → set lent at a ≡ spliced lent at (a ∷ [])
-first-word lent at a l =
-    ap (λ (t : List ℕ). set t at a) (sym (spliced-nothing lent at)) ∙ ap (λ (k : ℕ). set (spliced lent at []) k a) here
-    ∙ spliced-next lent at [] a (omega arith)
+-- What was appended from the front on is the front.
+pub front-is : {lent part written : List ℕ} {end : ℕ} → Appended lent 0 part written end → take end written ≡ part
+front-is {lent} {part} {written} {end} A =
+    ap (take end) (A .words-are) ∙ ap (λ (k : ℕ). take k (spliced lent 0 part)) (A .end-is ∙ none) ∙ take-append-seam part (drop (0 + length part) lent)
+  where
+    none : 0 + length part ≡ length part
+    none = omega arith
+
+-- One word, and more of them written one after the other.
+pub one-word : (lent : List ℕ) (at a : ℕ) → at < length lent → Appended lent at (a ∷ []) (set lent at a) (at + 1)
+one-word lent at a l = record {
+  words-are =
+      ap (λ (t : List ℕ). set t at a) (sym (spliced-nothing lent at)) ∙ ap (λ (k : ℕ). set (spliced lent at []) k a) here
+      ∙ spliced-next lent at [] a (omega arith);
+  end-is = refl;
+}
   where
     here : at ≡ at + 0
     here = omega arith
 
-pub one-word : (lent : List ℕ) (at a : ℕ) → at < length lent → Appended lent at (a ∷ []) (set lent at a) (at + 1)
-one-word lent at a l = record { words-are = first-word lent at a l; end-is = refl }
+pub next-word : {lent part written : List ℕ} {at end : ℕ} (a k : ℕ) → Appended lent at part written end → k ≡ end → at + length part < length lent
+    → Appended lent at (part ++ (a ∷ [])) (set written k a) (k + 1)
+next-word {lent} {part} {written} {at} {end} a k A e r = record {
+  words-are =
+      ap (λ (t : List ℕ). set t k a) (A .words-are)
+      ∙ ap (λ (i : ℕ). set (spliced lent at part) i a) (e ∙ A .end-is)
+      ∙ spliced-next lent at part a r;
+  end-is = omega (arith, A .end-is, length-append part (a ∷ []));
+}
+
+-- The place after them under another name.
+ended : {lent part written : List ℕ} {at end : ℕ} (k : ℕ) → k ≡ end → Appended lent at part written end → Appended lent at part written k
+ended k e A = record { words-are = A .words-are; end-is = e ∙ A .end-is }
+
+pub two-words : (lent : List ℕ) (at a b : ℕ) → at + 2 ≤ length lent → Appended lent at (a ∷ b ∷ []) (set (set lent at a) (at + 1) b) (at + 2)
+two-words lent at a b r = ended (at + 2) (omega arith) (next-word b (at + 1) (one-word lent at a (omega arith)) refl (omega arith))
 
 pub three-words : (lent : List ℕ) (at a b c : ℕ) → at + 3 ≤ length lent
     → Appended lent at (a ∷ b ∷ c ∷ []) (set (set (set lent at a) (at + 1) b) (at + 2) c) (at + 3)
-three-words lent at a b c r = record {
-  words-are =
-      ap (λ (t : List ℕ). set (set t (at + 1) b) (at + 2) c) (first-word lent at a (omega arith))
-      ∙ ap (λ (t : List ℕ). set t (at + 2) c) (spliced-next lent at (a ∷ []) b (omega arith))
-      ∙ spliced-next lent at (a ∷ b ∷ []) c (omega arith);
-  end-is = refl;
-}
+three-words lent at a b c r = ended (at + 3) (omega arith) (next-word c (at + 2) (two-words lent at a b (omega arith)) refl (omega arith))
+
+pub four-words : (lent : List ℕ) (at a b c d : ℕ) → at + 4 ≤ length lent
+    → Appended lent at (a ∷ b ∷ c ∷ d ∷ []) (set (set (set (set lent at a) (at + 1) b) (at + 2) c) (at + 3) d) (at + 4)
+four-words lent at a b c d r = ended (at + 4) (omega arith) (next-word d (at + 3) (three-words lent at a b c (omega arith)) refl (omega arith))
 
 -- The loop has come to `j`.
 pub record Appending (f : ℕ → List ℕ) (n : ℕ) (lent : List ℕ) (at j : ℕ) (written : List ℕ) (end : ℕ) : Type 0 where
@@ -126,11 +150,11 @@ unfolding flatMap rising
 few-starts f most n lent at =
     record { within = omega arith; few = omega arith; same-length = refl; appended = appended-nothing lent at }
 
-each-more : (f : ℕ → List ℕ) (k j : ℕ) → flatMap f (rising k (suc j)) ≡ flatMap f (rising k j) ++ f (k + j)
+pub each-more : {A : Type 0} (f : ℕ → List A) (k j : ℕ) → flatMap f (rising k (suc j)) ≡ flatMap f (rising k j) ++ f (k + j)
 unfolding flatMap rising
 each-more f k zero = append-nil (f k) ∙ ap f (let z : k ≡ k + 0 = omega arith in z)
-each-more f k (suc j) =
-    ap (λ (t : List ℕ). f k ++ t) (each-more f (suc k) j ∙ ap (λ (i : ℕ). flatMap f (rising (suc k) j) ++ f i) (let z : suc k + j ≡ k + suc j = omega arith in z))
+each-more {A} f k (suc j) =
+    ap (λ (t : List A). f k ++ t) (each-more f (suc k) j ∙ ap (λ (i : ℕ). flatMap f (rising (suc k) j) ++ f i) (let z : suc k + j ≡ k + suc j = omega arith in z))
     ∙ sym (append-assoc (f k) (flatMap f (rising (suc k) j)) (f (k + suc j)))
 
 module _ {f : ℕ → List ℕ} {most n : ℕ} {lent : List ℕ} {at j : ℕ} {written : List ℕ} {end : ℕ} (A : AppendingFew f most n lent at j written end) (room : at + most * n ≤ length lent) where

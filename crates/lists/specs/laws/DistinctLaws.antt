@@ -172,6 +172,13 @@ module _ {A : Type 0} where
   place-in (x ∷ xs) zero d l = inl refl
   place-in (x ∷ xs) (suc i) d l = inr (place-in xs i d (omega arith))
 
+  -- What holds of every two holds of two places.
+  pub every-two-at : (R : A → A → Type 0) (xs : List A) (d : A) → EveryTwo R xs → (i j : ℕ) → i < j → j < length xs → R (getD xs i d) (getD xs j d)
+  every-two-at R [] d E i j l m = absurd (omega arith)
+  every-two-at R (x ∷ xs) d E i zero l m = absurd (omega arith)
+  every-two-at R (x ∷ xs) d E zero (suc j) l m = E .0 (getD xs j d) (place-in xs j d (omega arith))
+  every-two-at R (x ∷ xs) d E (suc i) (suc j) l m = every-two-at R xs d (E .1) i j (omega arith) (omega arith)
+
   -- Two places with the same thing are one.
   pub distinct-places : (xs : List A) (d : A) → Distinct xs → (i j : ℕ) → i < length xs → j < length xs → getD xs i d ≡ getD xs j d → i ≡ j
   distinct-places [] d D i j l m e = absurd (omega arith)

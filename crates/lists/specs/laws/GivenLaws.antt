@@ -108,6 +108,16 @@ module _ {A B : Type 0} where
   flatMap-one f [] = refl
   flatMap-one f (x ∷ xs) = ap (λ (t : List B). f x ∷ t) (flatMap-one f xs)
 
+  pub selected-map : (f : A → B) (test : B → Bool) (xs : List A) → selected test (map f xs) ≡ map f (selected (λ x. test (f x)) xs)
+  unfolding selected
+  selected-map f test [] = refl
+  selected-map f test (x ∷ xs) = go (test (f x)) (selected-map f test xs)
+    where
+      go : (b : Bool) → selected test (map f xs) ≡ map f (selected (λ x. test (f x)) xs)
+          → consIf b (f x) (selected test (map f xs)) ≡ map f (consIf b x (selected (λ x. test (f x)) xs))
+      go true e = ap (λ (t : List B). f x ∷ t) e
+      go false e = e
+
 module _ {A B C : Type 0} where
   pub flatMap-map : (f : B → List C) (g : A → B) (xs : List A) → flatMap f (map g xs) ≡ flatMap (λ x. f (g x)) xs
   unfolding flatMap

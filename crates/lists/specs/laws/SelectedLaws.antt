@@ -2,7 +2,7 @@
 use Prim.Native.Nat.{ℕ, zero, suc, _+_, _≤_, _<_}
 use native.Mathlib.Omega.{arith}
 use mathlib.Core.Path.{_≡_, refl, sym, ap, _∙_, subst}
-use mathlib.Core.List.{List, [], _∷_}
+use mathlib.Core.List.{List, [], _∷_, map}
 use mathlib.Core.Logic.{_⊎_, inl, inr}
 use mathlib.Core.Bool.{Bool, true, false, _||_}
 use lib.Dec.{T}
@@ -66,6 +66,12 @@ module _ {A : Type 0} where
       go : (b : Bool) → T (anyPasses test xs) → T (b || anyPasses test xs)
       go true h = tt
       go false h = h
+
+module _ {A B : Type 0} (f : A → B) where
+  pub any-map : (test : B → Bool) (xs : List A) → anyPasses test (map f xs) ≡ anyPasses (λ x. test (f x)) xs
+  unfolding anyPasses
+  any-map test [] = refl
+  any-map test (x ∷ xs) = ap (λ (b : Bool). test (f x) || b) (any-map test xs)
 
 -- The numbers below a bound
 

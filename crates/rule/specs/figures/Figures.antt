@@ -17,6 +17,7 @@ use Rattle.rule.specs.Links.{Link, number, linksOf, usableLinks, countUs
 use Rattle.rule.specs.Identifiers.{maskedBytes, maskedIdentifier}
 use Rattle.rule.specs.Paths.{chosenPath}
 use Rattle.rule.specs.Answers.{CostAndHops}
+use Rattle.rule.specs.Services.{readServicesAnswer, writeServicesAnswer}
 use Rattle.rule.specs.Calls.{checkOutcome, pathAnswer}
 use Rattle.rule.specs.declared.answer.Counts.{Counts}
 
@@ -171,18 +172,24 @@ unusableSecond =
     ∷ (0xf000000d ∷ [])
     ∷ []
 
--- What a figure asks of a table: the path for a VID between two bridges, the link that a hop takes, or the counts.
+-- What a figure asks of a table: the path for a VID between two bridges, the link that a hop takes, or the counts; for document 02, what is
+-- read from a sub-TLV, and what is written for a bridge and a VID.
 pub data Question : Type 0 where
   path : List (List ℕ) → ℕ → ℕ → ℕ → Question
   hop : List (List ℕ) → ℕ → ℕ → Question
   check : List (List ℕ) → Question
+  reading : List (List ℕ) → List ℕ → Question
+  writing : List (List ℕ) → ℕ → ℕ → Question
 
--- What it shows: the cost, hops and bridges of a path, the number and near port of a link, five counts, or a refusal's number.
+-- What it shows: the cost, hops and bridges of a path, the number and near port of a link, five counts, words or bytes, a refusal's number,
+-- or a refusal's number, kind and word.
 pub data Shown : Type 0 where
   pathIs : ℕ → ℕ → List ℕ → Shown
   linkIs : ℕ → ℕ → Shown
   counts : ℕ → ℕ → ℕ → ℕ → ℕ → Shown
+  listIs : List ℕ → Shown
   refusal : ℕ → Shown
+  refusalOf : ℕ → Option ℕ → ℕ → Shown
 
 abbrev pub shownPath : Outcome (Written CostAndHops) → Shown
 shownPath (answered w) = pathIs (w .values .cost) (w .values .hops) (w .words)
@@ -198,10 +205,16 @@ abbrev pub shownCounts : Outcome Counts → Shown
 shownCounts (answered c) = counts (c .bridges) (c .«half_links») (c .«usable_links») (c .vids) (c .members)
 shownCounts (refused n kind at) = refusal n
 
+abbrev pub shownList : Outcome (Written ℕ) → Shown
+shownList (answered w) = listIs (w .words)
+shownList (refused n kind at) = refusalOf n kind at
+
 abbrev pub shown : Question → Shown
 shown (path t vid a b) = shownPath (pathAnswer (table t) vid a b)
 shown (hop t u v) = shownLink (andThen (verdict (table t)) λ p. answered (hopLink (p .halfLinks) u v))
 shown (check t) = shownCounts (checkOutcome (table t))
+shown (reading t bytes) = shownList (readServicesAnswer (table t) bytes)
+shown (writing t b vid) = shownList (writeServicesAnswer (table t) b vid)
 
 pub record Figure : Type 0 where
   pub question : Question

@@ -3,8 +3,9 @@
 use Prim.Native.Nat.{ℕ}
 use mathlib.Core.Path.{_≡_, refl}
 use mathlib.Core.List.{List, [], _∷_, map, flatMap}
+use mathlib.Core.Option.{none, some}
 use lib.ListN.{drop}
-use Rattle.lists.specs.Lists.{rising, selected, anyPasses, lowestBy}
+use Rattle.lists.specs.Lists.{rising, selected, anyPasses, firstPassing, lowestBy}
 use Rattle.graph.specs.Order.{insertUpward, sorted, isLower}
 use Rattle.graph.specs.Graph.{costOnward}
 use Rattle.graph.specs.Chosen.{neighbours, onward, paths, chosen}
@@ -15,7 +16,9 @@ use Rattle.rule.specs.Links.{linksOf, usableLinks, countUsable, linksBet
 use Rattle.rule.specs.Identifiers.{maskedBytes, maskedIdentifier}
 use Rattle.rule.specs.Paths.{chosenPath}
 use Rattle.rule.specs.Calls.{checkOutcome, pathAnswer}
-use Rattle.rule.specs.figures.Figures.{diamond, path, check, pathIs, counts, refusal, shown, Figure, figure}
+use Rattle.rule.specs.Services.{subTlvWords, afterServices, readServicesAnswer, subTlvs, writeServicesAnswer}
+use Rattle.rule.specs.figures.Tables.{table}
+use Rattle.rule.specs.figures.Figures.{diamond, path, check, reading, writing, pathIs, counts, listIs, refusal, refusalOf, shown, Figure, figure}
 
 -- The diamond with other first words of its bridges' records: bit 27 marks a bridge as overloaded.
 abbrev diamondWith : ℕ → ℕ → ℕ → ℕ → List (List ℕ)
@@ -38,6 +41,23 @@ overloaded03 = diamondWith 0x18000001 0x10000002 0x10000003 0x18000004
 abbrev overloaded01 : List (List ℕ)
 overloaded01 = diamondWith 0x18000001 0x18000002 0x10000003 0x10000004
 
+-- Two bridges, VID 10 and three services of bridge 0: T alone, R alone and neither; of the first, bridge 1 is a member with R.
+abbrev services : List (List ℕ)
+services =
+    (0x10000001 ∷ 0x80000200 ∷ 0x00000001 ∷ [])
+    ∷ (0x10000002 ∷ 0x80000200 ∷ 0x00000002 ∷ [])
+    ∷ (0x300a0001 ∷ [])
+    ∷ (0x42000100 ∷ 0x0000000a ∷ [])
+    ∷ (0x41000100 ∷ 0x0001000a ∷ [])
+    ∷ (0x41000101 ∷ 0x0000000a ∷ [])
+    ∷ (0x40000102 ∷ 0x0000000a ∷ [])
+    ∷ (0xf000000f ∷ [])
+    ∷ []
+
+-- A sub-TLV by its type, its length and the words after them.
+abbrev subTlvOf : ℕ → ℕ → List ℕ → List ℕ
+subTlvOf type len ws = type ∷ len ∷ table (ws ∷ [])
+
 -- VID 10 has index 1 and VID 11 index 2: without the bit 0 to 3 goes by 1 and by 2.
 abbrev figures : List Figure
 figures =
@@ -58,11 +78,45 @@ figures =
     -- Links and counts are those of the diamond; bit 26 stays a zero bit.
     ∷ figure (check overloaded12) (counts 4 8 4 4 0)
     ∷ figure (check (diamondWith 0x10000001 0x14000002 0x10000003 0x10000004)) (refusal 4)
+    -- A2: "type 3, length, B-MAC, 4 reserved bits and Base VID, then T, R, 6 reserved bits and I-SID for each service".
+    ∷ figure (writing services 0 10) (listIs (subTlvOf 3 20 (0x02000000 ∷ 0x0001000a ∷ 0x80000100 ∷ 0x40000101 ∷ 0x00000102 ∷ [])))
+    ∷ figure (writing services 1 10) (listIs (subTlvOf 3 12 (0x02000000 ∷ 0x0002000a ∷ 0x40000100 ∷ [])))
+    ∷ figure (writing services 2 10) (refusalOf 11 none 0)
+    ∷ figure (writing services 0 11) (refusalOf 11 none 0)
+    -- "A bridge without members of that VID gives no bytes."
+    ∷ figure (writing diamond 0 10) (listIs [])
+    -- "Members written come back the same and in order."
+    ∷ figure (reading services (subTlvOf 3 20 (0x02000000 ∷ 0x0001000a ∷ 0x80000100 ∷ 0x40000101 ∷ 0x00000102 ∷ [])))
+    (listIs (0x42000100 ∷ 0x0000000a ∷ 0x41000101 ∷ 0x0000000a ∷ 0x40000102 ∷ 0x0000000a ∷ []))
+    -- "Reserved bits are ignored on reading": all are set. The table's own members play no part.
+    ∷ figure (reading services (subTlvOf 3 12 (0x02000000 ∷ 0x0002f00a ∷ 0xbf000100 ∷ []))) (listIs (0x42000100 ∷ 0x0001000a ∷ []))
+    ∷ figure (reading services (subTlvOf 3 8 (0x02000000 ∷ 0x0002000a ∷ []))) (listIs [])
+    -- 15: nine bytes, another type, a length that is not the number of bytes that follow it, one that is not 8 plus a multiple of 4, two
+    -- sub-TLVs in a row.
+    ∷ figure (reading services (3 ∷ 7 ∷ 2 ∷ 0 ∷ 0 ∷ 0 ∷ 0 ∷ 1 ∷ 0 ∷ [])) (refusalOf 15 none 0)
+    ∷ figure (reading services (subTlvOf 2 8 (0x02000000 ∷ 0x0001000a ∷ []))) (refusalOf 15 none 0)
+    ∷ figure (reading services (subTlvOf 3 12 (0x02000000 ∷ 0x0001000a ∷ []))) (refusalOf 15 none 0)
+    ∷ figure (reading services (3 ∷ 9 ∷ 2 ∷ 0 ∷ 0 ∷ 0 ∷ 0 ∷ 1 ∷ 0 ∷ 10 ∷ 0 ∷ [])) (refusalOf 15 none 0)
+    ∷ figure (reading services (subTlvOf 3 8 (0x02000000 ∷ 0x0001000a ∷ 0x03080200 ∷ 0x00000001 ∷ 0x000a0000 ∷ []))) (refusalOf 15 none 0)
+    -- 16: a B-MAC that is no bridge's address, a VID without a record; 15 comes before it, and it before 6.
+    ∷ figure (reading services (subTlvOf 3 8 (0x02000000 ∷ 0x0003000a ∷ []))) (refusalOf 16 none 0)
+    ∷ figure (reading services (subTlvOf 3 8 (0x02000000 ∷ 0x0001000b ∷ []))) (refusalOf 16 none 0)
+    ∷ figure (reading services (subTlvOf 2 8 (0x02000000 ∷ 0x0003000a ∷ []))) (refusalOf 15 none 0)
+    ∷ figure (reading services (subTlvOf 3 12 (0x02000000 ∷ 0x0003000a ∷ 0x80000000 ∷ []))) (refusalOf 16 none 0)
+    -- 6 and 8: "the first faulty service counting, with kind member and that service's number from 0 as the word".
+    ∷ figure (reading services (subTlvOf 3 12 (0x02000000 ∷ 0x0001000a ∷ 0x800000ff ∷ []))) (refusalOf 6 (some 4) 0)
+    ∷ figure (reading services (subTlvOf 3 16 (0x02000000 ∷ 0x0001000a ∷ 0x80fffffe ∷ 0x80ffffff ∷ []))) (refusalOf 6 (some 4) 1)
+    ∷ figure (reading services (subTlvOf 3 16 (0x02000000 ∷ 0x0001000a ∷ 0x80000100 ∷ 0x40000100 ∷ []))) (refusalOf 8 (some 4) 1)
+    ∷ figure (reading services (subTlvOf 3 20 (0x02000000 ∷ 0x0001000a ∷ 0x80000100 ∷ 0x80000100 ∷ 0x80000000 ∷ []))) (refusalOf 8 (some 4) 1)
+    -- "after the table's own".
+    ∷ figure (reading ((0x40000000 ∷ []) ∷ []) []) (refusalOf 3 (some 4) 0)
+    ∷ figure (writing ((0x40000000 ∷ []) ∷ []) 0 10) (refusalOf 3 (some 4) 0)
     ∷ []
 
 -- Every figure shows what document 02 says.
 figures-hold : map (λ f. shown (f .question)) figures ≡ map (λ f. f .expected) figures
 unfolding wordsOf layoutOf lowestFault readOn verdict linksOf usableLinks countUsable linksBetween hopLink
     maskedBytes maskedIdentifier chosenPath checkOutcome pathAnswer
+    subTlvWords afterServices readServicesAnswer subTlvs writeServicesAnswer firstPassing
     rising selected anyPasses lowestBy insertUpward sorted isLower costOnward neighbours onward paths chosen flatMap
 figures-hold = refl

@@ -7,7 +7,7 @@ use mathlib.Core.List.{List, [], _∷_, _++_}
 use mathlib.Core.Option.{Option, none, some}
 use mathlib.Core.Logic.{_⊎_, inl, inr}
 use mathlib.Core.Bool.{Bool, true, false, cond, not, _&&_, _||_}
-use lib.Dec.{T, leb, eqb, ltb, le→leb, leb→le, eqb→eq, ltb→lt}
+use lib.Dec.{T, leb, eqb, ltb, le→leb, leb→le, eqb→eq, lt→ltb, ltb→lt}
 use lib.ListN.{length, drop, length-append}
 use Rattle.lists.specs.Lists.{selected}
 use Rattle.lists.specs.Members.{In}
@@ -16,7 +16,7 @@ use Rattle.lists.specs.laws.MemberLaws.{in-append, in-left, none-not-some}
 use Rattle.lists.specs.laws.SelectedLaws.{selected-in, in-selected, any-in, in-any}
 use Rattle.lists.specs.laws.DistinctLaws.{every-two-end, first-in}
 use Rattle.rule.specs.Words.{wordsOf, bits}
-use Rattle.rule.specs.Records.{Bridge, HalfLink, Vid, Member, bridge, halfLink, vid, member, end, address, endCount, Layout, Range, inLimits, bridgeOf, halfLinkOf, vidOf, memberOf, layouts, layoutOf, bridgeLayout, halfLinkLayout, vidLayout, memberLayout}
+use Rattle.rule.specs.Records.{Bridge, HalfLink, Vid, Member, bridge, halfLink, vid, member, end, address, endCount, Layout, Range, inLimits, fieldAt, bridgeOf, halfLinkOf, vidOf, memberOf, layouts, layoutOf, bridgeLayout, halfLinkLayout, vidLayout, memberLayout}
 use Rattle.rule.specs.Outcome.{Outcome, answered, refused, refusedAs}
 use Rattle.rule.specs.Plan.{Plan, noRecords, withRecord, alike, knownBridge, knownVid}
 use Rattle.rule.specs.Check.{badLength, outsideRange, wrongEndCount, unknownName, repeated, wrongHalf, wrongLink, Reading, start, Fault, faults, lowestFault, taken, judged, readAs, readFrom, after, readOn, verdict}
@@ -64,6 +64,13 @@ not-leb m n f = go (le-or-gt m n)
     go (inl h) = absurd (f (le→leb m n h))
     go (inr h) = h
 
+pub not-ltb : (m n : ℕ) → (T (ltb m n) → ⊥) → n ≤ m
+not-ltb m n f = go (le-or-gt n m)
+  where
+    go : (n ≤ m) ⊎ (m < n) → n ≤ m
+    go (inl h) = h
+    go (inr h) = absurd (f (lt→ltb m n h))
+
 is-known : (m n : ℕ) → (T (not (ltb m n)) → ⊥) → m < n
 is-known m n f = ltb→lt m n (passes (ltb m n) f)
 
@@ -101,7 +108,7 @@ members-still : (n k : ℕ) (vs ws : List Vid) (ms : List Member) → n ≤ k �
 members-still n k vs ws ms l f M = record { few = M .few; apart = M .apart; fits = λ m i. still m (M .fits m i) }
   where
     still : (m : Member) → MemberFits n vs m → MemberFits k ws m
-    still m F = let (v, i, e) = F .vid-known in record { isid = F .isid; bridge-known = omega arith; vid-known = (v, f v i, e) }
+    still m F = let (v, i, e) = F .vid-known in record { least-isid = F .least-isid; isid = F .isid; bridge-known = omega arith; vid-known = (v, f v i, e) }
 
 module _ (p : Plan) (L : PlanLaws p) where
   with-bridge : (b : Bridge) → length (p .bridges) < 64 → BridgeFits b → (T (repeated p (bridge b)) → ⊥)
@@ -265,11 +272,12 @@ keeps-vid s r F L = with-vid (s .plan) L (vidOf r) (F .room) fits (F .new)
     }
 
 keeps-member : (s : Reading) (r : List ℕ) → Keeps s r memberLayout
-keeps-member s r F L = with-member (s .plan) L (memberOf r) (F .room) (fits (memberOf r) (F .in-range .0 .1) (F .known)) (F .new)
+keeps-member s r F L = with-member (s .plan) L (memberOf r) (F .room) (fits (memberOf r) (F .in-range .0 .0) (F .in-range .0 .1) (F .known)) (F .new)
   where
-    fits : (m : Member) → m .isid ≤ 16777214 → (T (unknownName (s .plan) (member m)) → ⊥)
+    fits : (m : Member) → 256 ≤ m .isid → m .isid ≤ 16777214 → (T (unknownName (s .plan) (member m)) → ⊥)
         → MemberFits (length (s .plan .bridges)) (s .plan .vids) m
-    fits m i f = record {
+    fits m l i f = record {
+      least-isid = l;
       isid = i;
       bridge-known = is-known (m .bridge) (length (s .plan .bridges)) (λ k. f (either-left no-bridge no-vid k));
       vid-known =
@@ -300,6 +308,14 @@ row-listed k l e = selected-in (λ l. eqb k (l .kind)) l layouts (first-in (sele
 not-answered : {number : ℕ} {kind : Option ℕ} {at : ℕ} {p : Plan} → refused number kind at ≡ answered p → ⊥
 not-answered {number} {kind} {at} {p} e = let z : _≡_ {A = ℕ} 0 1 = cc in omega arith
 
+-- "A record's first word holds its kind in bits 31..28."
+abbrev pub HasKind : Layout → List ℕ → Type 0
+HasKind l r = fieldAt 0 31 28 r ≡ l .kind
+
+row-kind : (k : ℕ) (l : Layout) → layoutOf k ≡ some l → k ≡ l .kind
+unfolding layoutOf
+row-kind k l e = eqb→eq k (l .kind) (selected-in (λ l. eqb k (l .kind)) l layouts (first-in (selected (λ l. eqb k (l .kind)) layouts) l e) .1)
+
 -- A reading with one record more.
 abbrev pub readOne : Reading → Layout → List ℕ → Reading
 readOne s l r = record { at = s .at + l .words; last = l .kind; plan = withRecord (s .plan) (l .decoded r) }
@@ -307,7 +323,13 @@ readOne s l r = record { at = s .at + l .words; last = l .kind; plan = withRecor
 -- What holds where the reading of the words `ws` stands, and still holds after each record without a fault, holds where the end record is
 -- read.
 module _ (ws : List ℕ) (Holds : Reading → Type 0)
-    (keeps : (s : Reading) (l : Layout) → In l layouts → lowestFault (faults s l (drop (s .at) ws)) ≡ none → Holds s → Holds (readOne s l (drop (s .at) ws))) where
+    (keeps :
+    (s : Reading) (l : Layout) →
+    In l layouts →
+    HasKind l (drop (s .at) ws) →
+    lowestFault (faults s l (drop (s .at) ws)) ≡ none →
+    Holds s →
+    Holds (readOne s l (drop (s .at) ws))) where
   abbrev Ends : Plan → Type 0
   Ends p = (s : Reading) × Holds s × (s .plan ≡ p)
 
@@ -320,14 +342,16 @@ module _ (ws : List ℕ) (Holds : Reading → Type 0)
     judged-ends l r none K h = taken-ends l r (endCount (l .decoded r)) (K refl) h
     judged-ends l r (some f) K h = absurd (not-answered h)
 
-    row-ends : (r : List ℕ) (o : Option Layout) → ((l : Layout) → o ≡ some l → In l layouts) → r ≡ drop (s .at) ws
+    row-ends : (r : List ℕ) (o : Option Layout) → ((l : Layout) → o ≡ some l → In l layouts × HasKind l r) → r ≡ drop (s .at) ws
         → after next (readAs s r o) ≡ answered p → Ends p
     row-ends r none i e h = absurd (not-answered h)
-    row-ends r (some l) i e h = judged-ends l r (lowestFault (faults s l r)) (λ f. rw e (keeps s l (i l refl) (rw e at f) H)) h
+    row-ends r (some l) i e h =
+        judged-ends l r (lowestFault (faults s l r)) (λ f. rw e (keeps s l (i l refl .0) (rw e at (i l refl .1)) (rw e at f) H)) h
 
     step-ends : (total : ℕ) (r : List ℕ) → r ≡ drop (s .at) ws → after next (readFrom total s r) ≡ answered p → Ends p
     step-ends total [] e h = absurd (not-answered h)
-    step-ends total (w ∷ r) e h = row-ends (w ∷ r) (layoutOf (bits w 31 28)) (row-listed (bits w 31 28)) e h
+    step-ends total (w ∷ r) e h =
+        row-ends (w ∷ r) (layoutOf (bits w 31 28)) (λ l k. (row-listed (bits w 31 28) l k, row-kind (bits w 31 28) l k)) e h
 
   reading-ends : (p : Plan) (n : ℕ) (s : Reading) → Holds s → readOn n ws s ≡ answered p → Ends p
   unfolding readOn
@@ -354,6 +378,6 @@ no-records = record {
 -- "every accepted table" (demand 3): its plan meets the laws.
 pub accepted-laws : (t : List ℕ) (p : Plan) → verdict t ≡ answered p → PlanLaws p
 accepted-laws t p e =
-    let (s, L, f) = accepted-ends (wordsOf t) (λ s. PlanLaws (s .plan)) (λ s l k n L. kept s (drop (s .at) (wordsOf t)) l k (faultless s l (drop (s .at) (wordsOf t)) n) L)
+    let (s, L, f) = accepted-ends (wordsOf t) (λ s. PlanLaws (s .plan)) (λ s l k h n L. kept s (drop (s .at) (wordsOf t)) l k (faultless s l (drop (s .at) (wordsOf t)) n) L)
     t p refl no-records e
     in subst PlanLaws f L

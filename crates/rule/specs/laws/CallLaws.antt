@@ -1,6 +1,6 @@
 -- What the path and the entries call answer for an accepted table (01, "Calls"): the chosen path with its cost and hops, or 12; the
 -- words of the bridge's entries. Assumes nothing.
-use Prim.Native.Nat.{ℕ, _≤_, _<_}
+use Prim.Native.Nat.{ℕ, _+_, _≤_, _<_}
 use native.Mathlib.Omega.{arith}
 use mathlib.Core.Path.{_≡_, refl, sym, ap, _∙_}
 use mathlib.Core.List.{List, [], _++_}
@@ -8,14 +8,14 @@ use mathlib.Core.Option.{Option, some}
 use mathlib.Core.Logic.{_⊎_, inl, inr}
 use mathlib.Core.Bool.{true, false, cond, _&&_}
 use lib.Dec.{eqb, leb, le→leb, leb→le, lt→ltb, eqb→eq}
-use lib.ListN.{length, getElem?, drop-of-length-le}
-use Rattle.lists.specs.Lists.{selected}
+use lib.ListN.{length, getElem?, drop, drop-of-length-le}
+use Rattle.lists.specs.Lists.{selected, spliced}
 use Rattle.lists.specs.Members.{In}
 use Rattle.lists.specs.laws.NumberLaws.{le-or-gt, both, is-true, is-false, eq-eqb}
 use Rattle.lists.specs.laws.SelectedLaws.{selected-in, in-selected}
 use Rattle.lists.specs.laws.DistinctLaws.{distinct-selected, only-one}
 use Rattle.rule.specs.Records.{Vid}
-use Rattle.rule.specs.Outcome.{Outcome, answered, refused, andThen, refusedAs, Written, overwritten, lentTo}
+use Rattle.rule.specs.Outcome.{Outcome, answered, refused, andThen, refusedAs, Written, listAnswer, overwritten, lentTo}
 use Rattle.rule.specs.Plan.{Plan, knownBridge, vidRecord, planOfVid}
 use Rattle.rule.specs.Check.{verdict}
 use Rattle.rule.specs.Paths.{chosenPath}
@@ -31,6 +31,21 @@ holds m n l = is-true (leb m n) (le→leb m n l)
 
 too-short : (m n : ℕ) → n < m → leb m n ≡ false
 too-short m n l = is-false (leb m n) (λ t. omega (arith, leb→le m n t))
+
+-- A list that is answered, into a lent one: 13, or it is written to its front.
+module _ (words list : List ℕ) where
+  pub fits-not : length list < length words → _≡_ {A = Outcome ℕ × List ℕ} (refusedAs 13, list) (lentTo list (listAnswer words))
+  fits-not l = rw (too-short (length words) (length list) l)
+
+  pub fits-in : length words ≤ length list → {list′ : List ℕ} → list′ ≡ spliced list 0 words
+      → _≡_ {A = Outcome ℕ × List ℕ} (answered (length words), list′) (lentTo list (listAnswer words))
+  fits-in l e = rw (holds (length words) (length list) l) (λ i. (answered (length words), (e ∙ front) i))
+    where
+      front : spliced list 0 words ≡ overwritten words list
+      front = ap (λ (k : ℕ). words ++ drop k list) zero
+        where
+          zero : 0 + length words ≡ length words
+          zero = omega arith
 
 module _ {A : Type 0} where
   pub refused-not-answered : {n : ℕ} {k : Option ℕ} {at : ℕ} {a : A} → refused n k at ≡ answered a → ⊥

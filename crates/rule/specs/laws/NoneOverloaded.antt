@@ -8,7 +8,7 @@ use mathlib.Core.List.{List, [], _∷_, _++_}
 use mathlib.Core.Option.{none}
 use mathlib.Core.Logic.{_⊎_, inl, inr, _↔_}
 use mathlib.Core.Bool.{true, false, not}
-use lib.Dec.{T, eqb, lt→ltb}
+use lib.Dec.{T, eqb}
 use lib.ListN.{length, getD, drop, length-append, List·getD-append, List·getD-eq-default}
 use lib.Seq.{getD-at}
 use Rattle.lists.specs.Members.{In}
@@ -24,7 +24,7 @@ use Rattle.rule.specs.Links.{joined, hopLink, costOf, graphOf}
 use Rattle.rule.specs.Identifiers.{keyOf}
 use Rattle.rule.specs.Paths.{chosenPath}
 use Rattle.rule.specs.Demand3.{LastOrNotOverloaded, Chain}
-use Rattle.rule.specs.laws.Accepted.{no-fault, readOne, accepted-ends}
+use Rattle.rule.specs.laws.Accepted.{no-fault, not-ltb, HasKind, readOne, accepted-ends}
 
 -- The graph of document 01 alone: every bridge may lie between.
 abbrev pub graphBefore : Plan → Graph
@@ -79,9 +79,9 @@ record BridgesRead (ws : List ℕ) (s : Reading) : Type 0 where
   behind : s .last ≤ 1 → s .at ≡ 3 * length (s .plan .bridges)
   each : (k : ℕ) → k < length (s .plan .bridges) → bridgeAt (s .plan) k ≡ bridgeOf (drop (3 * k) ws)
 
-one-more : (ws : List ℕ) (s : Reading) (l : Layout) → In l layouts → lowestFault (faults s l (drop (s .at) ws)) ≡ none → BridgesRead ws s
-    → BridgesRead ws (readOne s l (drop (s .at) ws))
-one-more ws s l (inl e) n B = rw e (record {
+one-more : (ws : List ℕ) (s : Reading) (l : Layout) → In l layouts → HasKind l (drop (s .at) ws) → lowestFault (faults s l (drop (s .at) ws)) ≡ none
+    → BridgesRead ws s → BridgesRead ws (readOne s l (drop (s .at) ws))
+one-more ws s l (inl e) h n B = rw e (record {
   behind = λ h. omega (arith, at-end, length-append (s .plan .bridges) (b ∷ []));
   each = λ k h. go k h (le-or-gt (length (s .plan .bridges)) k);
 })
@@ -90,11 +90,7 @@ one-more ws s l (inl e) n B = rw e (record {
     b = bridgeOf (drop (s .at) ws)
 
     last-low : s .last ≤ 1
-    last-low = low (le-or-gt (s .last) 1)
-      where
-        low : (s .last ≤ 1) ⊎ (1 < s .last) → s .last ≤ 1
-        low (inl h) = h
-        low (inr h) = absurd (no-fault (faults s l (drop (s .at) ws)) n .0 (rw e (lt→ltb 1 (s .last) h)))
+    last-low = rw e at (not-ltb (l .kind) (s .last) (no-fault (faults s l (drop (s .at) ws)) n .0))
 
     at-end : s .at ≡ 3 * length (s .plan .bridges)
     at-end = B .behind last-low
@@ -106,11 +102,11 @@ one-more ws s l (inl e) n B = rw e (record {
         in let g : s .at ≡ 3 * k = omega (arith, at-end)
         in getD-at (s .plan .bridges) b [] noBridge k f ∙ ap (λ (i : ℕ). bridgeOf (drop i ws)) g
     go k h (inr m) = List·getD-append (s .plan .bridges) (b ∷ []) noBridge k m ∙ B .each k m
-one-more ws s l (inr (inl e)) n B = rw e (record { behind = λ h. absurd (omega arith); each = B .each })
-one-more ws s l (inr (inr (inl e))) n B = rw e (record { behind = λ h. absurd (omega arith); each = B .each })
-one-more ws s l (inr (inr (inr (inl e)))) n B = rw e (record { behind = λ h. absurd (omega arith); each = B .each })
-one-more ws s l (inr (inr (inr (inr (inl e))))) n B = rw e (record { behind = λ h. absurd (omega arith); each = B .each })
-one-more ws s l (inr (inr (inr (inr (inr k))))) n B = absurd k
+one-more ws s l (inr (inl e)) h n B = rw e (record { behind = λ h. absurd (omega arith); each = B .each })
+one-more ws s l (inr (inr (inl e))) h n B = rw e (record { behind = λ h. absurd (omega arith); each = B .each })
+one-more ws s l (inr (inr (inr (inl e)))) h n B = rw e (record { behind = λ h. absurd (omega arith); each = B .each })
+one-more ws s l (inr (inr (inr (inr (inl e))))) h n B = rw e (record { behind = λ h. absurd (omega arith); each = B .each })
+one-more ws s l (inr (inr (inr (inr (inr k))))) h n B = absurd k
 
 -- The bridge `k` of an accepted table is that of the three words from the word 3 k on.
 pub bridge-words : (t : List ℕ) (p : Plan) → verdict t ≡ answered p → (k : ℕ) → k < length (p .bridges) → bridgeAt p k ≡ bridgeOf (drop (3 * k) (wordsOf t))

@@ -4,7 +4,7 @@ use native.Mathlib.Omega.{arith}
 use native.Mathlib.Numerals.{add-one}
 use mathlib.Core.Path.{_≡_, refl, sym, ap, _∙_, subst}
 use mathlib.Core.List.{List, [], _∷_, _++_, map, map-append}
-use mathlib.Core.Bool.{Bool, true, false, _||_}
+use mathlib.Core.Bool.{Bool, true, false}
 use mathlib.Core.Logic.{_⊎_, inl, inr}
 use mathlib.Core.Option.{Option, none, some}
 use lib.ListN.{length, drop, getD, getElem?, length-map}
@@ -12,15 +12,9 @@ use Rattle.lists.specs.Lists.{rising, anyPasses, selected}
 use Rattle.lists.specs.Members.{In, EveryTwo}
 use Rattle.lists.specs.laws.NumberLaws.{le-or-gt}
 use Rattle.lists.specs.laws.MemberLaws.{in-map, map-in, map-at}
-use Rattle.lists.specs.laws.SelectedLaws.{in-rising, rising-in, rising-at, length-rising}
+use Rattle.lists.specs.laws.SelectedLaws.{any-map, in-rising, rising-in, rising-at, length-rising}
 use Rattle.lists.specs.laws.Searching.{Searching, search-on, search-finds, search-ends, rising-more}
 use Rattle.table.specs.Positions.{recordAt, recordsAt}
-
-module _ {A B : Type 0} (f : A → B) where
-  any-map : (test : B → Bool) (xs : List A) → anyPasses test (map f xs) ≡ anyPasses (λ x. test (f x)) xs
-  unfolding anyPasses
-  any-map test [] = refl
-  any-map test (x ∷ xs) = ap (λ (b : Bool). test (f x) || b) (any-map test xs)
 
 -- A relation along the values of rising numbers.
 every-two-rising :

@@ -1,5 +1,5 @@
 -- `entries::list::fitted` refuses a list that is too short and copies to one that is not. Assumes nothing.
-use Rattle.entries.specs.laws.WholeLaws.{fits-not, fits-in}
+use Rattle.rule.specs.laws.CallLaws.{fits-not, fits-in}
 use borrow.Author.Needs.{needs}
 use Rattle.entries.proofs.list.fitted.Statement.{statement}
 use Rattle.entries.proofs.list.fitted.Tie as tie

@@ -6,7 +6,7 @@ use Prim.Native.Nat.{ℕ}
 use Rattle.rule.specs.Outcome.{Outcome}
 use Rattle.text.specs.laws.TextLaws.{written-as}
 use Rattle.probe_calls.specs.AnswerText.{entriesText}
-use Rattle.probe_calls.specs.laws.LineLaws.{list-line}
+use Rattle.probe_input.specs.laws.LineLaws.{list-line}
 use native.Mathlib.Omega.{arith}
 use Rattle.probe_calls.proofs.line.write_entries.Statement.{statement}
 use Rattle.probe_calls.proofs.line.write_entries.Tie as tie

@@ -7,7 +7,7 @@ use Rattle.rule.specs.Outcome.{Outcome}
 use Rattle.rule.specs.Answers.{CostAndHops}
 use Rattle.text.specs.laws.TextLaws.{written-as}
 use Rattle.probe_calls.specs.AnswerText.{pathText}
-use Rattle.probe_calls.specs.laws.LineLaws.{list-line}
+use Rattle.probe_input.specs.laws.LineLaws.{list-line}
 use native.Mathlib.Omega.{arith}
 use Rattle.probe_calls.proofs.line.write_path.Statement.{statement}
 use Rattle.probe_calls.proofs.line.write_path.Tie as tie

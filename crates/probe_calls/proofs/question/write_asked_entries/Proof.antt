@@ -8,7 +8,8 @@ use native.Mathlib.Omega.{arith}
 use Rattle.rule.specs.Calls.{entriesOutcome}
 use Rattle.text.specs.laws.TextLaws.{written-as}
 use Rattle.probe_calls.specs.AnswerText.{entriesText}
-use Rattle.probe_calls.specs.laws.UntouchedLaws.{front-untouched}
+use Rattle.probe_input.specs.Lent.{untouchedPlace}
+use Rattle.probe_input.specs.laws.LentLaws.{front-set}
 use Rattle.probe_calls.proofs.question.write_asked_entries.Statement.{statement}
 use Rattle.probe_calls.proofs.question.write_asked_entries.Tie as tie
 
@@ -30,7 +31,7 @@ returns c =
     let (places-bound, _) = at-start .pre in (
       written-as written _
           (ap (λ (l : List ℕ). entriesText (entriesOutcome (at-start .args .table .now) (at-start .args .bridge) l))
-          (front-untouched _ (at-start .args .places) 14932 (at-set-untouched .set-untouched .ensures) places-bound)),
+          (front-set untouchedPlace _ (at-start .args .places) 14932 (at-set-untouched .set-untouched .ensures) places-bound)),
       write-entries-bound,
     )
 

@@ -8,7 +8,8 @@ use native.Mathlib.Omega.{arith}
 use Rattle.rule.specs.Calls.{pathOutcome}
 use Rattle.text.specs.laws.TextLaws.{written-as}
 use Rattle.probe_calls.specs.AnswerText.{pathText}
-use Rattle.probe_calls.specs.laws.UntouchedLaws.{front-untouched}
+use Rattle.probe_input.specs.Lent.{untouchedPlace}
+use Rattle.probe_input.specs.laws.LentLaws.{front-set}
 use Rattle.probe_calls.proofs.question.write_asked_path.Statement.{statement}
 use Rattle.probe_calls.proofs.question.write_asked_path.Tie as tie
 
@@ -32,7 +33,7 @@ returns c =
           (ap
           (λ (l : List ℕ).
           pathText (pathOutcome (at-start .args .table .now) (at-start .args .vid) (at-start .args .from) (at-start .args .to) l))
-          (front-untouched _ (at-start .args .places) 80 (at-set-untouched .set-untouched .ensures) places-bound)),
+          (front-set untouchedPlace _ (at-start .args .places) 80 (at-set-untouched .set-untouched .ensures) places-bound)),
       write-path-bound,
     )
 

@@ -3,7 +3,9 @@ use borrow.Author.Needs.{needs}
 use lib.ListN.{length-take}
 use native.Mathlib.Omega.{arith}
 use Rattle.text.specs.laws.TextLaws.{written-as}
-use Rattle.probe_calls.specs.laws.UntouchedLaws.{front-untouched, same-tree-text}
+use Rattle.probe_input.specs.Lent.{untouchedPlace}
+use Rattle.probe_input.specs.laws.LentLaws.{front-set}
+use Rattle.probe_calls.specs.laws.SameTexts.{same-tree-text}
 use Rattle.probe_calls.proofs.question.write_asked_tree.Statement.{statement}
 use Rattle.probe_calls.proofs.question.write_asked_tree.Tie as tie
 
@@ -36,9 +38,9 @@ returns c =
     let (cost-places-bound, hop-places-bound, last-places-bound, _) = at-start .pre in (
       written-as written _
           (same-tree-text (at-start .args .table .now) (at-start .args .vid) (at-start .args .from)
-          (front-untouched _ _ 80 (at-set-untouched .set-untouched .ensures) cost-places-bound)
-          (front-untouched _ _ 80 (at-set-untouched2 .set-untouched2 .ensures) hop-places-bound)
-          (front-untouched _ _ 80 (at-set-untouched3 .set-untouched3 .ensures) last-places-bound)),
+          (front-set untouchedPlace _ _ 80 (at-set-untouched .set-untouched .ensures) cost-places-bound)
+          (front-set untouchedPlace _ _ 80 (at-set-untouched2 .set-untouched2 .ensures) hop-places-bound)
+          (front-set untouchedPlace _ _ 80 (at-set-untouched3 .set-untouched3 .ensures) last-places-bound)),
       write-tree-bound,
     )
 

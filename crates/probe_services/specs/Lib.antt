@@ -1,0 +1,2 @@
+-- The outcomes of the calls of services as lines.
+pub mod ServiceText
