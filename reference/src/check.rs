@@ -183,7 +183,7 @@ impl Reader<'_> {
             Record::Vid(vid) => !self.is_vid(vid.vid) || !self.is_index(vid.index),
             Record::Member(member) => {
                 let unknown_instead = self.rules.has(Misreading::MemberVidUnknown);
-                !self.is_service(member.service) || (!self.is_vid(member.vid) && !unknown_instead)
+                !is_i_sid(self.rules, member.service) || (!self.is_vid(member.vid) && !unknown_instead)
             }
             Record::End { count } => *count as usize != self.end_count(),
         }
@@ -214,11 +214,6 @@ impl Reader<'_> {
     fn is_index(&self, index: u16) -> bool {
         let least = if self.rules.has(Misreading::IndexZeroAccepted) { 0 } else { 1 };
         (least..=16).contains(&index)
-    }
-
-    fn is_service(&self, service: u32) -> bool {
-        let least = if self.rules.has(Misreading::ServiceFrom255) { 255 } else { 256 };
-        (least..=16_777_214).contains(&service)
     }
 
     fn end_count(&self) -> usize {
@@ -304,4 +299,10 @@ pub fn is_vid(vid: u16) -> bool {
 /// Port 1 to 4,095.
 pub fn is_port(port: u16) -> bool {
     (1..=4_095).contains(&port)
+}
+
+/// I-SID 256 to 16,777,214.
+pub fn is_i_sid(rules: Rules, i_sid: u32) -> bool {
+    let least = if rules.has(Misreading::ServiceFrom255) { 255 } else { 256 };
+    (least..=16_777_214).contains(&i_sid)
 }

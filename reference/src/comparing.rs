@@ -34,6 +34,16 @@ impl Run {
 
     /// Compares every table; ends at the first difference.
     pub fn compare(&self, name: &str, test: &mut dyn FnMut(&Case) -> Result<(), Difference>) -> ExitCode {
+        self.compare_cases(name, case, test)
+    }
+
+    /// As `compare`, with tables made by their seed and number in another way.
+    pub fn compare_cases(
+        &self,
+        name: &str,
+        case: fn(u64, u64) -> Case,
+        test: &mut dyn FnMut(&Case) -> Result<(), Difference>,
+    ) -> ExitCode {
         println!("{name}: seed {}, {} tables from number {}", self.seed, self.count, self.first);
         for done in 0..self.count {
             let number = self.first + done;

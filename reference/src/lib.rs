@@ -1,16 +1,19 @@
-//! A separate implementation of document 01 with request A1 of document 02, written
-//! from their text and the readings in docs/DECISIONS.md.
+//! A separate implementation of document 01 with requests A1 and A2 of document 02,
+//! written from their text and the readings in docs/DECISIONS.md.
 //!
-//! The calls (`check`, `path`, `tree`, `entries`, `lookup`, `listing`), the frames
-//! that move by the words written (`frames`), generators of tables (`generate`),
-//! and the tests over all of them (`properties`).
+//! The calls (`check`, `path`, `tree`, `entries`, `lookup`, `listing`,
+//! `service_reading`, `service_writing`), the frames that move by the words written
+//! (`frames`), generators of tables (`generate`), and the tests over all of them
+//! (`properties`).
 
 pub mod arguments;
 pub mod call_lines;
+pub mod capture;
 pub mod check;
 pub mod check_line;
 pub mod checked;
 pub mod comparing;
+pub mod dissection;
 pub mod entries;
 pub mod frames;
 pub mod generate;
@@ -28,5 +31,10 @@ pub mod records;
 pub mod refusal;
 pub mod rules;
 pub mod search;
+pub mod service_lines;
+pub mod service_reading;
+pub mod service_writing;
+pub mod sub_tlv;
 pub mod tree;
+pub mod tshark;
 pub mod words;

@@ -10,12 +10,14 @@ pub struct Refusal {
 }
 
 impl Refusal {
-    /// Refusals 1 and 11 to 14 concern no record.
+    /// Refusals 1 and 11 to 16 concern no record.
     pub const LENGTH: Refusal = Refusal::plain(1);
     pub const UNKNOWN_NAME: Refusal = Refusal::plain(11);
     pub const NO_PATH: Refusal = Refusal::plain(12);
     pub const SHORT_LIST: Refusal = Refusal::plain(13);
     pub const BAD_ENTRIES: Refusal = Refusal::plain(14);
+    pub const NO_SUB_TLV: Refusal = Refusal::plain(15);
+    pub const UNKNOWN_IN_SUB_TLV: Refusal = Refusal::plain(16);
 
     pub const fn plain(number: u32) -> Refusal {
         Refusal { number, kind: None, word: 0 }

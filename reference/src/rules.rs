@@ -1,6 +1,6 @@
-//! The rules that the calls follow: those of document 01 with request A1 of document
-//! 02, or the same with one deliberate misreading, by which the tests are shown to
-//! notice it.
+//! The rules that the calls follow: those of document 01 with requests A1 and A2 of
+//! document 02, or the same with one deliberate misreading, by which the tests are
+//! shown to notice it.
 
 /// The comparers that are tried with misreadings.
 #[derive(Clone, Copy, PartialEq, Eq, Debug)]
@@ -8,10 +8,11 @@ pub enum Comparer {
     Listing,
     Check,
     Calls,
+    Services,
 }
 
 impl Comparer {
-    pub const ALL: [Comparer; 3] = [Comparer::Listing, Comparer::Check, Comparer::Calls];
+    pub const ALL: [Comparer; 4] = [Comparer::Listing, Comparer::Check, Comparer::Calls, Comparer::Services];
 
     /// The name of its program.
     pub fn name(self) -> &'static str {
@@ -19,6 +20,7 @@ impl Comparer {
             Comparer::Listing => "compare-listing",
             Comparer::Check => "compare-check",
             Comparer::Calls => "compare-calls",
+            Comparer::Services => "compare-services",
         }
     }
 }
@@ -76,18 +78,18 @@ misreadings! {
     "12 where the lowest list of all has an overloaded bridge between" TwelveAtOverloaded: [Listing, Calls],
     "an overloaded bridge sends no group frames" OverloadedSendsNone: [Listing, Calls],
     "an overloaded bridge passes group frames on" OverloadedPassesGroups: [Listing, Calls],
-    "overload is bit 26" OverloadAtBit26: [Listing, Check, Calls],
-    "bit 26 of a bridge is no zero bit" Bit26Accepted: [Listing, Check, Calls],
-    "bit 27 of a bridge is a zero bit" OverloadRefused: [Listing, Check, Calls],
+    "overload is bit 26" OverloadAtBit26: [Listing, Check, Calls, Services],
+    "bit 26 of a bridge is no zero bit" Bit26Accepted: [Listing, Check, Calls, Services],
+    "bit 27 of a bridge is a zero bit" OverloadRefused: [Listing, Check, Calls, Services],
     "usable links of an overloaded bridge are not counted" OverloadedLinksUncounted: [Listing, Check],
-    "SPsourceIDs repeat with equal overload only" RepeatWithOverload: [Listing, Check, Calls],
+    "SPsourceIDs repeat with equal overload only" RepeatWithOverload: [Listing, Check, Calls, Services],
     // Calls.
     "12 is given before searching beyond one hop" TwelveBeforeSearching: [Listing, Calls],
-    "13 though the answer just fits" ThirteenThoughItFits: [Calls],
-    "13 after the part that fits is written" WrittenBeforeThirteen: [Calls],
-    "words past those written are cleared" RestCleared: [Calls],
+    "13 though the answer just fits" ThirteenThoughItFits: [Calls, Services],
+    "13 after the part that fits is written" WrittenBeforeThirteen: [Calls, Services],
+    "words past those written are cleared" RestCleared: [Calls, Services],
     "a path to the same bridge needs no known VID" SameBridgeUnchecked: [Calls],
-    "wide numbers are cut to 16 bits" WideNumbersCut: [Calls],
+    "wide numbers are cut to 16 bits" WideNumbersCut: [Calls, Services],
     "12 is given for an unknown name" TwelveForUnknown: [Calls],
     "the first hop's cost is given as the path's" InventedCost: [Calls],
     "exported path cost gives 13" ExportedThirteen: [],
@@ -108,6 +110,52 @@ misreadings! {
     "hexadecimal 3 comes before the top bits of SPsourceID" GroupNibblesExchanged: [Listing, Calls],
     "the I-SID's low octet comes first" ServiceReversed: [Listing, Calls],
     "kinds 8 and 9 are exchanged" EntryKindsExchanged: [Calls],
+    // Reading sub-TLVs, request A2 of document 02. That 8 comes before 6 in one service
+    // does not show: the earlier service of the same I-SID is faulty by 6 already.
+    "T and R of a service are read exchanged" ReadFlagsExchanged: [Services],
+    "reserved bits before the Base VID are refused" VidReservedRefused: [Services],
+    "reserved bits of a service are refused" ServiceReservedRefused: [Services],
+    "the Base VID takes in its reserved bits" VidWithReservedBits: [Services],
+    "the B-MAC is compared with all 64 bits of the identifier" BMacWithPriority: [Services],
+    "11 for a B-MAC or VID that the table lacks" ElevenForUnknownBMac: [Services],
+    "any type is read" AnyTypeRead: [Services],
+    "the length read counts its own byte and the type" ReadLengthOfWhole: [Services],
+    "bytes after a service that is not whole are ignored" PartOfServiceIgnored: [Services],
+    "bytes after those that the length counts are ignored" BytesAfterSubTlvIgnored: [Services],
+    "62 services are read" SixtyTwoRead: [Services],
+    "60 services at most are read" SixtyAtMostRead: [Services],
+    "16 comes before 15" SixteenBeforeFifteen: [Services],
+    "6 and 8 of a service come before 16" ServicesBeforeSixteen: [Services],
+    "13 comes before 6 and 8 of a service" ThirteenBeforeServices: [Services],
+    "13 comes before 16" ThirteenBeforeSixteen: [Services],
+    "services are counted from 1" ServicesFromOne: [Services],
+    "the word is the number of the service's first byte" ByteOfService: [Services],
+    "the word is that of the service's member record" WordOfService: [Services],
+    "6 and 8 of a service carry kind none" FaultWithoutKind: [Services],
+    "8 carries the earlier of two equal services" EarlierOfRepeat: [Services],
+    "of the faulty services the last counts" LastFaultyService: [Services],
+    "6 of any service comes before 8" RangeBeforeRepeats: [Services],
+    "the table's own members count as repeats" TableMembersRepeat: [Services],
+    "services repeat with equal T and R only" RepeatsWithEqualFlags: [Services],
+    "services repeat next to each other only" RepeatsOfNeighbour: [Services],
+    "of repeated services T and R are joined, as the standard has it" RepeatsMerged: [Services],
+    "I-SID 0 is ignored, as the standard has it" ZeroServiceIgnored: [Services],
+    "I-SID 16,777,215 of a service is in range" LastServiceInRange: [Services],
+    // Writing sub-TLVs.
+    "T and R of a service are written exchanged" WrittenFlagsExchanged: [Services],
+    "reserved bits before the Base VID are written as ones" VidReservedWritten: [Services],
+    "reserved bits of a service are written as ones" ServiceReservedWritten: [Services],
+    "the B-MAC begins with the priority" PriorityInBMac: [Services],
+    "the length written counts its own byte and the type" WrittenLengthOfWhole: [Services],
+    "61 services are written into one sub-TLV" SixtyOneWritten: [Services],
+    "the first sub-TLV is the short one" FirstSubTlvShort: [Services],
+    "an empty sub-TLV follows one of 60 services" EmptyAfterFull: [Services],
+    "a bridge without members gives an empty sub-TLV" EmptyWithoutMembers: [Services],
+    "a bridge without members is 11" ElevenWithoutMembers: [Services],
+    "members of all VIDs are written" AllVidsWritten: [Services],
+    "members of all bridges are written" AllBridgesWritten: [Services],
+    "members with neither T nor R are left out" IdleMembersLeftOut: [Services],
+    "services are written in rising order" ServicesRising: [Services],
     // Lookup.
     "lookup answers none after n = 0" LookupFirstOnly: [],
     "lookup does not compare the VID" LookupIgnoresVid: [],
@@ -117,31 +165,31 @@ misreadings! {
     "lookup refuses address zero" LookupZeroRefused: [],
     // The check. The listing's comparer is given fewer tables than the others: I-SID
     // 255 is too rare in them.
-    "all tables are refused" AllRefused: [Listing, Check, Calls],
-    "the limit is tested before the zero bits" LimitBeforeZeroBits: [Listing, Check, Calls],
-    "ranges are tested before the limit" RangeBeforeLimit: [Listing, Check, Calls],
-    "of a record's faults the highest counts" HighestFault: [Listing, Check, Calls],
-    "one record over the limit is accepted" OneOverLimit: [Listing, Check, Calls],
-    "a kind may fall" KindMayFall: [Listing, Check, Calls],
-    "2 carries the record before" TwoAtRecordBefore: [Listing, Check, Calls],
-    "a record that is cut off counts as a missing end" CutOffAsMissingEnd: [Listing, Check, Calls],
-    "a missing end carries the last record" MissingEndAtLastRecord: [Listing, Check, Calls],
-    "refusals count bytes instead of words" BytesInsteadOfWords: [Listing, Check, Calls],
-    "the end count includes the end record" EndCountsItself: [Listing, Check, Calls],
-    "words after the end are accepted" WordsAfterEnd: [Listing, Check, Calls],
-    "metric 16,777,215 is out of range" UnusableOutOfRange: [Listing, Check, Calls],
-    "I-SID 255 is in range" ServiceFrom255: [Check, Calls],
-    "VID 4,095 is in range" VidTo4095: [Listing, Check, Calls],
-    "port 4,096 is in range" PortTo4096: [Listing, Check, Calls],
-    "ECT index 0 is in range" IndexZeroAccepted: [Listing, Check, Calls],
-    "a group address is accepted" GroupAddressAccepted: [Listing, Check, Calls],
-    "a member's VID out of range is 7" MemberVidUnknown: [Listing, Check, Calls],
-    "a half-link may join a bridge to itself" LoopAccepted: [Listing, Check, Calls],
-    "addresses repeat with equal priority only" RepeatWithPriority: [Listing, Check, Calls],
-    "ports repeat across bridges" PortRepeatsAnywhere: [Listing, Check, Calls],
-    "members repeat without regard to the VID" MemberRepeatsWithoutVid: [Listing, Check, Calls],
-    "any second half-link is a mirror" AnyMirror: [Listing, Check, Calls],
-    "a third half-link is accepted" ThirdAccepted: [Listing, Check, Calls],
+    "all tables are refused" AllRefused: [Listing, Check, Calls, Services],
+    "the limit is tested before the zero bits" LimitBeforeZeroBits: [Listing, Check, Calls, Services],
+    "ranges are tested before the limit" RangeBeforeLimit: [Listing, Check, Calls, Services],
+    "of a record's faults the highest counts" HighestFault: [Listing, Check, Calls, Services],
+    "one record over the limit is accepted" OneOverLimit: [Listing, Check, Calls, Services],
+    "a kind may fall" KindMayFall: [Listing, Check, Calls, Services],
+    "2 carries the record before" TwoAtRecordBefore: [Listing, Check, Calls, Services],
+    "a record that is cut off counts as a missing end" CutOffAsMissingEnd: [Listing, Check, Calls, Services],
+    "a missing end carries the last record" MissingEndAtLastRecord: [Listing, Check, Calls, Services],
+    "refusals count bytes instead of words" BytesInsteadOfWords: [Listing, Check, Calls, Services],
+    "the end count includes the end record" EndCountsItself: [Listing, Check, Calls, Services],
+    "words after the end are accepted" WordsAfterEnd: [Listing, Check, Calls, Services],
+    "metric 16,777,215 is out of range" UnusableOutOfRange: [Listing, Check, Calls, Services],
+    "I-SID 255 is in range" ServiceFrom255: [Check, Calls, Services],
+    "VID 4,095 is in range" VidTo4095: [Listing, Check, Calls, Services],
+    "port 4,096 is in range" PortTo4096: [Listing, Check, Calls, Services],
+    "ECT index 0 is in range" IndexZeroAccepted: [Listing, Check, Calls, Services],
+    "a group address is accepted" GroupAddressAccepted: [Listing, Check, Calls, Services],
+    "a member's VID out of range is 7" MemberVidUnknown: [Listing, Check, Calls, Services],
+    "a half-link may join a bridge to itself" LoopAccepted: [Listing, Check, Calls, Services],
+    "addresses repeat with equal priority only" RepeatWithPriority: [Listing, Check, Calls, Services],
+    "ports repeat across bridges" PortRepeatsAnywhere: [Listing, Check, Calls, Services],
+    "members repeat without regard to the VID" MemberRepeatsWithoutVid: [Listing, Check, Calls, Services],
+    "any second half-link is a mirror" AnyMirror: [Listing, Check, Calls, Services],
+    "a third half-link is accepted" ThirdAccepted: [Listing, Check, Calls, Services],
     "joined pairs are counted in place of usable links" JoinedPairsCounted: [Listing, Check],
     "half-links of unusable links are not counted" UsableHalfLinksCounted: [Listing, Check],
     // The listing.
@@ -156,7 +204,7 @@ misreadings! {
 pub struct Rules(Option<Misreading>);
 
 impl Rules {
-    /// Document 01 with request A1 of document 02, to the word.
+    /// Document 01 with requests A1 and A2 of document 02, to the word.
     pub const AS_WRITTEN: Rules = Rules(None);
 
     pub fn with(misreading: Misreading) -> Rules {

@@ -64,6 +64,19 @@ tests! {
     tree_lists_of_every_length
     unknown_names_refused
     faulty_tables_refused_by_every_call
+    worked_sub_tlvs_read
+    ends_of_services_read
+    forms_refused
+    unknown_b_macs_and_vids_refused
+    faulty_services_refused
+    order_of_refusals_read
+    read_lists_of_every_length
+    faulty_tables_refused_by_service_calls
+    worked_sub_tlvs_written
+    sixty_services_in_a_sub_tlv
+    written_services_come_back
+    written_lists_of_every_length
+    unknown_names_not_written
     matches_counted
     faulty_lists_refused
     written_lists_looked_up

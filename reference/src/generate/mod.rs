@@ -1,9 +1,13 @@
-//! A seeded generator of tables, valid and damaged, and of questions to them.
+//! A seeded generator of tables and sub-TLVs, valid and damaged, and of questions to
+//! them.
 
 pub mod damage;
 pub mod edits;
 pub mod every;
 pub mod questions;
+pub mod service_plans;
+pub mod service_questions;
 pub mod shapes;
 pub mod stream;
+pub mod sub_tlvs;
 pub mod valid;

@@ -73,7 +73,7 @@ fn with_overload(mut plan: Plan, random: &Random) -> Plan {
 }
 
 /// Numbers from `least` to `greatest`, all different, the ends among the likely ones.
-fn different(count: usize, least: u64, greatest: u64, random: &mut Random) -> Vec<u64> {
+pub(super) fn different(count: usize, least: u64, greatest: u64, random: &mut Random) -> Vec<u64> {
     let mut taken = BTreeSet::new();
     let mut numbers = Vec::new();
     let close = random.one_in(2);

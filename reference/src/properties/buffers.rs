@@ -1,5 +1,7 @@
 //! Lent lists of every length, unknown names, and tables that every call refuses.
 
+use std::fmt::Debug;
+
 use super::agreement::{every_pair, for_small_plans};
 use super::{ensure, equal, with_table, Outcome, Setting};
 use crate::checked::Checked;
@@ -14,17 +16,18 @@ use crate::search::chosen_path;
 use crate::tree::{tree, TreeLists};
 
 /// What lent lists hold before a call.
-const OLD: u32 = 0xDEAD_BEEF;
+pub(super) const OLD: u32 = 0xDEAD_BEEF;
 
 /// Lends lists of every length from none to one more than needed: the answer
 /// where it fits and nothing else changed, else 13 and nothing changed at all.
-fn for_every_length<T: PartialEq + std::fmt::Debug + Clone>(
-    answer: &[u32],
+pub(super) fn for_every_length<W: PartialEq + Debug + Copy, T: PartialEq + Debug + Clone>(
+    old: W,
+    answer: &[W],
     value: &T,
-    call: &dyn Fn(&mut [u32]) -> Result<T, Refusal>,
+    call: &dyn Fn(&mut [W]) -> Result<T, Refusal>,
 ) -> Outcome {
     for length in 0..=answer.len() + 1 {
-        let mut lent = vec![OLD; length];
+        let mut lent = vec![old; length];
         let mut expected = lent.clone();
         let result = if length < answer.len() {
             Err(Refusal::SHORT_LIST)
@@ -55,7 +58,7 @@ pub fn path_lists_of_every_length(setting: &Setting) -> Outcome {
                 continue;
             };
             let bridges: Vec<u32> = chosen.bridges.iter().map(|&bridge| bridge as u32).collect();
-            for_every_length(&bridges, &PathAnswer { cost: chosen.cost, hops: chosen.hops() }, &call)?;
+            for_every_length(OLD, &bridges, &PathAnswer { cost: chosen.cost, hops: chosen.hops() }, &call)?;
         }
         Ok(())
     })
@@ -68,7 +71,7 @@ pub fn entry_lists_of_every_length(setting: &Setting) -> Outcome {
         for bridge in 0..plan.bridges.len() {
             let words = entry_words(&checked, bridge);
             let call = |lent: &mut [u32]| entries(setting.rules, table, bridge as u32, lent);
-            for_every_length(&words, &words.len(), &call)?;
+            for_every_length(OLD, &words, &words.len(), &call)?;
         }
         Ok(())
     })

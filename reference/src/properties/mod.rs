@@ -9,6 +9,8 @@ pub mod fixture;
 pub mod listings;
 pub mod lookups;
 pub mod overload;
+pub mod services_read;
+pub mod services_written;
 pub mod standard;
 pub mod tables;
 
@@ -27,6 +29,8 @@ pub type Outcome = Result<(), String>;
 
 #[derive(Clone, Copy)]
 pub struct Property {
+    /// The module that it stands in.
+    pub module: &'static str,
     pub name: &'static str,
     pub run: fn(&Setting) -> Outcome,
 }
@@ -34,7 +38,9 @@ pub struct Property {
 /// Declares the list of properties by the functions' own names.
 macro_rules! properties {
     ($($module:ident: $($name:ident),+;)+) => {
-        pub const ALL: &[Property] = &[$($(Property { name: stringify!($name), run: $module::$name },)+)+];
+        pub const ALL: &[Property] = &[$($(
+            Property { module: stringify!($module), name: stringify!($name), run: $module::$name },
+        )+)+];
     };
 }
 
@@ -52,6 +58,11 @@ properties! {
         trees_agree;
     buffers: path_lists_of_every_length, entry_lists_of_every_length, tree_lists_of_every_length,
         unknown_names_refused, faulty_tables_refused_by_every_call;
+    services_read: worked_sub_tlvs_read, ends_of_services_read, forms_refused, unknown_b_macs_and_vids_refused,
+        faulty_services_refused, order_of_refusals_read, read_lists_of_every_length,
+        faulty_tables_refused_by_service_calls;
+    services_written: worked_sub_tlvs_written, sixty_services_in_a_sub_tlv, written_services_come_back,
+        written_lists_of_every_length, unknown_names_not_written;
     lookups: matches_counted, faulty_lists_refused, written_lists_looked_up;
     listings: worked_listing, listing_without_paths, listing_says_what_the_calls_say;
     demand3: demand_3_on_small_plans, demand_3_on_middle_plans, demand_3_on_largest_plans;
