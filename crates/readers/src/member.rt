@@ -8,6 +8,11 @@ ghost use Rattle.rule.specs.Words.{wordsOf};
 ghost use Rattle.rule.specs.Records.{memberLayout, memberOf};
 ghost use Rattle.readers.specs.Readers.{memberValues, memberRead, readOf};
 
+// "I-SID 256 to 16,777,214 (a house limit)".
+pub const LEAST_ISID: u64 = 256;
+
+pub const GREATEST_ISID: u64 = 16777214;
+
 pub struct Member {
     pub transmits: bool,
     pub receives: bool,
@@ -59,7 +64,7 @@ pub fn read_member(part: &[u8]) -> MemberRead
         return MemberRead::ZeroBit;
     }
     let m = member_of(part);
-    if !within(m.isid as u64, 256, 16777214) {
+    if !within(m.isid as u64, LEAST_ISID, GREATEST_ISID) {
         return MemberRead::OutOfRange;
     }
     if !within(m.vid as u64, 1, 4094) {

@@ -2,6 +2,8 @@
 use crate::layout::SERVICE;
 use crate::sub_tlv::isid_of;
 use numbers::number::within;
+use readers::member::GREATEST_ISID;
+use readers::member::LEAST_ISID;
 use readers::words::word_at;
 use rule::answer::ReadServicesAnswer;
 use rule::answer::RecordKind;
@@ -39,7 +41,7 @@ fn service_fault(services: &[u8], n: usize) -> u32
     ensures { λ r. ⌜ numbered r ≡ lowestFault (serviceFaults (take n (wordsOf (now (services .entry)))) (word (wordsOf (now (services .entry))) n)) ⌝ }
 {
     let isid = isid_of(word_at(services, n));
-    if !within(isid as u64, 256, 16777214) {
+    if !within(isid as u64, LEAST_ISID, GREATEST_ISID) {
         return 6;
     }
     if is_repeated(services, n, isid) {

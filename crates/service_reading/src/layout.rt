@@ -1,5 +1,6 @@
 // The layout of a sub-TLV (RFC 6329, as 02, A2 has it) and of the member record of a service (01, "The table", kind 4): bytes, words, and
 // the value of each field's lowest bit in its word.
+use rule::kinds::MEMBER;
 
 // "type 3".
 pub const TYPE: u8 = 3;
@@ -32,7 +33,7 @@ pub const RECORD_T: u32 = 0x2000000;
 
 pub const RECORD_R: u32 = 0x1000000;
 
-pub const RECORD_KIND: u32 = 0x40000000;
+pub const RECORD_KIND: u32 = MEMBER * 0x10000000;
 
 // How many values an address of 48 bits has.
 pub const ADDRESSES: u64 = 0x1000000000000;

@@ -1,20 +1,24 @@
 //! Writes a module of the proof checker's language that holds the definitions of
-//! document 01 in `crates/rule` to the reference: for seeded tables and the diamond
-//! with overloaded bridges, what each call gives, as equations that the checker
-//! computes. The script `compare-definitions` has it checked.
+//! documents 01 and 02 in `crates/rule` to the reference: for seeded tables, the diamond
+//! with overloaded bridges and a bridge with 61 services, what each call gives, as
+//! equations that the checker computes. The script `compare-definitions` has it checked.
 
 use reference::arguments::{Arguments, Usage};
 use reference::check::check;
 use reference::entries::entries;
 use reference::generate::damage::damaged;
+use reference::generate::sub_tlvs::{damaged_sub_tlv, valid_sub_tlv};
 use reference::generate::valid::{plan, Size};
 use reference::lookup::lookup;
 use reference::path::{exported_path_cost, path};
 use reference::properties::fixture::{diamond, overloaded};
 use reference::random::Random;
-use reference::records::{Member, Plan};
+use reference::records::{Kind, Member, Plan};
 use reference::refusal::Refusal;
 use reference::rules::Rules;
+use reference::service_reading::read_services;
+use reference::service_writing::{write_services, LONGEST_SUB_TLV, LONGEST_WRITING};
+use reference::sub_tlv::{HEADING, SERVICE};
 use reference::tree::{tree, TreeLists};
 
 const USAGE: Usage = Usage {
@@ -26,18 +30,23 @@ const USAGE: Usage = Usage {
 /// Longer tables take the checker too long.
 const LONGEST: usize = 1_200;
 
+/// Seeded sub-TLVs of more bytes are left out: the checker compares each service with all
+/// before it.
+const MOST_SUB_TLV_BYTES: usize = 60;
+
 /// Which bridges of the diamond are overloaded.
 const OVERLOADED: [&[usize]; 3] = [&[1], &[1, 2], &[0, 3]];
 
 /// What the lent lists hold before a call.
 const OLD: u32 = 7;
+const OLD_BYTE: u8 = 7;
 
 const HEADER: &str = "-- Made by reference/compare-definitions. Assumes nothing.
 use Prim.Native.Nat.{ℕ}
 use mathlib.Core.Path.{_≡_, refl}
 use mathlib.Core.List.{List, [], _∷_, flatMap}
 use mathlib.Core.Option.{none, some}
-use Rattle.lists.specs.Lists.{rising, selected, anyPasses, lowestBy}
+use Rattle.lists.specs.Lists.{rising, selected, anyPasses, firstPassing, lowestBy}
 use Rattle.graph.specs.Order.{insertUpward, sorted, isLower}
 use Rattle.graph.specs.Graph.{costOnward}
 use Rattle.graph.specs.Chosen.{neighbours, onward, paths, chosen}
@@ -52,13 +61,15 @@ use Rattle.rule.specs.Entries.{entryListOf, entriesOf, individualEntries, group
 use Rattle.rule.specs.Calls.{checkOutcome, pathAnswer, pathOutcome, entriesAnswer, entriesOutcome, treeOutcome, treeOf, lastButOne}
 use Rattle.rule.specs.Lookup.{lookupOutcome, matchingPorts, faultyList, entriesIn}
 use Rattle.rule.specs.Exported.{exportedPathCost}
+use Rattle.rule.specs.Services.{subTlvWords, afterServices, readServicesAnswer, readServicesOutcome, subTlvs, writeServicesAnswer, writeServicesOutcome}
 ";
 
 /// What the checker opens to compute an outcome.
 const UNFOLDING: &str = "unfolding wordsOf layoutOf lowestFault readOn verdict linksOf usableLinks countUsable linksBetween hopLink
   maskedBytes maskedIdentifier chosenPath entryListOf entriesOf individualEntries groupEntries listedPorts receiverPorts leavingPort
   checkOutcome pathAnswer pathOutcome entriesAnswer entriesOutcome treeOutcome treeOf lastButOne lookupOutcome matchingPorts
-  faultyList entriesIn exportedPathCost rising selected anyPasses lowestBy insertUpward sorted isLower costOnward neighbours onward paths chosen flatMap";
+  faultyList entriesIn exportedPathCost subTlvWords afterServices readServicesAnswer readServicesOutcome subTlvs writeServicesAnswer
+  writeServicesOutcome rising selected anyPasses firstPassing lowestBy insertUpward sorted isLower costOnward neighbours onward paths chosen flatMap";
 
 fn main() {
     let arguments = Arguments::of_process(&USAGE);
@@ -69,6 +80,7 @@ fn main() {
     for (number, bridges) in OVERLOADED.iter().enumerate() {
         Vectors::new(format!("diamond{number}"), Random::new(seed)).of_diamond(bridges);
     }
+    Vectors::new("members".to_string(), Random::new(seed)).of_members();
     for number in first..first + arguments.number("count", 50) {
         let mut vectors = Vectors::new(format!("table{number}"), Random::for_case(seed, number));
         if number % 2 == 0 {
@@ -109,6 +121,26 @@ impl Vectors {
         self.entries(&table, 0);
     }
 
+    /// 61 members of one bridge and VID, more than one sub-TLV holds: written, and each
+    /// sub-TLV read.
+    fn of_members(&mut self) {
+        let mut plan = diamond([0x8000; 4]);
+        plan.vids.truncate(1);
+        let member = |place: u16| Member {
+            transmits: place.is_multiple_of(2),
+            receives: place.is_multiple_of(3),
+            service: 500 - u32::from(place),
+            bridge: 2,
+            vid: 1,
+        };
+        plan.members = (0..61).map(member).collect();
+        let table = plan.bytes();
+        self.table(&table);
+        for sub_tlv in self.writing(&table, 2, 1).chunks(LONGEST_SUB_TLV) {
+            self.reading(&table, sub_tlv, words_of(sub_tlv));
+        }
+    }
+
     fn of_damaged(&mut self) {
         let table = damaged(&mut self.random).table;
         if table.len() <= LONGEST {
@@ -137,12 +169,52 @@ impl Vectors {
         for bridge in 0..=bridges {
             self.entries(&table, bridge);
         }
+        self.services(plan, &table);
+    }
+
+    /// For each VID a bridge written, which the table lacks at times, and sub-TLVs read.
+    fn services(&mut self, plan: &Plan, table: &[u8]) {
+        for record in &plan.vids {
+            let bridge = self.random.between(0, plan.bridges.len() as u64) as u32;
+            self.writing(table, bridge, record.vid.into());
+            if plan.bridges.is_empty() {
+                continue;
+            }
+            let valid = valid_sub_tlv(plan, &mut self.random).bytes();
+            let damaged = damaged_sub_tlv(plan, &mut self.random);
+            for sub_tlv in [valid, damaged].iter().filter(|bytes| bytes.len() <= MOST_SUB_TLV_BYTES) {
+                let places = (words_of(sub_tlv) + 2).saturating_sub(self.random.below(4));
+                self.reading(table, sub_tlv, places);
+            }
+        }
+    }
+
+    fn reading(&mut self, table: &[u8], sub_tlv: &[u8], places: usize) {
+        let mut lent = vec![OLD; places];
+        let before = list(&lent);
+        let given = read_services(Rules::AS_WRITTEN, table, sub_tlv, &mut lent);
+        let call = format!("readServicesOutcome {} ({}) ({before})", self.name, byte_list(sub_tlv));
+        let values = outcome(given.map(|words| words.to_string()));
+        self.equation(&call, &format!("({values}, {})", list(&lent)));
+    }
+
+    /// Gives what is written where the list is long enough.
+    fn writing(&mut self, table: &[u8], bridge: u32, vid: u32) -> Vec<u8> {
+        let mut whole = vec![OLD_BYTE; LONGEST_WRITING];
+        let needed = write_services(Rules::AS_WRITTEN, table, bridge, vid, &mut whole).unwrap_or(0);
+        whole.truncate(needed);
+        let mut lent = vec![OLD_BYTE; (needed + 2).saturating_sub(self.random.below(4))];
+        let before = byte_list(&lent);
+        let given = write_services(Rules::AS_WRITTEN, table, bridge, vid, &mut lent);
+        let call = format!("writeServicesOutcome {} {bridge} {vid} ({before})", self.name);
+        let values = outcome(given.map(|bytes| bytes.to_string()));
+        self.equation(&call, &format!("({values}, {})", byte_list(&lent)));
+        whole
     }
 
     /// Declares the table, and what check gives.
     fn table(&mut self, table: &[u8]) {
-        let bytes: Vec<u32> = table.iter().map(|&byte| byte.into()).collect();
-        println!("abbrev {0} : List ℕ\n{0} = {1}\n", self.name, list(&bytes));
+        println!("abbrev {0} : List ℕ\n{0} = {1}\n", self.name, byte_list(table));
         let counts = check(Rules::AS_WRITTEN, table).map(|counts| {
             format!(
                 "(record {{ bridges = {}; «half_links» = {}; «usable_links» = {}; vids = {}; members = {} }})",
@@ -230,4 +302,13 @@ fn outcome(given: Result<String, Refusal>) -> String {
 
 fn list(numbers: &[u32]) -> String {
     numbers.iter().map(|number| format!("{number} ∷ ")).chain(["[]".to_string()]).collect()
+}
+
+fn byte_list(bytes: &[u8]) -> String {
+    list(&bytes.iter().map(|&byte| byte.into()).collect::<Vec<u32>>())
+}
+
+/// How many words the member records of a sub-TLV have.
+fn words_of(sub_tlv: &[u8]) -> usize {
+    Kind::Member.words() * (sub_tlv.len().saturating_sub(HEADING) / SERVICE)
 }
