@@ -1,5 +1,5 @@
--- "Members written come back the same and in order" (02, A2), as a statement about what the two calls answer. ComesBackProved proves it for
--- every accepted table. Assumes nothing.
+-- "Members written come back the same and in order" (02, A2), with reserved bits zero and within what a TLV can carry, as a statement about
+-- what the two calls answer. ComesBackProved proves it for every accepted table. Assumes nothing.
 use Prim.Native.Nat.{ℕ, _+_, _*_, _≤_, _<_}
 use mathlib.Core.Path.{_≡_}
 use mathlib.Core.List.{List, [], flatMap}
@@ -8,11 +8,11 @@ use lib.Dec.{eqb}
 use lib.ListN.{length, getD, take, drop}
 use Rattle.lists.specs.Lists.{rising, selected}
 use Rattle.lists.specs.Members.{In}
-use Rattle.rule.specs.Words.{wordsOf}
+use Rattle.rule.specs.Words.{wordsOf, word, bits}
 use Rattle.rule.specs.Records.{Member, memberOf, address}
 use Rattle.rule.specs.Outcome.{Outcome, answered, refused, Written, listAnswer}
 use Rattle.rule.specs.Plan.{Plan, bridgeAt}
-use Rattle.rule.specs.Services.{memberRecord, readServicesAnswer, membersOf, subTlvCount, servicesWritten, subTlvAt, writeServicesAnswer}
+use Rattle.rule.specs.Services.{subTlvWords, servicesOf, memberRecord, readServicesAnswer, membersOf, subTlvCount, servicesWritten, subTlvAt, writeServicesAnswer}
 
 -- A list of bytes.
 abbrev pub Bytes : List ℕ → Type 0
@@ -41,6 +41,10 @@ abbrev pub wordsOfAnswer : Outcome (Written ℕ) → List ℕ
 wordsOfAnswer (answered w) = w .words
 wordsOfAnswer (refused number kind at) = []
 
+-- The words after a sub-TLV's length have no reserved bit set.
+abbrev pub ReservedZero : List ℕ → Type 0
+ReservedZero ws = (bits (word ws 1) 15 12 ≡ 0) × ((service : ℕ) → In service (servicesOf ws) → bits service 29 24 ≡ 0)
+
 -- What is written for a bridge and a VID, and what is read from it.
 pub record ComesBack (t : List ℕ) (p : Plan) (b vid : ℕ) : Type 0 where
   -- The writing call's bytes are those sub-TLVs one after the other.
@@ -50,6 +54,8 @@ pub record ComesBack (t : List ℕ) (p : Plan) (b vid : ℕ) : Type 0 where
   -- The words read from all of them, in order, are the table's own words of those member records.
   pub in-order : flatMap (λ i. wordsOfAnswer (readServicesAnswer t (writtenAt p b vid i))) (rising 0 (subTlvCount (servicesWritten p b vid)))
       ≡ flatMap (ownWords t p) (memberNumbers p b vid)
+  -- "Reserved bits are .. written as zero": the 4 above the Base VID, and the 6 of each service.
+  pub reserved-zero : (i : ℕ) → ReservedZero (subTlvWords (writtenAt p b vid i))
   -- "which is what the MT-Capability TLV around it can carry": with two bytes more it stays within the 255 of a TLV.
   pub short : (i : ℕ) → length (writtenAt p b vid i) ≤ 250
   pub all-short : length (flatMap (writtenAt p b vid) (rising 0 (subTlvCount (servicesWritten p b vid)))) ≤ 276

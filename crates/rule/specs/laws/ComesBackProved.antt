@@ -2,7 +2,7 @@
 -- Assumes nothing.
 use Prim.Native.Nat.{ℕ, zero, suc, _+_, _*_, _≤_, _<_}
 use native.Mathlib.Omega.{arith}
-use mathlib.Core.Path.{_≡_, refl, sym, ap, _∙_}
+use mathlib.Core.Path.{_≡_, refl, sym, ap, _∙_, subst}
 use mathlib.Core.List.{List, [], flatMap}
 use mathlib.Core.Bool.{Bool, true, not, _&&_}
 use lib.Dec.{T, eqb}
@@ -12,21 +12,23 @@ use borrow.Author.Tests.{lt-ltb}
 use Rattle.lists.specs.Lists.{rising, selected}
 use Rattle.lists.specs.Members.{In}
 use Rattle.lists.specs.laws.NumberLaws.{is-true, two-equal}
+use Rattle.lists.specs.laws.MemberLaws.{map-in}
 use Rattle.lists.specs.laws.SelectedLaws.{selected-in, rising-in}
 use Rattle.lists.specs.laws.DistinctLaws.{selected-parts}
 use Rattle.lists.specs.laws.GivenLaws.{every-two-selected, flatMap-same, flatMap-flatMap, flatMap-map, selected-map, by-places}
 use Rattle.lists.specs.laws.AppendingLaws.{each-more}
 use Rattle.lists.specs.laws.PartLaws.{part-in, every-two-part, part-map, parts-joined}
+use Rattle.rule.specs.Words.{bits}
 use Rattle.rule.specs.Records.{Member, memberOf, address}
 use Rattle.rule.specs.Outcome.{Outcome, answered, andThen, refusedIf, Written, listAnswer}
 use Rattle.rule.specs.Plan.{Plan, knownVid, bridgeAt}
 use Rattle.rule.specs.PlanLaws.{PlanLaws, MembersApart}
 use Rattle.rule.specs.Check.{verdict}
-use Rattle.rule.specs.Services.{memberRecord, planRead, readServicesAnswer, membersOf, serviceOf, subTlv, servicesPart, subTlvCount, servicesWritten, subTlvAt, subTlvs, planWrite, writeServicesAnswer}
-use Rattle.rule.specs.ComesBack.{Bytes, memberAt, ownWords, writtenAt, memberNumbers, wordsOfAnswer, ComesBack}
+use Rattle.rule.specs.Services.{subTlvWords, memberRecord, planRead, readServicesAnswer, membersOf, serviceOf, subTlv, servicesPart, subTlvCount, servicesWritten, subTlvAt, subTlvs, planWrite, writeServicesAnswer}
+use Rattle.rule.specs.ComesBack.{Bytes, memberAt, ownWords, writtenAt, memberNumbers, wordsOfAnswer, ReservedZero, ComesBack}
 use Rattle.rule.specs.laws.Accepted.{accepted-laws}
 use Rattle.rule.specs.laws.MemberWords.{own-words}
-use Rattle.rule.specs.laws.ServiceLaws.{length-sub-tlv, members-back}
+use Rattle.rule.specs.laws.ServiceLaws.{length-sub-tlv, sub-tlv-words, vid-reserved, service-reserved, vid-fits, members-back}
 
 -- The bytes of the first `n` sub-TLVs.
 pub length-of-all : (bMac vid : ℕ) (services : List ℕ) (n : ℕ)
@@ -83,6 +85,20 @@ module _ (t : List ℕ) (p : Plan) (bytes : Bytes t) (accepted : verdict t ≡ a
       ∙ members-back p L b vid known-bridge known-vid (take 60 (drop (60 * i) ms)) (part-fits i)
       (every-two-part MembersApart 60 (60 * i) ms (every-two-selected MembersApart isMember (p .members) (L .members .apart)))
 
+  reserved-clear : (i : ℕ) → ReservedZero (subTlvWords (writtenAt p b vid i))
+  reserved-clear i =
+      subst ReservedZero (sym (sub-tlv-words (address (bridgeAt p b)) vid services))
+      (vid-reserved (address (bridgeAt p b)) vid services (omega (arith, vid-fits p L b vid known-vid)), each-clear)
+    where
+      services : List ℕ
+      services = servicesPart (servicesWritten p b vid) i
+
+      each-clear : (service : ℕ) → In service services → bits service 29 24 ≡ 0
+      each-clear service k =
+          let (m, in-ms, e) = map-in serviceOf service ms (part-in 60 (60 * i) service (servicesWritten p b vid) k)
+          in let in-plan = selected-in isMember m (p .members) in-ms .0
+          in rw e (service-reserved m (omega (arith, L .members .fits m in-plan .isid)))
+
   abbrev count : ℕ
   count = subTlvCount (servicesWritten p b vid)
 
@@ -121,6 +137,7 @@ module _ (t : List ℕ) (p : Plan) (bytes : Bytes t) (accepted : verdict t ≡ a
     written = all-written;
     each = each-back;
     in-order = all-read ∙ all-own;
+    reserved-zero = reserved-clear;
     short = λ i.
         omega (
           arith,

@@ -17,7 +17,7 @@ use Rattle.lists.specs.laws.SelectedLaws.{any-in}
 use Rattle.lists.specs.laws.DistinctLaws.{every-two-at}
 use Rattle.lists.specs.laws.GivenLaws.{flatMap-map, flatMap-same}
 use Rattle.lists.specs.laws.FirstPassing.{first-is}
-use Rattle.rule.specs.Words.{wordsOf, bytesOf, bits}
+use Rattle.rule.specs.Words.{wordsOf, bytesOf, word, bits}
 use Rattle.rule.specs.Records.{Member, address}
 use Rattle.rule.specs.Outcome.{Outcome, refusedIf, listAnswer}
 use Rattle.rule.specs.Plan.{Plan, knownBridge, knownVid, bridgeAt, hasVid, noBridge}
@@ -57,6 +57,9 @@ module _ (bMac vid : ℕ) (services : List ℕ) where
   pub base-vid-back : vid < 4096 → baseVidOf (contentOf bMac vid services) ≡ vid
   base-vid-back h = omega arith
 
+  pub vid-reserved : vid < 4096 → bits (word (contentOf bMac vid services) 1) 15 12 ≡ 0
+  vid-reserved h = omega arith
+
   pub is-sub-tlv : noSubTlv (subTlv bMac vid services) ≡ false
   is-sub-tlv = go (ltb (length (subTlv bMac vid services)) 10) (eqb (8 + 4 * length services) (length (subTlv bMac vid services) - 2))
       (leb 8 (8 + 4 * length services)) (eqb ((8 + 4 * length services - 8) % 4) 0)
@@ -78,6 +81,9 @@ module _ (i : ℕ) (h : i < 2 ^ 24) where
   flags-back : (t r : ℕ) → t < 2 → r < 2 → (bits (flagged t r) 31 31 ≡ t) × (bits (flagged t r) 30 30 ≡ r) × (isidOf (flagged t r) ≡ i)
   flags-back t r k l = (omega arith, omega arith, omega arith)
 
+  flags-reserved : (t r : ℕ) → t < 2 → r < 2 → bits (flagged t r) 29 24 ≡ 0
+  flags-reserved t r k l = omega arith
+
   small : (b : Bool) → bit b < 2
   small true = omega arith
   small false = omega arith
@@ -98,6 +104,10 @@ pub service-back : (m : Member) → m .isid < 2 ^ 24 → memberOfService (m .bri
 service-back m h =
     let (t, r, s) = top-bits (m .isid) h (m .transmits) (m .receives)
     in λ i. record { transmits = t i; receives = r i; isid = s i; bridge = m .bridge; vid = m .vid }
+
+-- No reserved bit of it is set.
+pub service-reserved : (m : Member) → m .isid < 2 ^ 24 → bits (serviceOf m) 29 24 ≡ 0
+service-reserved m h = flags-reserved (m .isid) h (bit (m .transmits)) (bit (m .receives)) (small (m .isid) h (m .transmits)) (small (m .isid) h (m .receives))
 
 -- Services within their range and with different I-SIDs have no fault.
 abbrev IsidsApart : ℕ → ℕ → Type 0
