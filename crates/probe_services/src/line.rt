@@ -2,8 +2,8 @@
 use check_text::check::write_refusal;
 use rule::answer::ReadServicesAnswer;
 use rule::answer::WriteServicesAnswer;
-use spb::advertisements::read_services;
-use spb::advertisements::write_services;
+use services::advertisements::read_services;
+use services::advertisements::write_services;
 use text::fields::write_byte;
 use text::fields::write_field;
 use text::fields::write_fields;

@@ -1,3 +1,2 @@
 -- Theorems: nothing here is cited by a contract.
-pub mod Examined
 pub mod CallLaws

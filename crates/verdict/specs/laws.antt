@@ -2,3 +2,4 @@
 pub mod LastLaws
 pub mod ExaminationLaws
 pub mod CheckedLaws
+pub mod AskedLaws

@@ -10,13 +10,12 @@ use Rattle.rule.specs.Outcome.{Outcome, answered, refused, lentTo}
 use Rattle.rule.specs.Answers.{CostAndHops, kindNumber}
 use Rattle.rule.specs.Check.{verdict}
 use Rattle.rule.specs.Calls.{countsOf, checkOutcome, planPath, pathAnswer, pathOutcome, planBranches, lentToThree, treeOutcome, planEntries, entriesAnswer, entriesOutcome}
-use Rattle.rule.specs.Services.{planRead, readServicesAnswer, readServicesOutcome, planWrite, writeServicesAnswer, writeServicesOutcome}
 use Rattle.rule.specs.Exported.{checkNumber, exportedCheck, costNumber, exportedPathCost}
 use Rattle.table.specs.declared.shape.Shape.{Shape}
 use Rattle.table.specs.Positions.{planAt}
 use Rattle.verdict.specs.declared.examine.Examined.{Examined}
 use Rattle.verdict.specs.Examination.{examinedValues}
-use Rattle.spb.specs.laws.Examined.{asked, not-asked}
+use Rattle.verdict.specs.laws.AskedLaws.{asked, not-asked}
 
 module _ (t : List ℕ) (r : Examined) (e : examinedValues (wordsOf t) r ≡ verdict t) where
   module _ (s : Shape) (f : r ≡ Examined.Accepted s) where
@@ -49,16 +48,6 @@ module _ (t : List ℕ) (r : Examined) (e : examinedValues (wordsOf t) r ≡ ver
     unfolding entriesOutcome entriesAnswer
     entries-accepted b list o g = g ∙ ap (lentTo list) (asked t r e (λ p. planEntries p b) s f)
 
-    pub read-accepted : (bytes list : List ℕ) (o : Outcome ℕ × List ℕ)
-        → o ≡ lentTo list (planRead (planAt (wordsOf t) s) bytes) → o ≡ readServicesOutcome t bytes list
-    unfolding readServicesOutcome readServicesAnswer
-    read-accepted bytes list o g = g ∙ ap (lentTo list) (asked t r e (λ p. planRead p bytes) s f)
-
-    pub write-accepted : (b vid : ℕ) (list : List ℕ) (o : Outcome ℕ × List ℕ)
-        → o ≡ lentTo list (planWrite (planAt (wordsOf t) s) b vid) → o ≡ writeServicesOutcome t b vid list
-    unfolding writeServicesOutcome writeServicesAnswer
-    write-accepted b vid list o g = g ∙ ap (lentTo list) (asked t r e (λ p. planWrite p b vid) s f)
-
   module _ (number at : ℕ) (kind : RecordKind) (f : r ≡ Examined.Refused number kind at) where
     pub check-refused : refused number (kindNumber kind) at ≡ checkOutcome t
     unfolding checkOutcome
@@ -88,13 +77,3 @@ module _ (t : List ℕ) (r : Examined) (e : examinedValues (wordsOf t) r ≡ ver
         → _≡_ {A = Outcome ℕ × List ℕ} (refused number (kindNumber kind) at, list) (entriesOutcome t b list)
     unfolding entriesOutcome entriesAnswer
     entries-refused b list = ap (lentTo list) (not-asked t r e (λ p. planEntries p b) number at kind f)
-
-    pub read-refused : (bytes list : List ℕ)
-        → _≡_ {A = Outcome ℕ × List ℕ} (refused number (kindNumber kind) at, list) (readServicesOutcome t bytes list)
-    unfolding readServicesOutcome readServicesAnswer
-    read-refused bytes list = ap (lentTo list) (not-asked t r e (λ p. planRead p bytes) number at kind f)
-
-    pub write-refused : (b vid : ℕ) (list : List ℕ)
-        → _≡_ {A = Outcome ℕ × List ℕ} (refused number (kindNumber kind) at, list) (writeServicesOutcome t b vid list)
-    unfolding writeServicesOutcome writeServicesAnswer
-    write-refused b vid list = ap (lentTo list) (not-asked t r e (λ p. planWrite p b vid) number at kind f)

@@ -1,9 +1,9 @@
--- `spb::advertisements::read_services` reads the services of an accepted table, or passes the refusal of the verdict on. Assumes nothing.
+-- `services::advertisements::read_services` reads the services of an accepted table, or passes the refusal of the verdict on. Assumes nothing.
 use Rattle.key_index.specs.laws.IndexLaws.{no-keys-yet}
-use Rattle.spb.specs.laws.CallLaws.{read-accepted, read-refused}
+use Rattle.services.specs.laws.CallLaws.{read-accepted, read-refused}
 use borrow.Author.Needs.{needs}
-use Rattle.spb.proofs.advertisements.read_services.Statement.{statement}
-use Rattle.spb.proofs.advertisements.read_services.Tie as tie
+use Rattle.services.proofs.advertisements.read_services.Statement.{statement}
+use Rattle.services.proofs.advertisements.read_services.Tie as tie
 
 examine-requires : tie.Need-examine-requires
 examine-requires c κs = no-keys-yet
