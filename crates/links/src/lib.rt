@@ -1,4 +1,5 @@
 // The links of a table that passed the check (01, "Links").
 pub mod counts;
 pub mod hop;
+pub mod metric;
 pub mod usable;

@@ -1,4 +1,5 @@
 // What the link of a half-link costs, and how many links are usable (01, "Links").
+use crate::metric::metric_of;
 use key_index::chain::other_place;
 use numbers::metric::Metric;
 use readers::half_link::HalfLink;
@@ -24,7 +25,7 @@ pub fn link_metric(table: &[u8], s: Shape, link_index: &[u32], i: usize, h: Half
         return Metric::UNUSABLE;
     }
     let mate = half_link(table, s, place as usize - 1);
-    h.metric.combined(mate.metric)
+    metric_of(h, mate)
 }
 
 // 1 where the half-link `i` is of a usable link and is seen from its lower bridge.

@@ -35,7 +35,8 @@ abbrev pub bridgeValues : table·Bridge → Bridge
 bridgeValues b = record { overloaded = b .overloaded; spSourceId = b .«sp_source_id»; identifier = b .identifier }
 
 abbrev pub halfLinkValues : table·HalfLink → HalfLink
-halfLinkValues h = record { metric = h .metric .0; near = h .near; far = h .far; port = h .port; link = h .link }
+halfLinkValues h =
+    record { down = h .down; metric = h .metric .0; near = h .near; far = h .far; port = h .port; link = h .link }
 
 abbrev pub vidValues : table·Vid → Vid
 vidValues v = record { vid = v .vid; index = v .index }

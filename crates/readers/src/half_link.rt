@@ -9,7 +9,11 @@ ghost use Rattle.rule.specs.Words.{wordsOf};
 ghost use Rattle.rule.specs.Records.{halfLinkLayout, halfLinkOf};
 ghost use Rattle.readers.specs.Readers.{halfLinkValues, halfLinkRead, readOf};
 
+// What the first word's bit 27 counts: the port is down (02, A3).
+const DOWN: u32 = 134217728;
+
 pub struct HalfLink {
+    pub down: bool,
     pub metric: Metric,
     pub near: u32,
     pub far: u32,
@@ -33,6 +37,7 @@ pub fn half_link_of(part: &[u8]) -> HalfLink
     let bridges = word_at(part, 1);
     let place = word_at(part, 2);
     HalfLink {
+        down: first / DOWN % 2 == 1,
         metric: Metric(first % 16777216),
         near: bridges / 65536,
         far: bridges % 65536,
@@ -57,7 +62,7 @@ pub fn read_half_link(part: &[u8]) -> HalfLinkRead
     if part.len() < 12 {
         return HalfLinkRead::Cut;
     }
-    if word_at(part, 0) / 16777216 % 16 != 0 {
+    if word_at(part, 0) / 16777216 % 8 != 0 {
         return HalfLinkRead::ZeroBit;
     }
     let h = half_link_of(part);

@@ -17,6 +17,7 @@ pub mod Services
 pub mod ComesBack
 pub mod Frames
 pub mod Demand3
+pub mod PortsDown
 pub mod PlanLaws
 pub mod laws
 pub mod figures

@@ -50,8 +50,16 @@ linkCost l = combinedMetric (l .here .metric) (l .there .metric)
 abbrev pub usableMetric : ℕ → Bool
 usableMetric m = ltb m unusableMetric
 
+-- "neither half is down" (02, A3).
+abbrev pub neitherDown : Link → Bool
+neitherDown l = not (l .here .down) && not (l .there .down)
+
+-- "A link is usable only when neither half is down" (02, A3).
+abbrev pub isUsable : Link → Bool
+isUsable l = neitherDown l && usableMetric (linkCost l)
+
 unfoldable pub usableLinks : List HalfLink → List Link
-usableLinks hs = selected (λ l. usableMetric (linkCost l)) (linksOf hs)
+usableLinks hs = selected isUsable (linksOf hs)
 
 -- How many usable links there are: each is counted where it is seen from its lower bridge.
 unfoldable pub countUsable : List HalfLink → ℕ

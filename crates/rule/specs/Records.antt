@@ -19,7 +19,9 @@ pub record Bridge : Type 0 where
 abbrev pub address : Bridge → ℕ
 address b = b .identifier % 2 ^ 48
 
+-- A half-link: whether its port is down (02, A3), its metric, and the bridges, the port and the link that it names.
 pub record HalfLink : Type 0 where
+  pub down : Bool
   pub metric : ℕ
   pub near : ℕ
   pub far : ℕ
@@ -66,9 +68,11 @@ bridgeOf r =
       identifier = word r 1 * 2 ^ 32 + word r 2;
     }
 
+-- "Bit 27 of a half-link's first word marks its port as down" (02, A3).
 abbrev pub halfLinkOf : List ℕ → HalfLink
 halfLinkOf r =
     record {
+      down = eqb (fieldAt 0 27 27 r) 1;
       metric = fieldAt 0 23 0 r;
       near = fieldAt 1 31 16 r;
       far = fieldAt 1 15 0 r;
@@ -178,14 +182,15 @@ bridgeLayout =
       decoded = λ r. bridge (bridgeOf r);
     }
 
--- "2 | half-link, 3: bits 27..24 zero, 23..0 metric; near bridge (16), far bridge (16); near port (16), link number (16) | 512".
+-- "2 | half-link, 3: bits 27..24 zero, 23..0 metric; near bridge (16), far bridge (16); near port (16), link number (16) | 512". Of the
+-- zero bits 26..24 are left: bit 27 is the mark of a port that is down (02, A3).
 abbrev pub halfLinkLayout : Layout
 halfLinkLayout =
     record {
       kind = 2;
       words = 3;
       limit = 512;
-      zeroBits = fieldAt 0 27 24;
+      zeroBits = fieldAt 0 26 24;
       ranges =
           rangeOf (λ r. halfLinkOf r .metric) metricLimits
           ∷ rangeOf (λ r. halfLinkOf r .port) portLimits

@@ -14,6 +14,7 @@ pub mod CallLaws
 pub mod ListBound
 pub mod SettingLaws
 pub mod NoneOverloaded
+pub mod PortsDownProved
 pub mod Demand3Proved
 pub mod MemberWords
 pub mod ServiceLaws

@@ -15,14 +15,14 @@ use Rattle.lists.specs.laws.SumLaws.{length-flatMap, sum-most, sum-append}
 use Rattle.rule.specs.declared.answer.Counts.{Counts}
 use Rattle.rule.specs.Records.{HalfLink, halfLinkOf, unusableMetric}
 use Rattle.rule.specs.Plan.{Plan}
-use Rattle.rule.specs.Links.{Link, mates, linksOf, from, to, linkCost, usableMetric, usableLinks, countUsable}
+use Rattle.rule.specs.Links.{Link, mates, linksOf, from, to, usableMetric, isUsable, usableLinks, countUsable}
 use Rattle.rule.specs.PlanLaws.{PlanLaws}
 use Rattle.table.specs.declared.shape.Shape.{Shape}
 use Rattle.table.specs.Positions.{recordsAt, halfLinksFrom, planAt}
 use Rattle.table.specs.laws.PositionLaws.{no-records, one-more}
 use Rattle.table.specs.Numbered.{halfLinkNumber}
 use Rattle.links.specs.Mates.{metricWith, linkMetric, counted}
-use Rattle.links.specs.laws.MateLaws.{mates-at-most-one}
+use Rattle.links.specs.laws.MateLaws.{metric-usable, mates-at-most-one}
 
 pub counted-most : (hs : List HalfLink) (h : HalfLink) → counted hs h ≤ 1
 counted-most hs h = go (ltb (h .near) (h .far)) (usableMetric (linkMetric hs h))
@@ -35,9 +35,6 @@ counted-most hs h = go (ltb (h .near) (h .far)) (usableMetric (linkMetric hs h))
 module _ (p : Plan) (L : PlanLaws p) where
   abbrev hs : List HalfLink
   hs = p .halfLinks
-
-  abbrev isUsable : Link → Bool
-  isUsable l = usableMetric (linkCost l)
 
   abbrev isLower : Link → Bool
   isLower l = ltb (from l) (to l)
@@ -62,8 +59,13 @@ module _ (p : Plan) (L : PlanLaws p) where
 
   linked : (h m : HalfLink) → among h (m ∷ []) ≡ value h (m ∷ [])
   unfolding selected
-  linked h m = either (record { here = h; there = m }) (usableMetric (metricWith h (m ∷ []))) (ltb (h .near) (h .far)) refl
+  linked h m =
+      either link (isUsable link) (isLower link) refl
+      ∙ ap (λ (u : Bool). cond (isLower link) (cond u 1 0) 0) (sym (metric-usable link))
     where
+      link : Link
+      link = record { here = h; there = m }
+
       either : (l : Link) (u b : Bool) → isLower l ≡ b → length (selected isLower (consIf u l [])) ≡ cond b (cond u 1 0) 0
       either l true true e = rw e refl
       either l true false e = rw e refl

@@ -10,22 +10,22 @@ use mathlib.Core.Bool.{Bool, true, false, cond}
 use lib.Dec.{T, ltb→lt, lt→ltb}
 use Rattle.lists.specs.Lists.{selected}
 use Rattle.lists.specs.Members.{In}
-use Rattle.lists.specs.laws.NumberLaws.{le-or-gt, compared, true-test, equal-three, three-equal}
+use Rattle.lists.specs.laws.NumberLaws.{le-or-gt, compared, is-true, true-test, equal-three, three-equal}
 use Rattle.lists.specs.laws.SelectedLaws.{selected-in}
 use Rattle.rule.specs.Words.{wordsOf}
 use Rattle.rule.specs.Records.{HalfLink, halfLinkOf, unusableMetric}
 use Rattle.rule.specs.Plan.{Plan}
-use Rattle.rule.specs.Links.{Link, mates, number, from, to, linkCost, usableMetric, hopLink}
+use Rattle.rule.specs.Links.{Link, mates, number, from, to, linkCost, usableMetric, neitherDown, hopLink}
 use Rattle.rule.specs.PlanLaws.{PlanLaws}
-use Rattle.rule.specs.laws.LinkLaws.{Usable, Takes, hop-takes, no-hop, one-link}
+use Rattle.rule.specs.laws.LinkLaws.{Usable, usable-parts, Takes, hop-takes, no-hop, one-link}
 use Rattle.table.specs.declared.shape.Shape.{Shape}
 use Rattle.table.specs.Positions.{halfLinksFrom, planAt}
 use Rattle.table.specs.laws.PositionLaws.{record-in, in-records}
 use Rattle.table.specs.Numbered.{halfLinkNumber}
 use Rattle.verdict.specs.Examination.{Checked}
 use Rattle.verdict.specs.laws.CheckedLaws.{bridges-counted, few-bridges}
-use Rattle.links.specs.Mates.{metricWith, linkMetric}
-use Rattle.links.specs.laws.MateLaws.{one-mate, mates-at-most-one}
+use Rattle.links.specs.Mates.{metricOf, metricWith, linkMetric}
+use Rattle.links.specs.laws.MateLaws.{metric-usable, one-mate, mates-at-most-one}
 use Rattle.links.specs.Hops.{noHop, hopNumber, costOfHop, portOfHop, hopOf, LowestHop}
 
 -- The number of the hop by the link of a half-link, were that link usable.
@@ -133,6 +133,10 @@ module _ {t : List ℕ} {s : Shape} (C : Checked t s) where
       omega (arith, C .laws .half-links .fits h (listed-there j l h e) .greatest-port),
     )
 
+-- A link with a usable metric has no half that is down, and costs less than the unusable metric.
+usable-of-metric : (l : Link) → metricOf l < unusableMetric → T (neitherDown l) × (linkCost l < unusableMetric)
+usable-of-metric l u = usable-parts l (subst T (metric-usable l) (lt→ltb (metricOf l) unusableMetric u))
+
 -- What the metric of a half-link says of its link.
 module _ (p : Plan) (L : PlanLaws p) where
   metric-of-link : (l : Link) → Usable (p .halfLinks) l → linkMetric (p .halfLinks) (l .here) ≡ linkCost l
@@ -140,6 +144,7 @@ module _ (p : Plan) (L : PlanLaws p) where
       ap (metricWith (l .here)) (one-mate p L (l .here) (l .there) (U .there-listed)
       (equal-three (l .here .link) (l .there .link) (l .here .near) (l .there .far) (l .here .far) (l .there .near)
       (U .one-number) (U .near-far) (U .far-near)))
+      ∙ ap (λ (b : Bool). cond b (linkCost l) unusableMetric) (is-true (neitherDown l) (U .neither-down))
 
   link-of-metric :
       (h : HalfLink) →
@@ -155,6 +160,7 @@ module _ (p : Plan) (L : PlanLaws p) where
       go (inr (m, e)) =
           let r = selected-in (mates h) m (p .halfLinks) (subst (λ (t : List HalfLink). In m t) (sym e) (inl refl))
           in let s = three-equal (h .link) (m .link) (h .near) (m .far) (h .far) (m .near) (r .1)
+          in let t = usable-of-metric (record { here = h; there = m }) (omega (arith, ap (metricWith h) e))
           in (
             record { here = h; there = m },
             record {
@@ -163,7 +169,8 @@ module _ (p : Plan) (L : PlanLaws p) where
               one-number = s .0;
               near-far = s .1;
               far-near = s .2;
-              usable = omega (arith, ap (metricWith h) e);
+              neither-down = t .0;
+              usable = t .1;
             },
             refl,
           )

@@ -5,7 +5,7 @@ use native.Mathlib.Numerals.{add-one}
 use mathlib.Core.Path.{_≡_, refl, sym, ap, _∙_, subst}
 use mathlib.Core.List.{List, [], _∷_}
 use mathlib.Core.Logic.{_⊎_, inl, inr}
-use mathlib.Core.Bool.{Bool, true, not, _&&_}
+use mathlib.Core.Bool.{Bool, true, false, not, _&&_, cond}
 use lib.Dec.{T, eqb}
 use borrow.Author.Tests.{eq-eqb, ne-eqb, eqb-true}
 use Rattle.lists.specs.Lists.{selected}
@@ -14,9 +14,9 @@ use Rattle.lists.specs.laws.NumberLaws.{compared, first-of, last-of, true-test,
 use Rattle.lists.specs.laws.SelectedLaws.{selected-in, in-selected}
 use Rattle.lists.specs.laws.DistinctLaws.{selected-none, only-one, distinct-selected}
 use Rattle.rule.specs.Words.{wordsOf}
-use Rattle.rule.specs.Records.{HalfLink, halfLinkOf}
+use Rattle.rule.specs.Records.{HalfLink, halfLinkOf, unusableMetric}
 use Rattle.rule.specs.Plan.{Plan}
-use Rattle.rule.specs.Links.{mates, combinedMetric}
+use Rattle.rule.specs.Links.{Link, mates, linkCost, usableMetric, neitherDown, isUsable}
 use Rattle.rule.specs.PlanLaws.{Mirrors, PlanLaws}
 use Rattle.rule.specs.laws.OneRecord.{distinct-half-links}
 use Rattle.rule.specs.laws.LinkLaws.{one-half}
@@ -27,7 +27,20 @@ use Rattle.table.specs.Positions.{halfLinksFrom, planAt}
 use Rattle.table.specs.laws.PositionLaws.{record-in, in-records, every-two-records}
 use Rattle.table.specs.Numbered.{halfLinkNumber}
 use Rattle.verdict.specs.Examination.{Checked, LinkIndex}
-use Rattle.links.specs.Mates.{metricWith, linkMetric}
+use Rattle.links.specs.Mates.{metricOf, metricWith, linkMetric}
+
+-- The unusable metric stands for a link with a half that is down: a link is usable where its metric is.
+pub metric-usable : (l : Link) → usableMetric (metricOf l) ≡ isUsable l
+metric-usable l = go (neitherDown l) (linkCost l)
+  where
+    go : (b : Bool) (c : ℕ) → usableMetric (cond b c unusableMetric) ≡ (b && usableMetric c)
+    go true c = refl
+    go false c = refl
+
+-- What the link of two half-links costs, by what was asked of each.
+pub metric-by : (h m : HalfLink) (x y : Bool) → h .down ≡ x → m .down ≡ y
+    → cond (not x && not y) (linkCost (record { here = h; there = m })) unusableMetric ≡ metricOf (record { here = h; there = m })
+metric-by h m x y e f = λ i. cond (not (sym e i) && not (sym f i)) (linkCost (record { here = h; there = m })) unusableMetric
 
 -- "A link is two half-links": a half-link has one mate, where it has any.
 pub one-mate :
@@ -145,7 +158,7 @@ module _ {t links : List ℕ} {s : Shape} (C : Checked t s) (K : LinkIndex links
     pub metric-alone : place ≡ 0 → 16777215 ≡ linkMetric hs h
     metric-alone z = sym (rw e (ap (metricWith (at i)) (has-no-mate i l (sym other-place ∙ z))))
 
-    pub metric-linked : (place ≡ 0 → ⊥) → (m : HalfLink) → m ≡ at (place - 1) → combinedMetric (h .metric) (m .metric) ≡ linkMetric hs h
+    pub metric-linked : (place ≡ 0 → ⊥) → (m : HalfLink) → m ≡ at (place - 1) → metricOf (record { here = h; there = m }) ≡ linkMetric hs h
     metric-linked d m k =
         ap (λ (x : HalfLink). metricWith h (x ∷ [])) k
         ∙ sym (rw e (ap (metricWith (at i)) (has-mate i l (place - 1) (sym other-place ∙ omega arith))))

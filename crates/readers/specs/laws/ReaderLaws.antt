@@ -57,14 +57,15 @@ pub same-bridge :
 same-bridge a b c = λ i. record { overloaded = a i; spSourceId = b i; identifier = c i }
 
 pub same-half-link :
-    {m n f p l : ℕ} {h : HalfLink} →
+    {o : Bool} {m n f p l : ℕ} {h : HalfLink} →
+    o ≡ h .down →
     m ≡ h .metric →
     n ≡ h .near →
     f ≡ h .far →
     p ≡ h .port →
     l ≡ h .link →
-    record { metric = m; near = n; far = f; port = p; link = l } ≡ h
-same-half-link a b c d e = λ i. record { metric = a i; near = b i; far = c i; port = d i; link = e i }
+    record { down = o; metric = m; near = n; far = f; port = p; link = l } ≡ h
+same-half-link a b c d e f = λ i. record { down = a i; metric = b i; near = c i; far = d i; port = e i; link = f i }
 
 pub same-vid : {n k : ℕ} {v : Vid} → n ≡ v .vid → k ≡ v .index → record { vid = n; index = k } ≡ v
 same-vid e f = λ i. record { vid = e i; index = f i }

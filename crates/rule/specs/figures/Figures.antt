@@ -118,7 +118,7 @@ sixBridges =
     ∷ (0xf0000037 ∷ [])
     ∷ []
 
-abbrev parallelEqual : List (List ℕ)
+abbrev pub parallelEqual : List (List ℕ)
 parallelEqual =
     (0x10000001 ∷ 0x80000200 ∷ 0x00000001 ∷ [])
     ∷ (0x10000002 ∷ 0x80000200 ∷ 0x00000002 ∷ [])
@@ -130,7 +130,7 @@ parallelEqual =
     ∷ (0xf0000013 ∷ [])
     ∷ []
 
-abbrev parallelCheaper : List (List ℕ)
+abbrev pub parallelCheaper : List (List ℕ)
 parallelCheaper =
     (0x10000001 ∷ 0x80000200 ∷ 0x00000001 ∷ [])
     ∷ (0x10000002 ∷ 0x80000200 ∷ 0x00000002 ∷ [])

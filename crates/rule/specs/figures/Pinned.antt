@@ -6,7 +6,7 @@ use mathlib.Core.Path.{_≡_, refl}
 use mathlib.Core.List.{List, [], _∷_, _++_, map, flatMap}
 use mathlib.Core.Option.{Option, none, some}
 use mathlib.Core.Bool.{Bool, cond}
-use lib.ListN.{getD, take, replicate}
+use lib.ListN.{getD, take, drop, replicate}
 use Rattle.lists.specs.Lists.{rising, selected, anyPasses, lowestBy}
 use Rattle.graph.specs.Order.{insertUpward, sorted, isLower}
 use Rattle.graph.specs.Graph.{costOnward}
@@ -70,7 +70,7 @@ module _ {A : Type 0} where
 -- The fields of a record.
 abbrev fieldsOf : Record → List ℕ
 fieldsOf (bridge b) = flag (b .overloaded) ∷ b .spSourceId ∷ b .identifier ∷ []
-fieldsOf (halfLink h) = h .metric ∷ h .near ∷ h .far ∷ h .port ∷ h .link ∷ []
+fieldsOf (halfLink h) = flag (h .down) ∷ h .metric ∷ h .near ∷ h .far ∷ h .port ∷ h .link ∷ []
 fieldsOf (vid v) = v .vid ∷ v .index ∷ []
 fieldsOf (member m) = flag (m .transmits) ∷ flag (m .receives) ∷ m .isid ∷ m .bridge ∷ m .vid ∷ []
 fieldsOf (end n) = n ∷ []
@@ -205,6 +205,10 @@ lists u = getD (entries0 ∷ entries1 ∷ entries2 ∷ []) u []
 abbrev ofChain : (Plan → Shown) → Shown
 ofChain ask = shownBy ask (verdict (table chain))
 
+-- The chain with the port of the half of link 9 at bridge 2 down.
+abbrev chainDown : List (List ℕ)
+chainDown = take 6 chain ++ ((0x28000014 ∷ 0x00020001 ∷ 0x00030009 ∷ []) ∷ drop 7 chain)
+
 -- The calls on the chain: path in VID 10, and tree with three lent lists.
 abbrev pathOf : ℕ → ℕ → List ℕ → Shown
 pathOf a b lent = given (pathOutcome (table chain) 10 a b lent)
@@ -271,11 +275,12 @@ pins =
     ∷ pin (check (vid10 ∷ (0x43000100 ∷ []) ∷ [])) (fault 3 4 1)
     ∷ pin (check (vid10 ∷ [])) (bare 3 1)
     ∷ pin (check (bridge0 ∷ bridge1 ∷ [])) (bare 3 6)
-    -- "4. A zero bit is set": bits 26..20 of a bridge (02, A1, took bit 27), 27..24 of a half-link, 27..26 of a member.
+    -- "4. A zero bit is set": bits 26..20 of a bridge (02, A1, took bit 27), 26..24 of a half-link (A3 took bit 27), 27..26 of a member.
     ∷ pin (check ((0x14000001 ∷ 0x80000200 ∷ 0x00000001 ∷ []) ∷ [])) (fault 4 1 0)
     ∷ pin (check ((0x1c000001 ∷ 0x80000200 ∷ 0x00000001 ∷ []) ∷ [])) (fault 4 1 0)
     ∷ pin (check ((0x10100001 ∷ 0x80000200 ∷ 0x00000001 ∷ []) ∷ [])) (fault 4 1 0)
-    ∷ pin (check ((0x2800000a ∷ 0x00000001 ∷ 0x00010007 ∷ []) ∷ [])) (fault 4 2 0)
+    ∷ pin (check ((0x2400000a ∷ 0x00000001 ∷ 0x00010007 ∷ []) ∷ [])) (fault 4 2 0)
+    ∷ pin (check ((0x2c00000a ∷ 0x00000001 ∷ 0x00010007 ∷ []) ∷ [])) (fault 4 2 0)
     ∷ pin (check ((0x2100000a ∷ 0x00000001 ∷ 0x00010007 ∷ []) ∷ [])) (fault 4 2 0)
     ∷ pin (check ((0x48000100 ∷ 0x0000000a ∷ []) ∷ [])) (fault 4 4 0)
     ∷ pin (check ((0x44000100 ∷ 0x0000000a ∷ []) ∷ [])) (fault 4 4 0)
@@ -337,15 +342,15 @@ pins =
     ∷ pin (check ((0xf0000001 ∷ []) ∷ (0x00000000 ∷ []) ∷ [])) (fault 6 15 0)
     -- "For 2 to 10 the first faulty record counts".
     ∷ pin (check ((0x10000000 ∷ 0x80000200 ∷ 0x00000001 ∷ []) ∷ (0x14000001 ∷ 0x80000200 ∷ 0x00000001 ∷ []) ∷ [])) (fault 6 1 0)
-    -- "A table is accepted when none of 1 to 10 applies to it": both ends of each range, any priority, overloaded or not, and half-links
-    -- and members that differ from each other in one value alone. "T and R may both be 0."
+    -- "A table is accepted when none of 1 to 10 applies to it": both ends of each range, any priority, overloaded or not, down or not, and
+    -- half-links and members that differ from each other in one value alone. "T and R may both be 0."
     ∷ pin
     (check
     ((0x10000001 ∷ 0x00000000 ∷ 0x00000001 ∷ [])
     ∷ (0x180fffff ∷ 0xfffffeff ∷ 0xffffffff ∷ [])
     ∷ (0x20000001 ∷ 0x00000001 ∷ 0x00010001 ∷ [])
     ∷ (0x20ffffff ∷ 0x00010000 ∷ 0x00010001 ∷ [])
-    ∷ (0x20fffffe ∷ 0x00000001 ∷ 0x0fffffff ∷ [])
+    ∷ (0x28fffffe ∷ 0x00000001 ∷ 0x0fffffff ∷ [])
     ∷ (0x30010001 ∷ [])
     ∷ (0x3ffe0010 ∷ [])
     ∷ (0x40000100 ∷ 0x00000001 ∷ [])
@@ -357,9 +362,9 @@ pins =
     (rows
     ((1 ∷ 0 ∷ 1 ∷ 1 ∷ [])
     ∷ (1 ∷ 1 ∷ 1048575 ∷ 0xfffffeffffffffff ∷ [])
-    ∷ (2 ∷ 1 ∷ 0 ∷ 1 ∷ 1 ∷ 1 ∷ [])
-    ∷ (2 ∷ 16777215 ∷ 1 ∷ 0 ∷ 1 ∷ 1 ∷ [])
-    ∷ (2 ∷ 16777214 ∷ 0 ∷ 1 ∷ 4095 ∷ 65535 ∷ [])
+    ∷ (2 ∷ 0 ∷ 1 ∷ 0 ∷ 1 ∷ 1 ∷ 1 ∷ [])
+    ∷ (2 ∷ 0 ∷ 16777215 ∷ 1 ∷ 0 ∷ 1 ∷ 1 ∷ [])
+    ∷ (2 ∷ 1 ∷ 16777214 ∷ 0 ∷ 1 ∷ 4095 ∷ 65535 ∷ [])
     ∷ (3 ∷ 1 ∷ 1 ∷ [])
     ∷ (3 ∷ 4094 ∷ 16 ∷ [])
     ∷ (4 ∷ 0 ∷ 0 ∷ 256 ∷ 0 ∷ 1 ∷ [])
@@ -394,7 +399,7 @@ pins =
     ∷ pin (fieldRows (0xffffffff ∷ 0xffffffff ∷ 0xffffffff ∷ []))
     (rows
     ((0x7f ∷ 1 ∷ 0xfffff ∷ 0xffffffffffffffff ∷ [])
-    ∷ (0xf ∷ 0xffffff ∷ 0xffff ∷ 0xffff ∷ 0xffff ∷ 0xffff ∷ [])
+    ∷ (7 ∷ 1 ∷ 0xffffff ∷ 0xffff ∷ 0xffff ∷ 0xffff ∷ 0xffff ∷ [])
     ∷ (0 ∷ 0xfff ∷ 0xffff ∷ [])
     ∷ (3 ∷ 1 ∷ 1 ∷ 0xffffff ∷ 0xffff ∷ 0xffff ∷ [])
     ∷ (0 ∷ 0xfffffff ∷ [])
@@ -402,7 +407,7 @@ pins =
     ∷ pin (fieldRows (0x1e345678 ∷ 0x9abcdef0 ∷ 0x13579bdf ∷ []))
     (rows
     ((0x63 ∷ 1 ∷ 0x45678 ∷ 0x9abcdef013579bdf ∷ [])
-    ∷ (0xe ∷ 0x345678 ∷ 0x9abc ∷ 0xdef0 ∷ 0x1357 ∷ 0x9bdf ∷ [])
+    ∷ (6 ∷ 1 ∷ 0x345678 ∷ 0x9abc ∷ 0xdef0 ∷ 0x1357 ∷ 0x9bdf ∷ [])
     ∷ (0 ∷ 0xe34 ∷ 0x5678 ∷ [])
     ∷ (3 ∷ 1 ∷ 0 ∷ 0x345678 ∷ 0x9abc ∷ 0xdef0 ∷ [])
     ∷ (0 ∷ 0xe345678 ∷ [])
@@ -521,6 +526,8 @@ pins =
     -- alone, of the ports 5, 6, 7 and 9.
     ∷ pin (ofChain λ p. rows (map (λ port. map number (listOf (crossed (p .halfLinks) 0 port))) (5 ∷ 6 ∷ 7 ∷ 9 ∷ [])))
     (rows ((7 ∷ []) ∷ [] ∷ [] ∷ [] ∷ []))
+    -- By a port of a link that is down it is lost: the frame from bridge 0 where the half of link 9 at bridge 2 is down.
+    ∷ pin (shownBy (λ p. linkNumbers (frameLinks p 4 0)) (verdict (table chainDown))) (numbers (7 ∷ []))
     ∷ pin (ofChain λ p. rows (map (λ n. stood 0 (frameLinks p n 0)) (rising 0 4)))
     (rows ((0 ∷ []) ∷ (0 ∷ 1 ∷ []) ∷ (0 ∷ 1 ∷ 2 ∷ []) ∷ (0 ∷ 1 ∷ 2 ∷ []) ∷ []))
     ∷ pin (ofChain λ p. numbers (map arrivalPort (frameLinks p 4 0))) (numbers (6 ∷ 3 ∷ []))

@@ -1,10 +1,10 @@
 -- The figures of document 02, request by request: one collection, on tables given as words, and one proof over it. The starred figures of
 -- document 01 are a collection of their own (Figures). Assumes nothing.
-use Prim.Native.Nat.{ℕ}
+use Prim.Native.Nat.{ℕ, _+_}
 use mathlib.Core.Path.{_≡_, refl}
-use mathlib.Core.List.{List, [], _∷_, map, flatMap}
+use mathlib.Core.List.{List, [], _∷_, _++_, map, flatMap}
 use mathlib.Core.Option.{none, some}
-use lib.ListN.{drop}
+use lib.ListN.{getD, take, drop}
 use Rattle.lists.specs.Lists.{rising, selected, anyPasses, firstPassing, lowestBy}
 use Rattle.graph.specs.Order.{insertUpward, sorted, isLower}
 use Rattle.graph.specs.Graph.{costOnward}
@@ -18,7 +18,7 @@ use Rattle.rule.specs.Paths.{chosenPath}
 use Rattle.rule.specs.Calls.{checkOutcome, pathAnswer}
 use Rattle.rule.specs.Services.{subTlvWords, afterServices, readServicesAnswer, subTlvs, writeServicesAnswer}
 use Rattle.rule.specs.figures.Tables.{table}
-use Rattle.rule.specs.figures.Figures.{diamond, path, check, reading, writing, pathIs, counts, listIs, refusal, refusalOf, shown, Figure, figure}
+use Rattle.rule.specs.figures.Figures.{diamond, parallelEqual, parallelCheaper, path, hop, check, reading, writing, pathIs, linkIs, counts, listIs, refusal, refusalOf, shown, Figure, figure}
 
 -- The diamond with other first words of its bridges' records: bit 27 marks a bridge as overloaded.
 abbrev diamondWith : ℕ → ℕ → ℕ → ℕ → List (List ℕ)
@@ -40,6 +40,32 @@ overloaded03 = diamondWith 0x18000001 0x10000002 0x10000003 0x18000004
 
 abbrev overloaded01 : List (List ℕ)
 overloaded01 = diamondWith 0x18000001 0x18000002 0x10000003 0x10000004
+
+-- The table with bit 27 of the first word of its record `n` set, counted from 0: a half-link whose port is down.
+abbrev withDown : ℕ → List (List ℕ) → List (List ℕ)
+withDown n t = take n t ++ (down (getD t n []) ∷ drop (n + 1) t)
+  where
+    down : List ℕ → List ℕ
+    down [] = []
+    down (w ∷ ws) = (w + 0x08000000) ∷ ws
+
+-- In the diamond the records 4 and 5 are the halves of the link between 0 and 1, and 8 and 9 those of the link between 0 and 2.
+abbrev down01 : List (List ℕ)
+down01 = withDown 4 diamond
+
+abbrev down10 : List (List ℕ)
+down10 = withDown 5 diamond
+
+abbrev down01and20 : List (List ℕ)
+down01and20 = withDown 9 down01
+
+-- Two bridges, and half-links between them behind one of link 7 at port 1 of bridge 0, whose port is down.
+abbrev behindDown : List (List ℕ) → List (List ℕ)
+behindDown hs =
+    (0x10000001 ∷ 0x80000200 ∷ 0x00000001 ∷ [])
+    ∷ (0x10000002 ∷ 0x80000200 ∷ 0x00000002 ∷ [])
+    ∷ (0x2800000a ∷ 0x00000001 ∷ 0x00010007 ∷ [])
+    ∷ hs
 
 -- Two bridges, VID 10 and three services of bridge 0: T alone, R alone and neither; of the first, bridge 1 is a member with R.
 abbrev services : List (List ℕ)
@@ -111,6 +137,27 @@ figures =
     -- "after the table's own".
     ∷ figure (reading ((0x40000000 ∷ []) ∷ []) []) (refusalOf 3 (some 4) 0)
     ∷ figure (writing ((0x40000000 ∷ []) ∷ []) 0 10) (refusalOf 3 (some 4) 0)
+    -- A3: "A link is usable only when neither half is down." "and check's third count with it".
+    ∷ figure (path down01 10 0 3) (pathIs 20 2 (0 ∷ 2 ∷ 3 ∷ []))
+    ∷ figure (path down01 10 3 0) (pathIs 20 2 (3 ∷ 2 ∷ 0 ∷ []))
+    ∷ figure (check down01) (counts 4 8 3 4 0)
+    ∷ figure (path down10 10 0 3) (pathIs 20 2 (0 ∷ 2 ∷ 3 ∷ []))
+    ∷ figure (path down10 10 3 0) (pathIs 20 2 (3 ∷ 2 ∷ 0 ∷ []))
+    ∷ figure (check down10) (counts 4 8 3 4 0)
+    -- "Between two parts of a plan that marked links alone join, 12 is given."
+    ∷ figure (path down01and20 10 0 3) (refusal 12)
+    ∷ figure (path down01and20 10 3 0) (refusal 12)
+    ∷ figure (check down01and20) (counts 4 8 2 4 0)
+    -- Parallel links 7 and 9: the cheapest that is still usable, with its own cost and port.
+    ∷ figure (hop (withDown 4 parallelEqual) 0 1) (linkIs 9 1)
+    ∷ figure (hop (withDown 5 parallelEqual) 0 1) (linkIs 9 1)
+    ∷ figure (hop (withDown 5 parallelCheaper) 0 1) (linkIs 7 1)
+    ∷ figure (path (withDown 5 parallelCheaper) 10 0 1) (pathIs 12 1 (0 ∷ 1 ∷ []))
+    -- A half-link that is down stands in the table: its metric has its range, its port and its link number are taken. Bit 26 stays a zero bit.
+    ∷ figure (check ((0x28000000 ∷ 0x00000001 ∷ 0x00010007 ∷ []) ∷ [])) (refusal 6)
+    ∷ figure (check (behindDown ((0x2000000a ∷ 0x00000001 ∷ 0x00010008 ∷ []) ∷ []))) (refusal 8)
+    ∷ figure (check (behindDown ((0x2000000a ∷ 0x00000001 ∷ 0x00020007 ∷ []) ∷ []))) (refusal 9)
+    ∷ figure (check (behindDown ((0x2c00000a ∷ 0x00010000 ∷ 0x00010007 ∷ []) ∷ []))) (refusal 4)
     ∷ []
 
 -- Every figure shows what document 02 says.

@@ -63,14 +63,14 @@ diamondPlan =
           ∷ record { overloaded = false; spSourceId = 4; identifier = 0x8000020000000004 }
           ∷ [];
       halfLinks =
-          record { metric = 10; near = 0; far = 1; port = 1; link = 1 }
-          ∷ record { metric = 10; near = 1; far = 0; port = 1; link = 1 }
-          ∷ record { metric = 10; near = 1; far = 3; port = 2; link = 2 }
-          ∷ record { metric = 10; near = 3; far = 1; port = 1; link = 2 }
-          ∷ record { metric = 10; near = 0; far = 2; port = 2; link = 3 }
-          ∷ record { metric = 10; near = 2; far = 0; port = 1; link = 3 }
-          ∷ record { metric = 10; near = 2; far = 3; port = 2; link = 4 }
-          ∷ record { metric = 10; near = 3; far = 2; port = 2; link = 4 }
+          record { down = false; metric = 10; near = 0; far = 1; port = 1; link = 1 }
+          ∷ record { down = false; metric = 10; near = 1; far = 0; port = 1; link = 1 }
+          ∷ record { down = false; metric = 10; near = 1; far = 3; port = 2; link = 2 }
+          ∷ record { down = false; metric = 10; near = 3; far = 1; port = 1; link = 2 }
+          ∷ record { down = false; metric = 10; near = 0; far = 2; port = 2; link = 3 }
+          ∷ record { down = false; metric = 10; near = 2; far = 0; port = 1; link = 3 }
+          ∷ record { down = false; metric = 10; near = 2; far = 3; port = 2; link = 4 }
+          ∷ record { down = false; metric = 10; near = 3; far = 2; port = 2; link = 4 }
           ∷ [];
       vids =
           record { vid = 10; index = 1 }

@@ -80,8 +80,8 @@ workedPlan =
           ∷ record { overloaded = false; spSourceId = 2; identifier = 0x8000020000000002 }
           ∷ [];
       halfLinks =
-          record { metric = 10; near = 0; far = 1; port = 1; link = 7 }
-          ∷ record { metric = 12; near = 1; far = 0; port = 2; link = 7 }
+          record { down = false; metric = 10; near = 0; far = 1; port = 1; link = 7 }
+          ∷ record { down = false; metric = 12; near = 1; far = 0; port = 2; link = 7 }
           ∷ [];
       vids = record { vid = 10; index = 1 } ∷ [];
       members =
@@ -98,8 +98,8 @@ worked-accepted = refl
 abbrev theLink : Link
 theLink =
     record {
-      here = record { metric = 10; near = 0; far = 1; port = 1; link = 7 };
-      there = record { metric = 12; near = 1; far = 0; port = 2; link = 7 };
+      here = record { down = false; metric = 10; near = 0; far = 1; port = 1; link = 7 };
+      there = record { down = false; metric = 12; near = 1; far = 0; port = 2; link = 7 };
     }
 
 -- The links that the frame for a bridge's address crosses from a bridge on, in at most three moves.

@@ -7,7 +7,7 @@ use mathlib.Core.Path.{_≡_, refl, sym, ap, _∙_, subst}
 use mathlib.Core.List.{List, [], _∷_, map}
 use mathlib.Core.Option.{Option, none, some, Option·map}
 use mathlib.Core.Logic.{_⊎_, inl, inr}
-use mathlib.Core.Bool.{Bool, _&&_, and-false, or-false}
+use mathlib.Core.Bool.{Bool, not, _&&_, and-false, or-false}
 use lib.Dec.{T, eqb, ltb→lt, lt→ltb}
 use lib.ListN.{length}
 use Rattle.lists.specs.Lists.{selected}
@@ -15,7 +15,7 @@ use Rattle.graph.specs.Order.{Lower, isLower}
 use Rattle.graph.specs.Graph.{GraphLaws, Joined}
 use Rattle.lists.specs.Members.{In}
 use Rattle.lists.specs.laws.ListNotions.{Distinct}
-use Rattle.lists.specs.laws.NumberLaws.{compared, equal-two, two-equal, equal-three, three-equal}
+use Rattle.lists.specs.laws.NumberLaws.{compared, both, first-of, last-of, equal-two, two-equal, equal-three, three-equal}
 use Rattle.lists.specs.laws.MemberLaws.{in-map, map-in, in-flatMap, flatMap-in}
 use Rattle.lists.specs.laws.SelectedLaws.{selected-in, in-selected, any-in, in-any}
 use Rattle.lists.specs.laws.DistinctLaws.{distinct-flatMap, distinct-selected, every-two-one, only-one}
@@ -24,7 +24,7 @@ use Rattle.lists.specs.laws.GivenLaws.{distinct-map}
 use Rattle.graph.specs.laws.OrderLaws.{lowest-ranked}
 use Rattle.rule.specs.Records.{HalfLink, unusableMetric}
 use Rattle.rule.specs.Plan.{Plan}
-use Rattle.rule.specs.Links.{Link, mates, linksOf, number, from, to, turned, linkCost, usableMetric, usableLinks, connects, linksBetween, joined, before, hopLink, costOf, graphOf}
+use Rattle.rule.specs.Links.{Link, mates, linksOf, number, from, to, turned, linkCost, usableMetric, neitherDown, isUsable, usableLinks, connects, linksBetween, joined, before, hopLink, costOf, graphOf}
 use Rattle.rule.specs.Frames.{only, crossed}
 use Rattle.rule.specs.PlanLaws.{Mirrors, PlanLaws}
 use Rattle.rule.specs.laws.OneRecord.{distinct-half-links, one-port}
@@ -36,7 +36,15 @@ pub record Usable (hs : List HalfLink) (l : Link) : Type 0 where
   pub one-number : l .here .link ≡ l .there .link
   pub near-far : l .here .near ≡ l .there .far
   pub far-near : l .here .far ≡ l .there .near
+  pub neither-down : T (neitherDown l)
   pub usable : linkCost l < unusableMetric
+
+-- What the test says of a link.
+pub usable-parts : (l : Link) → T (isUsable l) → T (neitherDown l) × (linkCost l < unusableMetric)
+usable-parts l t = (
+  first-of (neitherDown l) (usableMetric (linkCost l)) t,
+  ltb→lt (linkCost l) unusableMetric (last-of (neitherDown l) (usableMetric (linkCost l)) t),
+)
 
 module _ (hs : List HalfLink) where
   abbrev seenFrom : HalfLink → List Link
@@ -44,13 +52,13 @@ module _ (hs : List HalfLink) where
 
   pub usable-says : (l : Link) → In l (usableLinks hs) → Usable hs l
   unfolding usableLinks linksOf
-  usable-says l k = let r = selected-in (λ l. usableMetric (linkCost l)) l (linksOf hs) k in
-      go (flatMap-in seenFrom l hs (r .0)) (ltb→lt (linkCost l) unusableMetric (r .1))
+  usable-says l k = let r = selected-in isUsable l (linksOf hs) k in go (flatMap-in seenFrom l hs (r .0)) (r .1)
     where
-      mate : (h : HalfLink) → In h hs → linkCost l < unusableMetric
+      mate : (h : HalfLink) → In h hs → T (isUsable l)
           → ((m : HalfLink) × In m (selected (mates h) hs) × (l ≡ record { here = h; there = m })) → Usable hs l
       mate h i u (m, j, e) = let r = selected-in (mates h) m hs j in
           let s = three-equal (h .link) (m .link) (h .near) (m .far) (h .far) (m .near) (r .1) in
+          let t = usable-parts (record { here = h; there = m }) (subst (λ (z : Link). T (isUsable z)) e u) in
           subst (λ (z : Link). Usable hs z) (sym e)
           (record {
             here-listed = i;
@@ -58,21 +66,26 @@ module _ (hs : List HalfLink) where
             one-number = s .0;
             near-far = s .1;
             far-near = s .2;
-            usable = subst (λ (z : Link). linkCost z < unusableMetric) e u;
+            neither-down = t .0;
+            usable = t .1;
           })
 
-      go : ((h : HalfLink) × In h hs × In l (seenFrom h)) → linkCost l < unusableMetric → Usable hs l
+      go : ((h : HalfLink) × In h hs × In l (seenFrom h)) → T (isUsable l) → Usable hs l
       go (h, i, j) u = mate h i u (map-in (λ m. record { here = h; there = m }) l (selected (mates h) hs) j)
 
-  pub says-usable : (l : Link) → Usable hs l → In l (usableLinks hs)
-  unfolding usableLinks linksOf
-  says-usable l U = in-selected (λ l. usableMetric (linkCost l)) l (linksOf hs)
-      (in-flatMap seenFrom l (l .here) hs (U .here-listed)
+  pub usable-is-link : (l : Link) → Usable hs l → In l (linksOf hs)
+  unfolding linksOf
+  usable-is-link l U =
+      in-flatMap seenFrom l (l .here) hs (U .here-listed)
       (in-map (λ m. record { here = l .here; there = m }) (l .there) (selected (mates (l .here)) hs)
       (in-selected (mates (l .here)) (l .there) hs (U .there-listed)
       (equal-three (l .here .link) (l .there .link) (l .here .near) (l .there .far) (l .here .far) (l .there .near)
-      (U .one-number) (U .near-far) (U .far-near)))))
-      (lt→ltb (linkCost l) unusableMetric (U .usable))
+      (U .one-number) (U .near-far) (U .far-near))))
+
+  pub says-usable : (l : Link) → Usable hs l → In l (usableLinks hs)
+  unfolding usableLinks
+  says-usable l U = in-selected isUsable l (linksOf hs) (usable-is-link l U)
+      (both (neitherDown l) (usableMetric (linkCost l)) (U .neither-down) (lt→ltb (linkCost l) unusableMetric (U .usable)))
 
   pub usable-turned : (l : Link) → Usable hs l → Usable hs (turned l)
   usable-turned l U = record {
@@ -81,12 +94,16 @@ module _ (hs : List HalfLink) where
     one-number = sym (U .one-number);
     near-far = sym (U .far-near);
     far-near = sym (U .near-far);
+    neither-down =
+        let here = not (l .here .down) in
+        let there = not (l .there .down) in
+        both there here (last-of here there (U .neither-down)) (first-of here there (U .neither-down));
     usable = let u = U .usable in omega arith;
   }
 
   distinct-usable : Distinct hs → Distinct (usableLinks hs)
   unfolding usableLinks linksOf
-  distinct-usable d = distinct-selected (λ l. usableMetric (linkCost l)) (linksOf hs) (distinct-flatMap seenFrom hs d
+  distinct-usable d = distinct-selected isUsable (linksOf hs) (distinct-flatMap seenFrom hs d
       (λ h k. distinct-map (λ m. record { here = h; there = m }) (selected (mates h) hs) (distinct-selected (mates h) hs d)
       (λ m n i j e. ap (λ (l : Link). l .there) e))
       (λ h k l i j m n. let r = map-in (λ z. record { here = h; there = z }) l (selected (mates h) hs) m in

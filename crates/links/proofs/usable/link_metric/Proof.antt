@@ -1,4 +1,4 @@
--- `links::usable::link_metric` combines the metrics of the half-link and of its mate, which the index has. Assumes nothing.
+-- `links::usable::link_metric` asks what the half-link and its mate, which the index has, cost together. Assumes nothing.
 use native.Mathlib.Omega.{arith}
 use mathlib.Core.Path.{_∙_}
 use Rattle.readers.specs.Readers.{halfLinkValues}
@@ -32,7 +32,7 @@ returns-2 c =
     let at-other-place = at-if1 .before in
     let at-start = at-other-place .before .before .before in
     let (checked, i-bound, h-is, link-index) = at-start .pre in
-    c .combined .ensures
+    c .metric-of .ensures
     ∙ metric-linked checked link-index (at-start .args .i) i-bound (halfLinkValues (at-start .args .h)) h-is
     (at-other-place .other-place .result) (at-other-place .other-place .ensures) (at-if1 .if1 .left)
     (halfLinkValues (c .before .half-link .result)) (c .before .half-link .ensures)

@@ -6,7 +6,7 @@ use Rattle.readers.proofs.half_link.half_link_of.Statement.{statement}
 use Rattle.readers.proofs.half_link.half_link_of.Tie as tie
 
 returns : tie.Need-returns
-returns c = same-half-link (omega arith) (omega arith) (omega arith) (omega arith) (omega arith)
+returns c = same-half-link (cc) (omega arith) (omega arith) (omega arith) (omega arith) (omega arith)
 
 pub half-link-of-spec : {M : Type 1} → statement M
 half-link-of-spec = tie.close (tie.spec (λ c κs. search needs) (λ c κs. search needs) (λ c κs. search needs) returns)
