@@ -2,8 +2,8 @@
 
 use crate::links::{joined_pairs, usable_links};
 use crate::records::{
-    Bridge, Kind, Plan, Record, BELOW_OVERLOAD_BIT, GREATEST_USABLE_METRIC, GROUP_BIT, LEAST_METRIC,
-    OVERLOAD_BIT, UNUSABLE_METRIC,
+    Bridge, HalfLink, Kind, Plan, Record, BELOW_MARK_BIT, GREATEST_USABLE_METRIC, GROUP_BIT, LEAST_METRIC,
+    MARK_BIT, UNUSABLE_METRIC,
 };
 use crate::refusal::Refusal;
 use crate::rules::{Misreading, Rules};
@@ -28,8 +28,13 @@ pub fn check(rules: Rules, table: &[u8]) -> Result<Counts, Refusal> {
     } else {
         usable_links(rules, &plan)
     };
-    let half_links =
-        if rules.has(Misreading::UsableHalfLinksCounted) { 2 * usable } else { plan.half_links.len() };
+    let half_links = if rules.has(Misreading::UsableHalfLinksCounted) {
+        2 * usable
+    } else if rules.has(Misreading::DownHalfLinksUncounted) {
+        plan.half_links.iter().filter(|half_link| !half_link.down).count()
+    } else {
+        plan.half_links.len()
+    };
     Ok(Counts {
         bridges: plan.bridges.len(),
         half_links,
@@ -144,7 +149,7 @@ impl Reader<'_> {
     fn has_fault(&self, number: u32, kind: Kind, record: &Record) -> bool {
         match number {
             4 => self.words[self.first] & self.zero_bits(kind) != 0,
-            5 => self.is_over_limit(kind),
+            5 => self.is_over_limit(kind, record),
             6 => self.is_out_of_range(record),
             7 => self.names_nothing(record),
             8 => self.repeats(record),
@@ -156,29 +161,53 @@ impl Reader<'_> {
 
     fn zero_bits(&self, kind: Kind) -> u32 {
         let written = kind.zero_bits();
-        if kind != Kind::Bridge {
-            written
-        } else if self.rules.has(Misreading::OverloadAtBit26) {
-            written & !BELOW_OVERLOAD_BIT | OVERLOAD_BIT
-        } else if self.rules.has(Misreading::Bit26Accepted) {
-            written & !BELOW_OVERLOAD_BIT
-        } else if self.rules.has(Misreading::OverloadRefused) {
-            written | OVERLOAD_BIT
+        let [at_bit_26, bit_26_accepted, mark_refused] = match kind {
+            Kind::Bridge => {
+                [Misreading::OverloadAtBit26, Misreading::Bit26Accepted, Misreading::OverloadRefused]
+            }
+            Kind::HalfLink if self.rules.has(Misreading::Bits25And24Accepted) => return BELOW_MARK_BIT,
+            Kind::HalfLink if self.rules.has(Misreading::DownZeroBitsUnasked) && self.is_marked() => {
+                return 0
+            }
+            Kind::HalfLink => {
+                [Misreading::DownAtBit26, Misreading::HalfLinkBit26Accepted, Misreading::DownRefused]
+            }
+            Kind::Vid | Kind::Member | Kind::End => return written,
+        };
+        if self.rules.has(at_bit_26) {
+            written & !BELOW_MARK_BIT | MARK_BIT
+        } else if self.rules.has(bit_26_accepted) {
+            written & !BELOW_MARK_BIT
+        } else if self.rules.has(mark_refused) {
+            written | MARK_BIT
         } else {
             written
         }
     }
 
-    fn is_over_limit(&self, kind: Kind) -> bool {
+    /// Whether the record here has the mark in bit 27.
+    fn is_marked(&self) -> bool {
+        self.words[self.first] & MARK_BIT != 0
+    }
+
+    fn is_over_limit(&self, kind: Kind, record: &Record) -> bool {
         let extra = usize::from(self.rules.has(Misreading::OneOverLimit));
-        self.plan.count(kind) >= kind.limit() + extra
+        let never = self.is_down_with(record, Misreading::DownBeyondLimit);
+        self.plan.count(kind) >= kind.limit() + extra && !never
+    }
+
+    /// Whether the record is a half-link that is down, and the misreading holds.
+    fn is_down_with(&self, record: &Record, misreading: Misreading) -> bool {
+        matches!(record, Record::HalfLink(half_link) if half_link.down) && self.rules.has(misreading)
     }
 
     fn is_out_of_range(&self, record: &Record) -> bool {
         match record {
             Record::Bridge(bridge) => bridge.source_id == 0 || !self.is_individual(bridge.address),
             Record::HalfLink(half_link) => {
-                !self.is_metric(half_link.metric) || !self.is_port(half_link.port) || half_link.link == 0
+                let any_metric = self.is_down_with(record, Misreading::DownMetricUnasked);
+                let has_metric = self.is_metric(half_link.metric) || any_metric;
+                !has_metric || !self.is_port(half_link.port) || half_link.link == 0
             }
             Record::Vid(vid) => !self.is_vid(vid.vid) || !self.is_index(vid.index),
             Record::Member(member) => {
@@ -222,6 +251,7 @@ impl Reader<'_> {
 
     fn names_nothing(&self, record: &Record) -> bool {
         match record {
+            Record::HalfLink(_) if self.is_down_with(record, Misreading::DownNamesUnasked) => false,
             Record::HalfLink(half_link) => {
                 let looped = half_link.near == half_link.far;
                 !self.has_bridge(half_link.near)
@@ -243,11 +273,9 @@ impl Reader<'_> {
         let plan = &self.plan;
         match record {
             Record::Bridge(bridge) => plan.bridges.iter().any(|earlier| self.repeats_bridge(bridge, earlier)),
+            Record::HalfLink(_) if self.is_down_with(record, Misreading::DownTakesPort) => false,
             Record::HalfLink(half_link) => {
-                let anywhere = self.rules.has(Misreading::PortRepeatsAnywhere);
-                plan.half_links.iter().any(|earlier| {
-                    earlier.port == half_link.port && (earlier.near == half_link.near || anywhere)
-                })
+                plan.half_links.iter().any(|earlier| self.repeats_port(half_link, earlier))
             }
             Record::Vid(vid) => plan.vids.iter().any(|earlier| earlier.vid == vid.vid),
             Record::Member(member) => {
@@ -272,15 +300,27 @@ impl Reader<'_> {
         source_id || address
     }
 
+    /// Whether the half-link has the earlier one's near bridge with port.
+    fn repeats_port(&self, half_link: &HalfLink, earlier: &HalfLink) -> bool {
+        let anywhere = self.rules.has(Misreading::PortRepeatsAnywhere);
+        let is_free = earlier.down && self.rules.has(Misreading::DownFreesPort);
+        earlier.port == half_link.port && (earlier.near == half_link.near || anywhere) && !is_free
+    }
+
     /// Refusal 9: a third half-link of a link number, or a second that is no mirror.
     fn is_no_mirror(&self, record: &Record) -> bool {
         let Record::HalfLink(half_link) = record else {
             return false;
         };
-        let same = |earlier: &&crate::records::HalfLink| earlier.link == half_link.link;
+        if self.is_down_with(record, Misreading::DownTakesLinkNumber) {
+            return false;
+        }
+        let frees = self.rules.has(Misreading::DownFreesLinkNumber);
+        let same = |earlier: &&HalfLink| earlier.link == half_link.link && !(earlier.down && frees);
         let earlier: Vec<_> = self.plan.half_links.iter().filter(same).collect();
         match earlier[..] {
             [] => false,
+            [only] if self.rules.has(Misreading::MirrorsWithEqualMark) && half_link.down != only.down => true,
             [only] => !half_link.mirrors(only) && !self.rules.has(Misreading::AnyMirror),
             _ => !self.rules.has(Misreading::ThirdAccepted),
         }

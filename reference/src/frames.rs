@@ -4,9 +4,11 @@
 use crate::entries::{GROUP, INDIVIDUAL};
 use crate::lookup::{decoded, Entry};
 use crate::records::{HalfLink, Plan, UNUSABLE_METRIC};
+use crate::rules::{Misreading, Rules};
 
 /// What frames move by.
 pub struct Forwarding<'a> {
+    rules: Rules,
     pub plan: &'a Plan,
     entries: Vec<Vec<Entry>>,
 }
@@ -30,8 +32,8 @@ pub struct Journey {
 
 impl<'a> Forwarding<'a> {
     /// `written` holds for each bridge the words written for it.
-    pub fn new(plan: &'a Plan, written: &[Vec<u32>]) -> Forwarding<'a> {
-        Forwarding { plan, entries: written.iter().map(|words| decoded(words)).collect() }
+    pub fn new(rules: Rules, plan: &'a Plan, written: &[Vec<u32>]) -> Forwarding<'a> {
+        Forwarding { rules, plan, entries: written.iter().map(|words| decoded(words)).collect() }
     }
 
     /// The entries of a kind at a bridge with a VID and an address.
@@ -56,7 +58,9 @@ impl<'a> Forwarding<'a> {
         let is_far =
             |half: &&HalfLink| half.link == near.link && half.near == near.far && half.far == near.near;
         let far = half_links.iter().find(is_far)?;
-        (near.metric.max(far.metric) < UNUSABLE_METRIC).then_some(Crossing {
+        let is_down = (near.down || far.down) && !self.rules.has(Misreading::FrameCrossesDown);
+        let is_usable = near.metric.max(far.metric) < UNUSABLE_METRIC && !is_down;
+        is_usable.then_some(Crossing {
             left: bridge,
             link: near.link,
             entered: usize::from(near.far),

@@ -1,4 +1,4 @@
-//! A separate implementation of document 01 with requests A1 and A2 of document 02,
+//! A separate implementation of document 01 with requests A1 to A3 of document 02,
 //! written from their text and the readings in docs/DECISIONS.md.
 //!
 //! The calls (`check`, `path`, `tree`, `entries`, `lookup`, `listing`,

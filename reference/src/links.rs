@@ -25,7 +25,26 @@ fn usable_hop(rules: Rules, plan: &Plan, near: &HalfLink) -> Option<Hop> {
     };
     let cost = combine(rules, near.metric, far.metric);
     let port = if rules.has(Misreading::FarEndPort) { far.port } else { near.port };
-    (cost < unusable_from(rules)).then_some(Hop { cost, port, link: near.link })
+    let is_usable = cost < unusable_from(rules) && !is_down(rules, plan, near, far);
+    is_usable.then_some(Hop { cost, port, link: near.link })
+}
+
+/// A link is down where the one or the other of its halves is.
+fn is_down(rules: Rules, plan: &Plan, near: &HalfLink, far: &HalfLink) -> bool {
+    if rules.has(Misreading::DownIgnored) {
+        false
+    } else if rules.has(Misreading::DownAskedOfNear) {
+        near.down
+    } else if rules.has(Misreading::DownAskedOfFar) {
+        far.down
+    } else if rules.has(Misreading::DownWhereBothAre) {
+        near.down && far.down
+    } else if rules.has(Misreading::DownTakesParallels) {
+        let is_parallel = |other: &HalfLink| (other.near, other.far) == (near.near, near.far);
+        plan.half_links.iter().any(|other| other.down && (is_parallel(other) || other.mirrors(near)))
+    } else {
+        near.down || far.down
+    }
 }
 
 /// A link costs the greater of its two metrics.
@@ -53,12 +72,18 @@ fn unusable_from(rules: Rules) -> u32 {
 
 /// The number of usable links. Each is seen from both of its ends.
 pub fn usable_links(rules: Rules, plan: &Plan) -> usize {
+    let rules = if rules.has(Misreading::DownLinksCounted) { rules_without_down() } else { rules };
     let overloaded = |bridge: u16| plan.bridges[usize::from(bridge)].overloaded;
     let left_out = |near: &HalfLink| {
         rules.has(Misreading::OverloadedLinksUncounted) && (overloaded(near.near) || overloaded(near.far))
     };
     let is_counted = |near: &&HalfLink| usable_hop(rules, plan, near).is_some() && !left_out(near);
     plan.half_links.iter().filter(is_counted).count().div_ceil(2)
+}
+
+/// The rules by which no link is down.
+fn rules_without_down() -> Rules {
+    Rules::with(Misreading::DownIgnored)
 }
 
 pub fn joined_pairs(rules: Rules, plan: &Plan) -> usize {
@@ -75,6 +100,17 @@ pub struct Network {
 
 impl Network {
     pub fn of(rules: Rules, plan: &Plan) -> Network {
+        let network = Network::of_usable_links(rules, plan);
+        let cheapest_first = [Misreading::DownTakenFirst, Misreading::DownCostKept, Misreading::DownPortKept];
+        match cheapest_first.into_iter().find(|&misreading| rules.has(misreading)) {
+            Some(misreading) => {
+                network.misread(misreading, &Network::of_usable_links(rules_without_down(), plan))
+            }
+            None => network,
+        }
+    }
+
+    fn of_usable_links(rules: Rules, plan: &Plan) -> Network {
         let size = plan.bridges.len();
         let mut network = Network { size, hops: vec![None; size * size] };
         for near in &plan.half_links {
@@ -83,6 +119,21 @@ impl Network {
             }
         }
         network
+    }
+
+    /// The hops by a misreading that looks for the cheapest link before it asks whether
+    /// that is down: `unmarked` has the hops that there are where none is.
+    fn misread(self, misreading: Misreading, unmarked: &Network) -> Network {
+        let misread = |(hop, cheapest): (&Option<Hop>, &Option<Hop>)| {
+            let (taken, cheapest) = (hop.as_ref()?, cheapest.as_ref()?);
+            match misreading {
+                Misreading::DownTakenFirst => (taken.link == cheapest.link).then_some(*taken),
+                Misreading::DownCostKept => Some(Hop { cost: cheapest.cost, ..*taken }),
+                _ => Some(Hop { port: cheapest.port, ..*taken }),
+            }
+        };
+        let hops = self.hops.iter().zip(&unmarked.hops).map(misread).collect();
+        Network { hops, ..self }
     }
 
     /// The hop takes the cheapest usable link, of equals the lower link number.

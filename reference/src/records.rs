@@ -44,10 +44,15 @@ impl Kind {
     pub fn zero_bits(self) -> u32 {
         match self {
             Kind::Bridge => 0x07F0_0000,
-            Kind::HalfLink => 0x0F00_0000,
+            Kind::HalfLink => 0x0700_0000,
             Kind::Member => 0x0C00_0000,
             Kind::Vid | Kind::End => 0,
         }
+    }
+
+    /// Whether the first word of the kind has the mark in bit 27.
+    pub fn has_mark(self) -> bool {
+        matches!(self, Kind::Bridge | Kind::HalfLink)
     }
 
     /// The kind in its place, above a first word's other bits.
@@ -61,10 +66,25 @@ pub const LEAST_METRIC: u32 = 1;
 pub const GREATEST_USABLE_METRIC: u32 = 16_777_214;
 pub const UNUSABLE_METRIC: u32 = 16_777_215;
 
-/// The bit of a bridge's first word that says that it is overloaded, and the zero
-/// bit below it.
-pub const OVERLOAD_BIT: u32 = 1 << 27;
-pub const BELOW_OVERLOAD_BIT: u32 = 1 << 26;
+/// The bit that marks a bridge as overloaded and a half-link's port as down, and the
+/// zero bit below it.
+pub const MARK_BIT: u32 = 1 << 27;
+pub const BELOW_MARK_BIT: u32 = 1 << 26;
+
+/// The bits of a first word that a mark sets.
+fn mark_bits(is_marked: bool) -> u32 {
+    if is_marked {
+        MARK_BIT
+    } else {
+        0
+    }
+}
+
+/// Whether a first word has the mark; with the misreading given it is the bit below.
+fn is_marked(rules: Rules, at_bit_26: Misreading, first_word: u32) -> bool {
+    let bit = if rules.has(at_bit_26) { BELOW_MARK_BIT } else { MARK_BIT };
+    first_word & bit != 0
+}
 
 /// The group bit of a 48-bit address: the lowest bit of its first octet.
 pub const GROUP_BIT: u64 = 1 << 40;
@@ -86,15 +106,14 @@ impl Bridge {
 
     pub fn words(&self) -> [u32; 3] {
         let identifier = self.identifier();
-        let overload = if self.overloaded { OVERLOAD_BIT } else { 0 };
-        [Kind::Bridge.tag() | overload | self.source_id, (identifier >> 32) as u32, identifier as u32]
+        let first = Kind::Bridge.tag() | mark_bits(self.overloaded) | self.source_id;
+        [first, (identifier >> 32) as u32, identifier as u32]
     }
 
     fn read(rules: Rules, part: &[u32]) -> Bridge {
         let (priority, address_high) = halves(part[1]);
-        let overload = if rules.has(Misreading::OverloadAtBit26) { BELOW_OVERLOAD_BIT } else { OVERLOAD_BIT };
         Bridge {
-            overloaded: part[0] & overload != 0,
+            overloaded: is_marked(rules, Misreading::OverloadAtBit26, part[0]),
             source_id: part[0] & 0x000F_FFFF,
             priority,
             address: u64::from(address_high) << 32 | u64::from(part[2]),
@@ -104,6 +123,8 @@ impl Bridge {
 
 #[derive(Clone, Copy, PartialEq, Eq, Debug)]
 pub struct HalfLink {
+    /// Its port is out of service; a link with such a half is not usable.
+    pub down: bool,
     pub metric: u32,
     pub near: u16,
     pub far: u16,
@@ -113,13 +134,22 @@ pub struct HalfLink {
 
 impl HalfLink {
     pub fn words(&self) -> [u32; 3] {
-        [Kind::HalfLink.tag() | self.metric, pair(self.near, self.far), pair(self.port, self.link)]
+        let first = Kind::HalfLink.tag() | mark_bits(self.down) | self.metric;
+        [first, pair(self.near, self.far), pair(self.port, self.link)]
     }
 
-    fn read(part: &[u32]) -> HalfLink {
+    fn read(rules: Rules, part: &[u32]) -> HalfLink {
         let (near, far) = halves(part[1]);
         let (port, link) = halves(part[2]);
-        HalfLink { metric: part[0] & 0x00FF_FFFF, near, far, port, link }
+        let metric = if rules.has(Misreading::MetricWithMark) { 0x0FFF_FFFF } else { 0x00FF_FFFF };
+        HalfLink {
+            down: is_marked(rules, Misreading::DownAtBit26, part[0]),
+            metric: part[0] & metric,
+            near,
+            far,
+            port,
+            link,
+        }
     }
 
     /// Near and far bridge exchanged, and nothing else.
@@ -186,7 +216,7 @@ impl Record {
     pub fn read(rules: Rules, kind: Kind, part: &[u32]) -> Record {
         match kind {
             Kind::Bridge => Record::Bridge(Bridge::read(rules, part)),
-            Kind::HalfLink => Record::HalfLink(HalfLink::read(part)),
+            Kind::HalfLink => Record::HalfLink(HalfLink::read(rules, part)),
             Kind::Vid => Record::Vid(Vid::read(part)),
             Kind::Member => Record::Member(Member::read(part)),
             Kind::End => Record::End { count: part[0] & 0x0FFF_FFFF },

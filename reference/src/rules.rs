@@ -1,4 +1,4 @@
-//! The rules that the calls follow: those of document 01 with requests A1 and A2 of
+//! The rules that the calls follow: those of document 01 with requests A1 to A3 of
 //! document 02, or the same with one deliberate misreading, by which the tests are
 //! shown to notice it.
 
@@ -83,6 +83,33 @@ misreadings! {
     "bit 27 of a bridge is a zero bit" OverloadRefused: [Listing, Check, Calls, Services],
     "usable links of an overloaded bridge are not counted" OverloadedLinksUncounted: [Listing, Check],
     "SPsourceIDs repeat with equal overload only" RepeatWithOverload: [Listing, Check, Calls, Services],
+    // Ports out of service, request A3 of document 02. That a half-link that is down has
+    // metric 16,777,215 once its range was asked shows in no answer.
+    "the mark of a half-link is ignored" DownIgnored: [Listing, Check, Calls],
+    "a link is down where its near half is" DownAskedOfNear: [Listing, Check, Calls],
+    "a link is down where its far half is" DownAskedOfFar: [Listing, Check, Calls],
+    "a link is down where both its halves are" DownWhereBothAre: [Listing, Check, Calls],
+    "a link is down where one parallel to it is" DownTakesParallels: [Listing, Check, Calls],
+    "links that are down count as usable" DownLinksCounted: [Listing, Check],
+    "half-links that are down are not counted" DownHalfLinksUncounted: [Listing, Check],
+    "two bridges are not joined where their cheapest link is down" DownTakenFirst: [Listing, Calls],
+    "a hop keeps the cost of the cheapest link, though it is down" DownCostKept: [Listing, Calls],
+    "a hop keeps the port of the cheapest link, though it is down" DownPortKept: [Listing, Calls],
+    "a frame crosses a link that is down" FrameCrossesDown: [],
+    "down is bit 26" DownAtBit26: [Listing, Check, Calls, Services],
+    "bit 26 of a half-link is no zero bit" HalfLinkBit26Accepted: [Listing, Check, Calls, Services],
+    "bits 25 and 24 of a half-link are no zero bits" Bits25And24Accepted: [Listing, Check, Calls, Services],
+    "bit 27 of a half-link is a zero bit" DownRefused: [Listing, Check, Calls, Services],
+    "bit 27 of a half-link is part of its metric" MetricWithMark: [Listing, Check, Calls, Services],
+    "a half-link that is down has no zero bits" DownZeroBitsUnasked: [Listing, Check, Calls, Services],
+    "a half-link that is down is never one too many" DownBeyondLimit: [Listing, Check, Calls, Services],
+    "a half-link that is down may have any metric" DownMetricUnasked: [Listing, Check, Calls, Services],
+    "a half-link that is down may name any bridge" DownNamesUnasked: [Listing, Check, Calls, Services],
+    "a half-link that is down leaves its port free" DownFreesPort: [Listing, Check, Calls, Services],
+    "a half-link that is down repeats no port" DownTakesPort: [Listing, Check, Calls, Services],
+    "a half-link that is down leaves its link number free" DownFreesLinkNumber: [Listing, Check, Calls, Services],
+    "a half-link that is down may have any link number" DownTakesLinkNumber: [Listing, Check, Calls, Services],
+    "of a mirror and its half-link both are down or neither" MirrorsWithEqualMark: [Listing, Check, Calls, Services],
     // Calls.
     "12 is given before searching beyond one hop" TwelveBeforeSearching: [Listing, Calls],
     "13 though the answer just fits" ThirteenThoughItFits: [Calls, Services],
@@ -204,7 +231,7 @@ misreadings! {
 pub struct Rules(Option<Misreading>);
 
 impl Rules {
-    /// Document 01 with requests A1 and A2 of document 02, to the word.
+    /// Document 01 with requests A1 to A3 of document 02, to the word.
     pub const AS_WRITTEN: Rules = Rules(None);
 
     pub fn with(misreading: Misreading) -> Rules {

@@ -41,6 +41,16 @@ tests! {
     tables_without_overload_list_as_before
     overload_changes_no_count
     overload_takes_paths_away
+    diamond_with_ports_down
+    half_link_alone_down
+    parallel_links_with_ports_down
+    half_link_mark_alone_accepted
+    faulty_half_links_refused
+    tables_without_ports_down_list_as_before
+    half_links_down_list_as_withdrawn
+    parts_joined_by_links_down_alone
+    ports_down_take_paths_away
+    frames_lost_at_links_down
     masks_of_table_28_1
     fewer_bridges_first
     higher_fourth_bridge

@@ -23,7 +23,7 @@ fn plan([bridges, half_links, vids, members]: [u16; 4]) -> Plan {
     let half_link = |n: u16| {
         let (one, next) = (n / 2 % 64, (n / 2 + 1) % 64);
         let (near, far) = if n.is_multiple_of(2) { (one, next) } else { (next, one) };
-        HalfLink { metric: 10, near, far, port: n + 1, link: n / 2 + 1 }
+        HalfLink { down: false, metric: 10, near, far, port: n + 1, link: n / 2 + 1 }
     };
     let member = |n: u16| Member {
         transmits: true,
@@ -55,7 +55,8 @@ fn network<const LINKS: usize>(identifiers: &[u64], links: [(u16, u16, u32); LIN
         address,
     };
     let half_links = |(n, (one, other, metric)): (usize, (u16, u16, u32))| {
-        let half_link = |near, far, port| HalfLink { metric, near, far, port, link: n as u16 + 1 };
+        let link = n as u16 + 1;
+        let half_link = |near, far, port| HalfLink { down: false, metric, near, far, port, link };
         [half_link(one, other, 2 * n as u16 + 1), half_link(other, one, 2 * n as u16 + 2)]
     };
     let plan = Plan {

@@ -4,13 +4,16 @@
 use std::cmp::Ordering;
 use std::collections::BTreeMap;
 
+use reference::check::read;
 use reference::checked::Checked;
 use reference::generate::stream::case;
 use reference::links::Network;
 use reference::rank::Path;
 use reference::records::{Kind, Member, Plan, UNUSABLE_METRIC};
+use reference::refusal::Refusal;
 use reference::rules::{Misreading, Rules};
 use reference::search::for_each_simple_path;
+use reference::words::words_of;
 
 const SEED: u64 = 1;
 const CASES: u64 = 4_000;
@@ -65,10 +68,31 @@ fn sorts() -> Vec<Sort> {
         ("64 bridges, some overloaded", |plan| {
             plan.bridges.len() == 64 && (1..64).contains(&overloaded(plan))
         }),
-        ("path around an overloaded bridge", |plan| is_changed_by_overload(plan, true)),
-        ("12 by an overloaded bridge", |plan| is_changed_by_overload(plan, false)),
+        ("path around an overloaded bridge", |plan| is_changed_by(plan, Misreading::OverloadIgnored, true)),
+        ("12 by an overloaded bridge", |plan| is_changed_by(plan, Misreading::OverloadIgnored, false)),
         ("two overloaded bridges that are joined", has_overloaded_pair),
         ("overloaded transmitter with a receiver", has_overloaded_transmitter),
+        ("no half-link down", |plan| !plan.half_links.is_empty() && down(plan) == 0),
+        ("one half-link down", |plan| down(plan) == 1),
+        ("one half of a link down", |plan| has_link_with_down(plan, 2, 1)),
+        ("both halves of a link down", |plan| has_link_with_down(plan, 2, 2)),
+        ("half-link alone that is down", |plan| has_link_with_down(plan, 1, 1)),
+        ("all half-links down", |plan| down(plan) > 0 && down(plan) == plan.half_links.len()),
+        ("64 bridges, some half-links down", |plan| {
+            plan.bridges.len() == 64 && (1..plan.half_links.len()).contains(&down(plan))
+        }),
+        ("overloaded bridge and half-link down", |plan| overloaded(plan) > 0 && down(plan) > 0),
+        ("unusable metric of a half-link down", |plan| {
+            plan.half_links.iter().any(|half| half.down && half.metric == UNUSABLE_METRIC)
+        }),
+        ("parallel link for one that is down", |plan| has_parallel_for_down(plan, true)),
+        ("cost of another parallel link", |plan| has_parallel_for_down(plan, false)),
+        ("path around a link that is down", |plan| {
+            down(plan) > 0 && is_changed_by(plan, Misreading::DownIgnored, true)
+        }),
+        ("12 by links that are down", |plan| {
+            down(plan) > 0 && is_changed_by(plan, Misreading::DownIgnored, false)
+        }),
         ("tie of cost and hops", |plan| has_tie(plan, true)),
         ("tie of cost with other hops", |plan| has_tie(plan, false)),
     ]
@@ -103,9 +127,10 @@ fn overloaded(plan: &Plan) -> usize {
     plan.bridges.iter().filter(|bridge| bridge.overloaded).count()
 }
 
-/// Whether some chosen path differs from the one without overload, or is none now.
-fn is_changed_by_overload(plan: &Plan, is_left: bool) -> bool {
-    let [now, before] = [Rules::AS_WRITTEN, Rules::with(Misreading::OverloadIgnored)]
+/// Whether some chosen path differs from the one that there is where the marks are
+/// ignored, or is none now.
+fn is_changed_by(plan: &Plan, ignored: Misreading, is_left: bool) -> bool {
+    let [now, before] = [Rules::AS_WRITTEN, Rules::with(ignored)]
         .map(|rules| Checked::new(rules, &plan.bytes()).expect("the plan is valid"));
     (0..plan.bridges.len().min(MOST_BRIDGES)).any(|from| {
         let (now, before) = (now.paths_from(1, from), before.paths_from(1, from));
@@ -129,6 +154,30 @@ fn has_overloaded_transmitter(plan: &Plan) -> bool {
                 && (other.service, other.vid) == (one.service, one.vid)
         };
         members.iter().any(receives)
+    })
+}
+
+fn down(plan: &Plan) -> usize {
+    plan.half_links.iter().filter(|half| half.down).count()
+}
+
+/// Whether so many of the half-links of a link that has so many are down.
+fn has_link_with_down(plan: &Plan, of_link: usize, down: usize) -> bool {
+    let halves = &plan.half_links;
+    let marked = |link: u16| halves.iter().filter(|half| half.link == link && half.down).count();
+    halves.iter().any(|half| mates(plan, half.link) == of_link && marked(half.link) == down)
+}
+
+/// Whether two bridges take another link than they would if none were down, of equal
+/// cost or not.
+fn has_parallel_for_down(plan: &Plan, equal_cost: bool) -> bool {
+    let [now, before] =
+        [Rules::AS_WRITTEN, Rules::with(Misreading::DownIgnored)].map(|rules| Network::of(rules, plan));
+    (0..now.size).any(|from| {
+        now.neighbours(from).any(|(to, hop)| {
+            let cheapest = before.hop(from, to).expect("bridges that are joined were before");
+            hop.link != cheapest.link && (hop.cost == cheapest.cost) == equal_cost
+        })
     })
 }
 
@@ -156,12 +205,46 @@ fn has_tie(plan: &Plan, equal_hops: bool) -> bool {
 #[test]
 fn every_sort_of_valid_plan_is_made() {
     let valid = (0..CASES).map(|number| case(SEED, number)).filter(|case| case.expected.is_ok());
-    let plans: Vec<Plan> = valid
-        .map(|case| reference::check::read(Rules::AS_WRITTEN, &case.table).expect("the case is valid"))
-        .collect();
+    let plans: Vec<Plan> =
+        valid.map(|case| read(Rules::AS_WRITTEN, &case.table).expect("the case is valid")).collect();
     for (name, has) in sorts() {
         let made = plans.iter().filter(|plan| has(plan)).count();
         println!("{name}: {made} of {} plans", plans.len());
         assert!(made > 0, "no plan has: {name}");
+    }
+}
+
+/// The damaged tables that are refused for a half-link.
+fn refused_for_half_links() -> Vec<(Vec<u8>, Refusal)> {
+    let cases = (0..CASES).map(|number| case(SEED, number));
+    let refused = cases.filter_map(|case| Some((case.table, case.expected.err()?)));
+    refused.filter(|(_, refusal)| refusal.kind == Some(Kind::HalfLink)).collect()
+}
+
+#[test]
+fn every_fault_of_a_half_link_comes_with_and_without_the_mark() {
+    let mut made: BTreeMap<(u32, u32), u64> = BTreeMap::new();
+    for (table, refusal) in refused_for_half_links() {
+        let bits = words_of(&table)[refusal.word] >> 24 & 0xF;
+        *made.entry((refusal.number, bits)).or_default() += 1;
+    }
+    println!("tables by refusal and bits 27..24 of the half-link: {made:?}");
+    let zero_bits = [1, 2, 4].into_iter().flat_map(|bit| [(4, bit), (4, 8 | bit)]);
+    let others = [5, 6, 7, 8, 9].into_iter().flat_map(|number| [(number, 0), (number, 8)]);
+    for wanted in zero_bits.chain(others) {
+        assert!(made.contains_key(&wanted), "no table has refusal and bits {wanted:?}");
+    }
+}
+
+#[test]
+fn ports_and_link_numbers_of_half_links_that_are_down_are_repeated() {
+    let refused = refused_for_half_links();
+    for (number, frees) in [(8, Misreading::DownFreesPort), (9, Misreading::DownFreesLinkNumber)] {
+        let is_by_down = |(table, refusal): &&(Vec<u8>, Refusal)| {
+            refusal.number == number && read(Rules::with(frees), table).err() != Some(*refusal)
+        };
+        let made = refused.iter().filter(is_by_down).count();
+        println!("{number} by a half-link that is down: {made} tables");
+        assert!(made > 0, "no table has {number} by a half-link that is down");
     }
 }

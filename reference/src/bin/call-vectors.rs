@@ -16,7 +16,7 @@ use reference::generate::questions::questions;
 use reference::generate::valid::{plan, Size};
 use reference::properties::fixture::{diamond, overloaded};
 use reference::random::Random;
-use reference::records::{Member, Plan, BELOW_OVERLOAD_BIT};
+use reference::records::{Member, Plan, BELOW_MARK_BIT};
 use reference::rules::Rules;
 use reference::words::{bytes_of, from_text};
 
@@ -65,7 +65,7 @@ fn overloaded_diamonds() -> Vec<(Vec<u8>, Vec<Question>)> {
     let choices: [&[usize]; 6] = [&[], &[1], &[0, 1], &[1, 2], &[0, 3], &[0, 1, 2, 3]];
     let plans = choices.map(|bridges| overloaded(diamond_of_service(), bridges));
     let mut faulty = plans[1].words();
-    faulty[0] |= BELOW_OVERLOAD_BIT;
+    faulty[0] |= BELOW_MARK_BIT;
     let questions = every_question(&plans[0]);
     let tables = plans.iter().map(Plan::bytes).chain([bytes_of(&faulty)]);
     tables.map(|table| (table, questions.clone())).collect()

@@ -15,7 +15,7 @@ use reference::comparing::stored;
 use reference::generate::damage::{edited_once, over_limit, truncations, words_after_end, Damaged};
 use reference::generate::valid::{plan as seeded_plan, Size};
 use reference::random::Random;
-use reference::records::{Kind, BELOW_OVERLOAD_BIT, OVERLOAD_BIT};
+use reference::records::{Kind, BELOW_MARK_BIT, MARK_BIT};
 use reference::rules::Rules;
 use reference::words::{bytes_of, from_text, words_of};
 
@@ -52,10 +52,10 @@ fn tables() -> Vec<Vec<u8>> {
 /// in the first words of its bridges.
 fn worked_with_bits(worked: &[u8]) -> Vec<Vec<u8>> {
     let zero_bits = (0..32).map(|bit| 1 << bit).filter(|bit| Kind::Bridge.zero_bits() & bit != 0);
-    let mut bits = vec![[OVERLOAD_BIT, 0], [0, OVERLOAD_BIT], [OVERLOAD_BIT, OVERLOAD_BIT]];
+    let mut bits = vec![[MARK_BIT, 0], [0, MARK_BIT], [MARK_BIT, MARK_BIT]];
     bits.extend(zero_bits.map(|bit| [0, bit]));
-    bits.push([OVERLOAD_BIT | BELOW_OVERLOAD_BIT, 0]);
-    bits.push([OVERLOAD_BIT, OVERLOAD_BIT | BELOW_OVERLOAD_BIT]);
+    bits.push([MARK_BIT | BELOW_MARK_BIT, 0]);
+    bits.push([MARK_BIT, MARK_BIT | BELOW_MARK_BIT]);
     let with_bits = |[first, second]: [u32; 2]| {
         let mut words = words_of(worked);
         words[0] |= first;

@@ -8,7 +8,7 @@ use super::shapes::Shape;
 use super::valid::{full_network, fullest, plan, Size};
 use crate::check::LONGEST_TABLE;
 use crate::random::Random;
-use crate::records::{HalfLink, Kind, Member, Plan, Vid, OVERLOAD_BIT};
+use crate::records::{HalfLink, Kind, Member, Plan, Vid, MARK_BIT};
 use crate::refusal::Refusal;
 use crate::words::bytes_of;
 
@@ -105,12 +105,16 @@ pub fn edited_once(plan: &Plan) -> Vec<Damaged> {
     edits(plan).iter().map(damaged).collect()
 }
 
-/// An edit of a refusal number that is drawn first, so that rare ones come too.
+/// An edit of a refusal number and a kind that are drawn first, so that rare ones come
+/// too.
 fn pick_edit<'a>(edits: &'a [Edit], random: &mut Random) -> &'a Edit {
     let numbers: BTreeSet<u32> = edits.iter().map(|edit| edit.refusal.number).collect();
     let number = *random.pick(&Vec::from_iter(numbers));
     let of_number: Vec<&Edit> = edits.iter().filter(|edit| edit.refusal.number == number).collect();
-    of_number[random.below(of_number.len())]
+    let kinds: BTreeSet<Kind> = of_number.iter().map(|edit| edit.kind).collect();
+    let kind = *random.pick(&Vec::from_iter(kinds));
+    let of_kind: Vec<&Edit> = of_number.into_iter().filter(|edit| edit.kind == kind).collect();
+    of_kind[random.below(of_kind.len())]
 }
 
 /// One or two edits. Of two faulty records the first counts; of one record's
@@ -172,8 +176,8 @@ fn one_over(kind: Kind, random: &mut Random) -> Vec<Damaged> {
         let lowest_zero_bit = 1 << kind.zero_bits().trailing_zeros();
         family.push(with("one over the limit, zero bit", &|record| record[0] |= lowest_zero_bit, 4));
     }
-    if kind == Kind::Bridge {
-        family.push(with("one over the limit, overloaded", &|record| record[0] |= OVERLOAD_BIT, 5));
+    if kind.has_mark() {
+        family.push(with("one over the limit, marked", &|record| record[0] |= MARK_BIT, 5));
     }
     family
 }
@@ -190,7 +194,8 @@ fn plan_with_one_over(kind: Kind, random: &mut Random) -> Plan {
     plan.bridges = full_network(Shape::Ring, bridges, random).bridges;
     match kind {
         Kind::HalfLink => {
-            plan.half_links.push(HalfLink { metric: 1, near: 0, far: 1, port: 4_095, link: 65_535 })
+            let last = HalfLink { down: false, metric: 1, near: 0, far: 1, port: 4_095, link: 65_535 };
+            plan.half_links.push(last)
         }
         Kind::Vid => plan.vids = (1..=17).map(|number| Vid { vid: number, index: 1 }).collect(),
         Kind::Member => {

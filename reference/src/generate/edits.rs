@@ -1,7 +1,7 @@
 //! Edits of one record of a valid plan that make it faulty, each with the refusal
 //! that it leads to. Every record, field and limit of a range is edited.
 
-use crate::records::{Bridge, HalfLink, Kind, Member, Plan, Vid, GROUP_BIT, OVERLOAD_BIT};
+use crate::records::{Bridge, HalfLink, Kind, Member, Plan, Vid, GROUP_BIT, MARK_BIT};
 use crate::refusal::Refusal;
 
 /// A record of a plan: its kind, its number among its kind, its first word.
@@ -81,10 +81,22 @@ struct Editor<'a> {
 
 impl Editor<'_> {
     fn add(&mut self, name: &'static str, number: u32, record: &[u32]) {
+        self.add_with_earlier(name, number, record, &[]);
+    }
+
+    /// Adds an edit that also changes the words at places before the record.
+    fn add_with_earlier(
+        &mut self,
+        name: &'static str,
+        number: u32,
+        record: &[u32],
+        earlier: &[(usize, u32)],
+    ) {
         let Place { kind, first, .. } = self.place;
         let new = record.iter().enumerate().map(|(offset, &word)| (first + offset, word));
-        let changes: Vec<_> = new.filter(|&(place, word)| self.words[place] != word).collect();
+        let mut changes: Vec<_> = new.filter(|&(place, word)| self.words[place] != word).collect();
         assert!(!changes.is_empty(), "edit '{name}' changes the record");
+        changes.extend(earlier);
         let concerned = if number == 2 { None } else { Some(kind) };
         let refusal = Refusal { number, kind: concerned, word: first };
         self.edits.push(Edit { name, kind, first, refusal, changes });
@@ -107,15 +119,15 @@ impl Editor<'_> {
         }
     }
 
-    /// Every zero bit alone, and one with the rest of its word zero; of a bridge also
-    /// beside the overload bit.
+    /// Every zero bit alone, and one with the rest of its word zero; of a kind that has
+    /// a mark also with the other mark.
     fn edit_zero_bits(&mut self) {
         let zero_bits = self.place.kind.zero_bits();
         for bit in (0..32).map(|bit| 1 << bit).filter(|bit| zero_bits & bit != 0) {
             self.add("zero bit set", 4, &[self.first_word() | bit]);
             self.add("zero bit set, field zero", 4, &[self.place.kind.tag() | bit]);
-            if self.place.kind == Kind::Bridge {
-                self.add("zero bit set, overloaded", 4, &[self.first_word() | OVERLOAD_BIT | bit]);
+            if self.place.kind.has_mark() {
+                self.add("zero bit set, other mark", 4, &[self.first_word() ^ MARK_BIT | bit]);
             }
         }
     }
@@ -160,7 +172,9 @@ impl Editor<'_> {
     fn edit_half_link(&mut self) {
         let half = self.plan.half_links[self.place.number];
         let unknown = self.plan.bridges.len() as u16;
-        self.add("metric 0", 6, &HalfLink { metric: 0, ..half }.words());
+        for down in [false, true] {
+            self.add("metric 0", 6, &HalfLink { down, metric: 0, ..half }.words());
+        }
         for port in [0, 4_096, 65_535] {
             self.add("port out of range", 6, &HalfLink { port, ..half }.words());
         }
@@ -172,36 +186,48 @@ impl Editor<'_> {
         self.add("near bridge is far bridge", 7, &HalfLink { near: half.far, ..half }.words());
         self.add("far bridge is near bridge", 7, &HalfLink { far: half.near, ..half }.words());
         for place in self.earlier() {
-            self.repeat_port(half, self.plan.half_links[place]);
-            self.take_link_number(half, self.plan.half_links[place]);
+            self.repeat_port(half, place);
+            self.take_link_number(half, self.plan.half_links[place].link);
         }
         self.unmake_mirror(half);
     }
 
-    fn repeat_port(&mut self, half: HalfLink, earlier: HalfLink) {
-        if earlier.near != half.far {
-            self.add(
-                "near bridge with port repeated",
-                8,
-                &HalfLink { near: earlier.near, port: earlier.port, ..half }.words(),
-            );
+    /// An edit that takes what earlier half-links have, whether it is down or they are:
+    /// as it is, with its own other mark, and with their other marks.
+    fn add_with_marks(&mut self, name: &'static str, number: u32, half: HalfLink, earlier: &[usize]) {
+        self.add(name, number, &half.words());
+        self.add(name, number, &HalfLink { down: !half.down, ..half }.words());
+        let Place { number: own, first, .. } = self.place;
+        let first_word = |place: usize| first - (own - place) * Kind::HalfLink.words();
+        let other_mark = |&place: &usize| (first_word(place), self.words[first_word(place)] ^ MARK_BIT);
+        let other_marks: Vec<_> = earlier.iter().map(other_mark).collect();
+        self.add_with_earlier(name, number, &half.words(), &other_marks);
+    }
+
+    fn repeat_port(&mut self, half: HalfLink, place: usize) {
+        let HalfLink { near, port, .. } = self.plan.half_links[place];
+        if near != half.far {
+            let repeat = HalfLink { near, port, ..half };
+            self.add_with_marks("near bridge with port repeated", 8, repeat, &[place]);
         }
     }
 
-    fn earlier_of_link(&self, link: u16) -> Vec<HalfLink> {
-        let earlier = &self.plan.half_links[..self.place.number];
-        earlier.iter().filter(|half| half.link == link).copied().collect()
+    /// The places of the earlier half-links of a link number.
+    fn earlier_of_link(&self, link: u16) -> Vec<usize> {
+        let of_link = |&place: &usize| self.plan.half_links[place].link == link;
+        (0..self.place.number).filter(of_link).collect()
     }
 
-    fn take_link_number(&mut self, half: HalfLink, earlier: HalfLink) {
-        let HalfLink { link, .. } = earlier;
+    fn take_link_number(&mut self, half: HalfLink, link: u16) {
         if link == half.link {
             return;
         }
-        match self.earlier_of_link(link)[..] {
-            [_, _] => self.add("third half-link", 9, &HalfLink { link, ..half }.words()),
-            [first] if !half.mirrors(&first) => {
-                self.add("no mirror by link number", 9, &HalfLink { link, ..half }.words())
+        let earlier = self.earlier_of_link(link);
+        let other = HalfLink { link, ..half };
+        match earlier[..] {
+            [_, _] => self.add_with_marks("third half-link", 9, other, &earlier),
+            [first] if !half.mirrors(&self.plan.half_links[first]) => {
+                self.add_with_marks("no mirror by link number", 9, other, &earlier)
             }
             _ => {}
         }
@@ -209,22 +235,20 @@ impl Editor<'_> {
 
     /// A second half-link with another far bridge, or in the first one's direction.
     fn unmake_mirror(&mut self, half: HalfLink) {
-        if self.earlier_of_link(half.link).is_empty() {
+        let earlier = self.earlier_of_link(half.link);
+        if earlier.is_empty() {
             return;
         }
         let bridges = self.plan.bridges.len() as u16;
         if let Some(far) = (0..bridges).find(|&bridge| bridge != half.near && bridge != half.far) {
-            self.add("no mirror by far bridge", 9, &HalfLink { far, ..half }.words());
+            self.add_with_marks("no mirror by far bridge", 9, HalfLink { far, ..half }, &earlier);
         }
         let is_free = |port: &u16| {
             !self.plan.half_links.iter().any(|other| (other.near, other.port) == (half.far, *port))
         };
         if let Some(port) = (1..=4_095).find(is_free) {
-            self.add(
-                "no mirror by direction",
-                9,
-                &HalfLink { near: half.far, far: half.near, port, ..half }.words(),
-            );
+            let back = HalfLink { near: half.far, far: half.near, port, ..half };
+            self.add_with_marks("no mirror by direction", 9, back, &earlier);
         }
     }
 

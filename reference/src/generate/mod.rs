@@ -4,6 +4,7 @@
 pub mod damage;
 pub mod edits;
 pub mod every;
+mod ports_down;
 pub mod questions;
 pub mod service_plans;
 pub mod service_questions;

@@ -1,9 +1,11 @@
 //! Valid plans of every shape: ties, parallel links, asymmetric and unusable
 //! metrics, lone half-links, parts that are apart, equal and varied priorities,
-//! overloaded bridges, largest sizes, and the star that reaches the longest entry list.
+//! overloaded bridges, half-links that are down, largest sizes, and the star that
+//! reaches the longest entry list.
 
 use std::collections::BTreeSet;
 
+use super::ports_down::with_ports_down;
 use super::shapes::Shape;
 use crate::random::Random;
 use crate::records::{
@@ -48,13 +50,20 @@ pub fn plan_of_shape(shape: Shape, size: Size, random: &mut Random) -> Plan {
     let half_links = half_links(&pairs, random);
     let vids = vids(size.vids, random);
     let members = members(size, &vids, random);
-    with_overload(Plan { bridges, half_links, vids, members }, random)
+    with_marks(Plan { bridges, half_links, vids, members }, random)
+}
+
+/// The plan with overloaded bridges and half-links that are down, drawn from a source
+/// of their own.
+fn with_marks(plan: Plan, random: &Random) -> Plan {
+    let mut beside = random.beside();
+    let plan = with_overload(plan, &mut beside);
+    with_ports_down(plan, &mut beside)
 }
 
 /// The plan with overloaded bridges: none in a third of the plans, else one, one in
 /// four, every other one, or all.
-fn with_overload(mut plan: Plan, random: &Random) -> Plan {
-    let mut random = random.beside();
+fn with_overload(mut plan: Plan, random: &mut Random) -> Plan {
     let bridges = &mut plan.bridges;
     if bridges.is_empty() {
         return plan;
@@ -188,8 +197,9 @@ fn half_links(pairs: &[(usize, usize)], random: &mut Random) -> Vec<HalfLink> {
         let (near, far) = (from as u16, to as u16);
         let link = link as u16;
         let [here, there] = [ports.next(from, random), ports.next(to, random)];
-        list.push(HalfLink { metric: metrics[0], near, far, port: here, link });
-        list.push(HalfLink { metric: metrics[1], near: far, far: near, port: there, link });
+        let outward = HalfLink { down: false, metric: metrics[0], near, far, port: here, link };
+        list.push(outward);
+        list.push(HalfLink { metric: metrics[1], near: far, far: near, port: there, ..outward });
     }
     withdraw_some(&mut list, random);
     if random.one_in(2) {
@@ -269,7 +279,7 @@ pub fn longest_star() -> Plan {
         address: 0x0200_0000_0001 + u64::from(number),
     };
     let ends = |leaf: u16| {
-        let outward = HalfLink { metric: 10, near: 0, far: leaf, port: leaf, link: leaf };
+        let outward = HalfLink { down: false, metric: 10, near: 0, far: leaf, port: leaf, link: leaf };
         [outward, HalfLink { near: leaf, far: 0, port: 1, ..outward }]
     };
     let member = |bridge: u16| Member { transmits: true, receives: true, service: 256, bridge, vid: 1 };
@@ -281,12 +291,12 @@ pub fn longest_star() -> Plan {
     }
 }
 
-/// A table of the greatest length, full in every kind. It may have overloaded
-/// bridges, which the tables that the benchmark measures have not.
+/// A table of the greatest length, full in every kind. It may have overloaded bridges
+/// and half-links that are down, which the tables that the benchmark measures have not.
 pub fn fullest(random: &mut Random) -> Plan {
     let shape = *random.pick(&Shape::MEASURED);
     let plan = fullest_of_shape(shape, Kind::Bridge.limit(), random);
-    with_overload(plan, random)
+    with_marks(plan, random)
 }
 
 /// A full network with all 16 VIDs and a member for each bridge.
@@ -319,8 +329,9 @@ pub fn full_network(shape: Shape, size: usize, random: &mut Random) -> Plan {
     for (place, &(from, to)) in pairs.iter().enumerate() {
         let (near, far, link) = (from as u16, to as u16, place as u16 + 1);
         let metric = random.between(1, 3) as u32;
-        half_links.push(HalfLink { metric, near, far, port: ports.next(from, random), link });
-        half_links.push(HalfLink { metric, near: far, far: near, port: ports.next(to, random), link });
+        let outward = HalfLink { down: false, metric, near, far, port: ports.next(from, random), link };
+        half_links.push(outward);
+        half_links.push(HalfLink { near: far, far: near, port: ports.next(to, random), ..outward });
     }
     Plan {
         bridges: bridges(size, random),

@@ -7,6 +7,7 @@ use crate::generate::valid::{plan, Size};
 use crate::links::Network;
 use crate::path::{exported_check, exported_path_cost, path, REFUSED};
 use crate::random::Random;
+use crate::rank::Path;
 use crate::records::Plan;
 use crate::rules::Rules;
 use crate::search::chosen_path;
@@ -34,8 +35,38 @@ pub(super) fn every_pair(plan: &Plan) -> Vec<(usize, usize)> {
     (0..size).flat_map(|from| (0..size).map(move |to| (from, to))).collect()
 }
 
-fn refused(refusal: crate::refusal::Refusal) -> String {
+pub(super) fn refused(refusal: crate::refusal::Refusal) -> String {
     format!("a valid table is refused: {refusal:?}")
+}
+
+/// A path of a plan whose records have marks.
+pub(super) struct MarkedPath<'a> {
+    pub plan: &'a Plan,
+    /// The table without the marks, as written.
+    pub before: &'a Checked,
+    /// The chosen path there, by brute force.
+    pub taken: Option<Path>,
+    /// The path with the marks, under the rules tried.
+    pub found: Option<Path>,
+}
+
+/// Runs a test for the paths of index 1 in small plans.
+pub(super) fn for_marked_paths(
+    setting: &Setting,
+    unmarked: &dyn Fn(Plan) -> Plan,
+    test: &dyn Fn(MarkedPath) -> Outcome,
+) -> Outcome {
+    for_small_plans(setting, 7, &|plan, table| {
+        let now = Checked::new(setting.rules, table).map_err(refused)?;
+        let before = Checked::new(Rules::AS_WRITTEN, &unmarked(plan.clone()).bytes()).map_err(refused)?;
+        for (from, to) in every_pair(plan) {
+            let taken = chosen_path(&before.ranking(1), from, to);
+            let found = now.paths_from(1, from)[to].clone();
+            let outcome = test(MarkedPath { plan, before: &before, taken, found });
+            outcome.map_err(|why| format!("from {from} to {to}: {why}"))?;
+        }
+        Ok(())
+    })
 }
 
 /// Label correcting under the rules tried against brute force as written.

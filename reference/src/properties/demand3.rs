@@ -5,6 +5,7 @@
 use std::cmp::Ordering;
 use std::collections::BTreeSet;
 
+use super::fixture::is_usable;
 use super::{ensure, equal, with_table, Outcome, Setting};
 use crate::checked::Checked;
 use crate::entries::{entries, GROUP, INDIVIDUAL, LONGEST_LIST};
@@ -13,7 +14,7 @@ use crate::generate::valid::{fullest, longest_star, plan as random_plan, Size};
 use crate::path::{named_path, path};
 use crate::random::Random;
 use crate::rank::{Path, Ranking};
-use crate::records::{HalfLink, Member, Plan, Vid, UNUSABLE_METRIC};
+use crate::records::{HalfLink, Member, Plan, Vid};
 use crate::refusal::Refusal;
 use crate::rules::Rules;
 use crate::search::{for_each_path_up_to, for_each_simple_path};
@@ -65,7 +66,7 @@ fn verify(setting: &Setting, plan: &Plan, table: &[u8]) -> Outcome {
     let tried = Checked::new(setting.rules, table).map_err(refused)?;
     let written = Checked::new(Rules::AS_WRITTEN, table).map_err(refused)?;
     let lists = written_lists(setting, plan, table)?;
-    let forwarding = Forwarding::new(plan, &lists);
+    let forwarding = Forwarding::new(Rules::AS_WRITTEN, plan, &lists);
     let joined = Joined::of(plan);
     for vid in &plan.vids {
         let ranking = written.ranking(vid.index);
@@ -86,7 +87,7 @@ fn verify(setting: &Setting, plan: &Plan, table: &[u8]) -> Outcome {
 
 /// The words that the entries call writes for each bridge, into lists that hold
 /// the greatest number; the words past them keep their contents.
-fn written_lists(setting: &Setting, plan: &Plan, table: &[u8]) -> Result<Vec<Vec<u32>>, String> {
+pub(super) fn written_lists(setting: &Setting, plan: &Plan, table: &[u8]) -> Result<Vec<Vec<u32>>, String> {
     const OLD: u32 = 0xA5A5_A5A5;
     let mut lists = Vec::new();
     for bridge in 0..plan.bridges.len() {
@@ -141,10 +142,10 @@ fn usable_ends(plan: &Plan) -> BTreeSet<(usize, usize)> {
     let halves = &plan.half_links;
     let makes_link = |near: &HalfLink, far: &HalfLink| {
         let mirrored = near.link == far.link && near.near == far.far && near.far == far.near;
-        mirrored && near.metric < UNUSABLE_METRIC && far.metric < UNUSABLE_METRIC
+        mirrored && is_usable(near) && is_usable(far)
     };
-    let is_usable = |near: &&HalfLink| halves.iter().any(|far| makes_link(near, far));
-    halves.iter().filter(is_usable).map(|near| (usize::from(near.near), usize::from(near.far))).collect()
+    let is_of_link = |near: &&HalfLink| halves.iter().any(|far| makes_link(near, far));
+    halves.iter().filter(is_of_link).map(|near| (usize::from(near.near), usize::from(near.far))).collect()
 }
 
 /// What demand 3 says of one VID of a table.

@@ -1,13 +1,14 @@
 //! Every figure under "Diamonds and other figures" of document 01, and the
 //! greatest sizes that it names.
 
-use super::fixture::{diamond as diamond_plan, ends, link, numbered_plan, plan, route, FixedLink};
+use super::fixture::{
+    diamond as diamond_plan, down, ends, link, links_7_and_9, numbered_plan, plan, port_taken, route,
+};
 use super::{ensure, equal, Outcome, Setting};
 use crate::check::{check, Counts, LONGEST_TABLE};
 use crate::entries::{entries, LONGEST_LIST};
 use crate::generate::shapes::Shape;
 use crate::generate::valid::{full_network, fullest, longest_star};
-use crate::lookup::lookup;
 use crate::path::{exported_check, exported_path_cost, path, PathAnswer};
 use crate::random::Random;
 use crate::records::{Kind, Plan, GREATEST_USABLE_METRIC, UNUSABLE_METRIC};
@@ -57,22 +58,13 @@ pub fn six_bridges(setting: &Setting) -> Outcome {
     goes(setting, &plan(&ends([1, 5, 2, 9, 3, 4]), &links), 1, &[0, 1, 2, 3], 30)
 }
 
-/// The port of bridge 0's entry for bridge 1 tells which link the hop takes.
-fn port_taken(setting: &Setting, links: &[FixedLink], numbers: &[u16]) -> Result<Option<u16>, String> {
-    let plan = numbered_plan(&ends([1, 2]), links, numbers);
-    let mut list = vec![0; LONGEST_LIST];
-    let refused = |refusal| format!("refused: {refusal:?}");
-    let written = entries(setting.rules, &plan.bytes(), 0, &mut list).map_err(refused)?;
-    lookup(setting.rules, &list[..written], 1, plan.bridges[1].address, 0).map_err(refused)
-}
-
 /// Links 7 and 9, in both orders of their records.
 pub fn parallel_links(setting: &Setting) -> Outcome {
-    let equals = [link(0, 1, 10), link(0, 1, 10)];
-    equal("link 7 on port 1", port_taken(setting, &equals, &[7, 9])?, Some(1))?;
-    equal("link 7 on port 2", port_taken(setting, &equals, &[9, 7])?, Some(2))?;
-    let cheaper = [link(0, 1, 12), link(0, 1, 10)];
-    equal("link 9 of cost 10 on port 2", port_taken(setting, &cheaper, &[7, 9])?, Some(2))
+    let port = |plan: &Plan| port_taken(setting.rules, plan, 0, 1);
+    equal("link 7 on port 1", port(&links_7_and_9([10, 10])), Ok(Some(1)))?;
+    let exchanged = numbered_plan(&ends([1, 2]), &[link(0, 1, 10), link(0, 1, 10)], &[9, 7]);
+    equal("link 7 on port 2", port(&exchanged), Ok(Some(2)))?;
+    equal("link 9 of cost 10 on port 2", port(&links_7_and_9([12, 10])), Ok(Some(2)))
 }
 
 pub fn metric_ends(setting: &Setting) -> Outcome {
@@ -119,7 +111,7 @@ pub fn places_for_two_hops(setting: &Setting) -> Outcome {
 
 /// 7,492 bytes are accepted; one word more is 1, whatever it holds.
 pub fn longest_table(setting: &Setting) -> Outcome {
-    let mut table = fullest(&mut Random::new(setting.seed)).bytes();
+    let mut table = down(fullest(&mut Random::new(setting.seed)), &[]).bytes();
     equal("length", table.len(), LONGEST_TABLE)?;
     let counts = Counts { bridges: 64, half_links: 512, usable_links: 256, vids: 16, members: 64 };
     equal("fullest", check(setting.rules, &table), Ok(counts))?;

@@ -4,13 +4,14 @@
 use super::agreement::for_small_plans;
 use super::fixture::{ends, plan as fixed_plan};
 use super::{ensure, equal, Outcome, Setting};
-use crate::check::check;
+use crate::check::{check, read};
 use crate::entries::{entries, LONGEST_LIST};
 use crate::listing::listing;
 use crate::lookup::decoded;
 use crate::path::path;
 use crate::records::{Plan, Vid};
 use crate::refusal::Refusal;
+use crate::rules::{Misreading, Rules};
 use crate::words::from_text;
 
 pub(super) const WORKED_TABLE: &str = "10000001 80000200 00000001 10000002 80000200 00000002 \
@@ -25,6 +26,24 @@ entry 0 10 1 020000000002
 entry 0 10 1 030001000100
 entry 1 10 2 020000000001
 ";
+
+pub(super) fn worked_plan() -> Result<Plan, String> {
+    let read = read(Rules::AS_WRITTEN, &from_text(WORKED_TABLE)?);
+    read.map_err(|refusal| format!("the worked table is refused: {refusal:?}"))
+}
+
+/// Small plans without a mark list as by the rules that do not know it.
+pub(super) fn unmarked_list_as_before(
+    setting: &Setting,
+    ignored: Misreading,
+    unmarked: &dyn Fn(Plan) -> Plan,
+) -> Outcome {
+    let before = Rules::with(ignored);
+    for_small_plans(setting, 7, &|plan, _| {
+        let table = unmarked(plan.clone()).bytes();
+        equal("listing", listing(setting.rules, &table), listing(before, &table))
+    })
+}
 
 pub fn worked_listing(setting: &Setting) -> Outcome {
     equal("listing", listing(setting.rules, &from_text(WORKED_TABLE)?), WORKED_LISTING.to_string())

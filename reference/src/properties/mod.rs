@@ -9,6 +9,7 @@ pub mod fixture;
 pub mod listings;
 pub mod lookups;
 pub mod overload;
+pub mod ports_down;
 pub mod services_read;
 pub mod services_written;
 pub mod standard;
@@ -50,6 +51,10 @@ properties! {
         exported_figures;
     overload: overloaded_diamond, overloaded_bridge_between, overload_bit_alone_accepted,
         tables_without_overload_list_as_before, overload_changes_no_count, overload_takes_paths_away;
+    ports_down: diamond_with_ports_down, half_link_alone_down, parallel_links_with_ports_down,
+        half_link_mark_alone_accepted, faulty_half_links_refused, tables_without_ports_down_list_as_before,
+        half_links_down_list_as_withdrawn, parts_joined_by_links_down_alone, ports_down_take_paths_away,
+        frames_lost_at_links_down;
     standard: masks_of_table_28_1, fewer_bridges_first, higher_fourth_bridge, complement_is_not_greatest,
         equal_priorities, group_addresses;
     tables: every_edit_refused, every_truncation_refused, wrong_lengths_refused, words_after_end_refused,

@@ -3,36 +3,18 @@
 
 use std::cmp::Ordering;
 
-use super::agreement::{every_pair, for_small_plans};
-use super::fixture::{diamond, ends, link, overloaded, plan as fixed_plan, route};
-use super::listings::{WORKED_LISTING, WORKED_TABLE};
+use super::agreement::{for_marked_paths, for_small_plans, MarkedPath};
+use super::fixture::{diamond, ends, holds, link, overloaded, plan as fixed_plan, with_bits};
+use super::listings::{unmarked_list_as_before, worked_plan, WORKED_LISTING};
 use super::{ensure, equal, Outcome, Setting};
 use crate::check::{check, Counts};
-use crate::checked::Checked;
 use crate::listing::listing;
-use crate::path::{exported_path_cost, PathAnswer};
+use crate::path::exported_path_cost;
 use crate::rank::Path;
-use crate::records::{Kind, Plan, BELOW_OVERLOAD_BIT, OVERLOAD_BIT};
+use crate::records::{Kind, Plan, BELOW_MARK_BIT, MARK_BIT};
 use crate::refusal::Refusal;
-use crate::rules::{Misreading, Rules};
-use crate::search::chosen_path;
-use crate::words::{bytes_of, from_text, words_of};
-
-/// A path by its bridges and cost; without them, 12.
-type Figure<'a> = ([u32; 2], Option<(&'a [u32], u64)>);
-
-/// The figures of a plan for an index, each in both directions.
-fn holds(setting: &Setting, plan: &Plan, index: u32, figures: &[Figure]) -> Outcome {
-    for &([from, to], path) in figures {
-        let answer = |bridges: &[u32], cost| (bridges.to_vec(), PathAnswer { cost, hops: bridges.len() - 1 });
-        let expected = path.map(|(bridges, cost)| answer(bridges, cost)).ok_or(Refusal::NO_PATH);
-        let reversed = expected.clone().map(|(bridges, given)| (bridges.into_iter().rev().collect(), given));
-        let name = format!("index {index}, {from} and {to}");
-        equal(&name, route(setting.rules, plan, index, from, to), expected)?;
-        equal(&name, route(setting.rules, plan, index, to, from), reversed)?;
-    }
-    Ok(())
-}
+use crate::rules::Misreading;
+use crate::words::bytes_of;
 
 /// The diamond with overloaded bridges, index 1 and 2.
 pub fn overloaded_diamond(setting: &Setting) -> Outcome {
@@ -70,24 +52,17 @@ pub fn overloaded_bridge_between(setting: &Setting) -> Outcome {
     equal("exported", exported_path_cost(setting.rules, &alone.bytes(), 1, 0, 2), TWELVE)
 }
 
-/// The worked table with bits set in the first words of its bridges.
-fn worked_with(bits: [u32; 2]) -> Result<Vec<u8>, String> {
-    let mut words = words_of(&from_text(WORKED_TABLE)?);
-    words[0] |= bits[0];
-    words[Kind::Bridge.words()] |= bits[1];
-    Ok(bytes_of(&words))
-}
-
 /// Both bridges of the worked table are ends alone, so that it lists as it does
 /// whichever is overloaded; the bit below is a zero bit, beside the overload bit too.
 pub fn overload_bit_alone_accepted(setting: &Setting) -> Outcome {
-    let (set, below) = (OVERLOAD_BIT, BELOW_OVERLOAD_BIT);
+    let (set, below) = (MARK_BIT, BELOW_MARK_BIT);
+    let worked = worked_plan()?;
     for bits in [[set, 0], [0, set], [set, set]] {
-        let text = listing(setting.rules, &worked_with(bits)?);
+        let text = listing(setting.rules, &with_bits(&worked, Kind::Bridge, bits));
         equal(&format!("bits {bits:08X?}"), text, WORKED_LISTING.to_string())?;
     }
     for (bits, word) in [([below, 0], 0), ([set, below], 3), ([set, set | below], 3), ([set | below, 0], 0)] {
-        let found = check(setting.rules, &worked_with(bits)?);
+        let found = check(setting.rules, &with_bits(&worked, Kind::Bridge, bits));
         equal(&format!("bits {bits:08X?}"), found, Err(Refusal::of_record(4, Kind::Bridge, word)))?;
     }
     Ok(())
@@ -95,11 +70,7 @@ pub fn overload_bit_alone_accepted(setting: &Setting) -> Outcome {
 
 /// Tables without the bit list as before, when a bridge could lie between anywhere.
 pub fn tables_without_overload_list_as_before(setting: &Setting) -> Outcome {
-    let before = Rules::with(Misreading::OverloadIgnored);
-    for_small_plans(setting, 7, &|plan, _| {
-        let table = overloaded(plan.clone(), &[]).bytes();
-        equal("listing", listing(setting.rules, &table), listing(before, &table))
-    })
+    unmarked_list_as_before(setting, Misreading::OverloadIgnored, &|plan| overloaded(plan, &[]))
 }
 
 /// The counts of a plan as its records have them, and with any one bridge's bit
@@ -112,7 +83,7 @@ pub fn overload_changes_no_count(setting: &Setting) -> Outcome {
         equal("counts", check(setting.rules, table), counts)?;
         for bridge in 0..plan.bridges.len() {
             let mut words = plan.words();
-            words[bridge * Kind::Bridge.words()] ^= OVERLOAD_BIT;
+            words[bridge * Kind::Bridge.words()] ^= MARK_BIT;
             let flipped = check(setting.rules, &bytes_of(&words));
             equal(&format!("counts with bridge {bridge} flipped"), flipped, counts)?;
         }
@@ -123,25 +94,16 @@ pub fn overload_changes_no_count(setting: &Setting) -> Outcome {
 /// Overload takes paths away and adds none: the chosen path stays where none between
 /// is overloaded, else a higher one takes its place, or none.
 pub fn overload_takes_paths_away(setting: &Setting) -> Outcome {
-    for_small_plans(setting, 7, &|plan, table| {
-        let refused = |refusal: Refusal| format!("a valid table is refused: {refusal:?}");
-        let now = Checked::new(setting.rules, table).map_err(refused)?;
-        let before =
-            Checked::new(Rules::AS_WRITTEN, &overloaded(plan.clone(), &[]).bytes()).map_err(refused)?;
-        let ranking = before.ranking(1);
-        for (from, to) in every_pair(plan) {
-            let found = now.paths_from(1, from)[to].clone();
-            match chosen_path(&ranking, from, to) {
-                Some(taken) if has_overloaded_between(plan, &taken) => {
-                    let is_higher = |path: &Path| ranking.compare(path, &taken) == Ordering::Greater;
-                    let remains = |path: &Path| is_higher(path) && !has_overloaded_between(plan, path);
-                    ensure!(found.as_ref().is_none_or(remains), "from {from} to {to}: {found:?}");
-                }
-                kept => equal(&format!("from {from} to {to}"), found, kept)?,
-            }
+    let test = |MarkedPath { plan, before, taken, found }: MarkedPath| match taken {
+        Some(taken) if has_overloaded_between(plan, &taken) => {
+            let is_higher = |path: &Path| before.ranking(1).compare(path, &taken) == Ordering::Greater;
+            let remains = |path: &Path| is_higher(path) && !has_overloaded_between(plan, path);
+            ensure!(found.as_ref().is_none_or(remains), "{found:?} takes the place of {taken:?}");
+            Ok(())
         }
-        Ok(())
-    })
+        kept => equal("path kept", found, kept),
+    };
+    for_marked_paths(setting, &|plan| overloaded(plan, &[]), &test)
 }
 
 fn has_overloaded_between(plan: &Plan, path: &Path) -> bool {

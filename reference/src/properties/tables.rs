@@ -1,7 +1,7 @@
 //! The check on damaged tables, each with the refusal known from how it was
 //! made, and on valid ones, with counts taken in another way.
 
-use super::fixture::{ends, plan};
+use super::fixture::{ends, is_usable, plan};
 use super::{ensure, equal, with_table, Outcome, Setting};
 use crate::check::{check, Counts};
 use crate::generate::damage::{
@@ -65,8 +65,8 @@ pub fn two_faults_refused(setting: &Setting) -> Outcome {
 pub fn ends_of_ranges_accepted(setting: &Setting) -> Outcome {
     let one = Bridge { overloaded: false, source_id: 1, priority: 0, address: 1 };
     let two = Bridge { overloaded: true, source_id: 1_048_575, priority: 0xFFFF, address: 0xFEFF_FFFF_FFFF };
-    let least = HalfLink { metric: 1, near: 0, far: 1, port: 1, link: 1 };
-    let greatest = HalfLink { metric: UNUSABLE_METRIC, near: 0, far: 1, port: 4_095, link: 65_535 };
+    let least = HalfLink { down: false, metric: 1, near: 0, far: 1, port: 1, link: 1 };
+    let greatest = HalfLink { metric: UNUSABLE_METRIC, port: 4_095, link: 65_535, ..least };
     let mirror = |half: HalfLink| HalfLink { near: half.far, far: half.near, ..half };
     let member = Member { transmits: false, receives: false, service: 256, bridge: 0, vid: 1 };
     let members = [(256, 0, 1), (16_777_214, 0, 1), (256, 1, 1), (256, 0, 4_094)];
@@ -85,7 +85,7 @@ pub fn ends_of_ranges_accepted(setting: &Setting) -> Outcome {
 fn counts_of_parallel_links(setting: &Setting) -> Outcome {
     let usable = (0, 1, [10, 10]);
     let mut plan = plan(&ends([1, 2, 3]), &[usable, usable, (1, 2, [10, UNUSABLE_METRIC])]);
-    plan.half_links.push(HalfLink { metric: 10, near: 0, far: 2, port: 9, link: 9 });
+    plan.half_links.push(HalfLink { down: false, metric: 10, near: 0, far: 2, port: 9, link: 9 });
     let counts = Counts { bridges: 3, half_links: 7, usable_links: 2, vids: 16, members: 0 };
     equal("parallel links", check(setting.rules, &plan.bytes()), Ok(counts))
 }
@@ -97,13 +97,12 @@ fn counts_by_pairs(plan: &Plan) -> Counts {
         .iter()
         .enumerate()
         .flat_map(|(place, one)| halves[..place].iter().map(move |other| (one, other)));
-    let is_usable = |(one, other): &(&HalfLink, &HalfLink)| {
-        one.link == other.link && one.metric < UNUSABLE_METRIC && other.metric < UNUSABLE_METRIC
-    };
+    let is_link =
+        |(one, other): &(&HalfLink, &HalfLink)| one.link == other.link && is_usable(one) && is_usable(other);
     Counts {
         bridges: plan.bridges.len(),
         half_links: halves.len(),
-        usable_links: pairs.filter(is_usable).count(),
+        usable_links: pairs.filter(is_link).count(),
         vids: plan.vids.len(),
         members: plan.members.len(),
     }
