@@ -1,7 +1,8 @@
 //! The stored case of the program `probe_calls`: questions to the worked example of
-//! document 01, to the same bridges without links, to a small plan of a seed, to
-//! the table of one word and to refused tables; and all paths, trees and entries of
-//! the diamond with overloaded bridges.
+//! document 01, to the same bridges without links, to a small plan of a seed with no
+//! half-link down, to the table of one word and to refused tables; all paths, trees and
+//! entries of the diamond with overloaded bridges, and of the diamond and parallel links
+//! with half-links that are down; and tables with faults of such half-links.
 //! Holds a folder's `stdin` and `stdout` to it, or writes them with `--write`.
 
 use std::io;
@@ -14,9 +15,10 @@ use reference::check::read;
 use reference::comparing::stored;
 use reference::generate::questions::questions;
 use reference::generate::valid::{plan, Size};
-use reference::properties::fixture::{diamond, overloaded};
+use reference::properties::fixture::{diamond, down, links_7_and_9, overloaded, with_bits};
+use reference::properties::ports_down::faulty_half_links_down;
 use reference::random::Random;
-use reference::records::{Member, Plan, BELOW_MARK_BIT};
+use reference::records::{Kind, Member, Plan, BELOW_MARK_BIT, MARK_BIT};
 use reference::rules::Rules;
 use reference::words::{bytes_of, from_text};
 
@@ -44,7 +46,7 @@ fn asked() -> Vec<(Vec<u8>, Vec<Question>)> {
     let worked = from_text(include_str!("../../../examples/two-bridges.hex")).expect("hexadecimal text");
     let mut apart = read(Rules::AS_WRITTEN, &worked).expect("the worked example is accepted");
     apart.half_links.clear();
-    let seeded = plan(Size { bridges: 6, vids: 2, members: 0 }, &mut random).bytes();
+    let seeded = down(plan(Size { bridges: 6, vids: 2, members: 0 }, &mut random), &[]).bytes();
     let one_word = bytes_of(&[0xF000_0000]);
     let tables = [worked.clone(), apart.bytes(), seeded, one_word, Vec::new(), worked[..12].to_vec()];
     let mut asked: Vec<(Vec<u8>, Vec<Question>)> = tables
@@ -56,6 +58,8 @@ fn asked() -> Vec<(Vec<u8>, Vec<Question>)> {
         .collect();
     asked.push((worked, Vec::new()));
     asked.extend(overloaded_diamonds());
+    asked.extend(with_half_links_down());
+    asked.extend(refused_with_half_links_down());
     asked
 }
 
@@ -69,6 +73,29 @@ fn overloaded_diamonds() -> Vec<(Vec<u8>, Vec<Question>)> {
     let questions = every_question(&plans[0]);
     let tables = plans.iter().map(Plan::bytes).chain([bytes_of(&faulty)]);
     tables.map(|table| (table, questions.clone())).collect()
+}
+
+/// One half of link 0-1 of the diamond down, the other, one half of each link of bridge
+/// 0, and all; of the parallel links 7 and 9 one half of 7, and one of each.
+fn with_half_links_down() -> Vec<(Vec<u8>, Vec<Question>)> {
+    let diamonds: [&[usize]; 4] = [&[0], &[1], &[1, 4], &[0, 1, 2, 3, 4, 5, 6, 7]];
+    let pairs: [&[usize]; 3] = [&[0], &[1], &[0, 3]];
+    let mut parallel = links_7_and_9([10, 12]);
+    parallel.vids.truncate(2);
+    let diamonds = diamonds.map(|half_links| down(diamond_of_service(), half_links));
+    let pairs = pairs.map(|half_links| down(parallel.clone(), half_links));
+    diamonds.iter().chain(&pairs).map(|plan| (plan.bytes(), every_question(plan))).collect()
+}
+
+/// Faults that a half-link has whether it is down or not, and a zero bit beside the mark.
+fn refused_with_half_links_down() -> Vec<(Vec<u8>, Vec<Question>)> {
+    let zero_bit = with_bits(&diamond_of_service(), Kind::HalfLink, [MARK_BIT, MARK_BIT | BELOW_MARK_BIT]);
+    let faulty = faulty_half_links_down().into_iter().map(|(plan, _)| plan.bytes());
+    let questions = vec![
+        Question::Path { vid: 1, from: 0, to: 3, places: 3 },
+        Question::Entries { bridge: 0, places: 2 },
+    ];
+    [zero_bit].into_iter().chain(faulty).map(|table| (table, questions.clone())).collect()
 }
 
 /// The diamond with index 1 and 2, and all bridges members of one service.

@@ -1,6 +1,7 @@
 //! The stored case of the program `probe_check`: the worked example of document 01,
 //! an empty table, the table of one word, for each refusal number and kind one
-//! damaged table, and the worked example with bits set in a bridge's first word.
+//! damaged table, the worked example with bits set in the first words of its bridges and
+//! half-links, and the diamond with half-links that are down and with faults of such.
 //! Holds a folder's `stdin` and `stdout` to it, or writes them with `--write`.
 
 use std::collections::BTreeMap;
@@ -14,10 +15,12 @@ use reference::check_line::{check_line, framed};
 use reference::comparing::stored;
 use reference::generate::damage::{edited_once, over_limit, truncations, words_after_end, Damaged};
 use reference::generate::valid::{plan as seeded_plan, Size};
+use reference::properties::fixture::{diamond, down, with_bits};
+use reference::properties::ports_down::faulty_half_links_down;
 use reference::random::Random;
-use reference::records::{Kind, BELOW_MARK_BIT, MARK_BIT};
+use reference::records::{Kind, Plan, BELOW_MARK_BIT, MARK_BIT};
 use reference::rules::Rules;
-use reference::words::{bytes_of, from_text, words_of};
+use reference::words::{bytes_of, from_text};
 
 const USAGE: Usage =
     Usage { text: "check-vectors --folder NAME [--write]", values: &["folder"], flags: &["write"] };
@@ -41,28 +44,31 @@ fn tables() -> Vec<Vec<u8>> {
     damaged.extend((0..9).map(|_| words_after_end(&plan, &mut random)));
     damaged.extend(edited_once(&seeded_plan(Size { bridges: 3, vids: 2, members: 2 }, &mut random)));
     damaged.extend(over_limit(&mut random));
-    let with_bits = worked_with_bits(&worked);
     let mut tables = vec![worked, Vec::new(), bytes_of(&[0xF000_0000])];
     tables.extend(one_for_each(damaged).into_values().map(|damaged| damaged.table));
-    tables.extend(with_bits);
+    tables.extend([Kind::Bridge, Kind::HalfLink].iter().flat_map(|&kind| worked_with_bits(&plan, kind)));
+    tables.extend(diamonds_with_half_links_down());
     tables
 }
 
-/// The worked example with the overload bit, each zero bit of a bridge, and both set
-/// in the first words of its bridges.
-fn worked_with_bits(worked: &[u8]) -> Vec<Vec<u8>> {
-    let zero_bits = (0..32).map(|bit| 1 << bit).filter(|bit| Kind::Bridge.zero_bits() & bit != 0);
+/// The worked example with the mark, each zero bit of the kind, and both set in the first
+/// words of its records of a kind.
+fn worked_with_bits(worked: &Plan, kind: Kind) -> Vec<Vec<u8>> {
+    let zero_bits = (0..32).map(|bit| 1 << bit).filter(|bit| kind.zero_bits() & bit != 0);
     let mut bits = vec![[MARK_BIT, 0], [0, MARK_BIT], [MARK_BIT, MARK_BIT]];
     bits.extend(zero_bits.map(|bit| [0, bit]));
     bits.push([MARK_BIT | BELOW_MARK_BIT, 0]);
     bits.push([MARK_BIT, MARK_BIT | BELOW_MARK_BIT]);
-    let with_bits = |[first, second]: [u32; 2]| {
-        let mut words = words_of(worked);
-        words[0] |= first;
-        words[Kind::Bridge.words()] |= second;
-        bytes_of(&words)
-    };
-    bits.into_iter().map(with_bits).collect()
+    bits.into_iter().map(|bits| with_bits(worked, kind, bits)).collect()
+}
+
+/// One half of link 0-1 down, the other, both, one half of each link of bridge 0, and
+/// all; and faults that a half-link has whether it is down or not.
+fn diamonds_with_half_links_down() -> Vec<Vec<u8>> {
+    let choices: [&[usize]; 5] = [&[0], &[1], &[0, 1], &[1, 4], &[0, 1, 2, 3, 4, 5, 6, 7]];
+    let accepted = choices.map(|half_links| down(diamond([0x8000; 4]), half_links));
+    let faulty = faulty_half_links_down().into_iter().map(|(plan, _)| plan);
+    accepted.into_iter().chain(faulty).map(|plan| plan.bytes()).collect()
 }
 
 /// The first of the damaged tables for each refusal number and kind.
