@@ -1,7 +1,8 @@
 //! Writes a module of the proof checker's language that holds the definitions of
 //! documents 01 and 02 in `crates/rule` to the reference: for seeded tables, the diamond
-//! with overloaded bridges and a bridge with 61 services, what each call gives, as
-//! equations that the checker computes. The script `compare-definitions` has it checked.
+//! with overloaded bridges and with half-links that are down, parallel links of which one
+//! is down, and a bridge with 61 services, what each call gives, as equations that the
+//! checker computes. The script `compare-definitions` has it checked.
 
 use reference::arguments::{Arguments, Usage};
 use reference::check::check;
@@ -11,7 +12,7 @@ use reference::generate::sub_tlvs::{damaged_sub_tlv, valid_sub_tlv};
 use reference::generate::valid::{plan, Size};
 use reference::lookup::lookup;
 use reference::path::{exported_path_cost, path};
-use reference::properties::fixture::{diamond, overloaded};
+use reference::properties::fixture::{diamond, down, links_7_and_9, overloaded};
 use reference::random::Random;
 use reference::records::{Kind, Member, Plan};
 use reference::refusal::Refusal;
@@ -36,6 +37,10 @@ const MOST_SUB_TLV_BYTES: usize = 60;
 
 /// Which bridges of the diamond are overloaded.
 const OVERLOADED: [&[usize]; 3] = [&[1], &[1, 2], &[0, 3]];
+
+/// Which half-links of the diamond are down: the far half of link 0-1, and with it the
+/// near half of link 0-2.
+const DOWN: [&[usize]; 2] = [&[1], &[1, 4]];
 
 /// What the lent lists hold before a call.
 const OLD: u32 = 7;
@@ -77,9 +82,12 @@ fn main() {
     let first = arguments.number("first", 0);
     let bridges = arguments.number("bridges", 4) as usize;
     println!("{HEADER}");
-    for (number, bridges) in OVERLOADED.iter().enumerate() {
-        Vectors::new(format!("diamond{number}"), Random::new(seed)).of_diamond(bridges);
+    let marked_bridges = OVERLOADED.map(|bridges| overloaded(diamond([0x8000; 4]), bridges));
+    let marked_half_links = DOWN.map(|half_links| down(diamond([0x8000; 4]), half_links));
+    for (number, plan) in marked_bridges.into_iter().chain(marked_half_links).enumerate() {
+        Vectors::new(format!("diamond{number}"), Random::new(seed)).of_diamond(plan);
     }
+    Vectors::new("parallel".to_string(), Random::new(seed)).of_parallel_links();
     Vectors::new("members".to_string(), Random::new(seed)).of_members();
     for number in first..first + arguments.number("count", 50) {
         let mut vectors = Vectors::new(format!("table{number}"), Random::for_case(seed, number));
@@ -105,10 +113,9 @@ impl Vectors {
         Vectors { random, name, written: 0 }
     }
 
-    /// The diamond with overloaded bridges, of which few seeded tables have one
-    /// between: paths from end to end and across, a tree, and the entries of an end.
-    fn of_diamond(&mut self, bridges: &[usize]) {
-        let mut plan = overloaded(diamond([0x8000; 4]), bridges);
+    /// The diamond with marks, which few seeded tables have on their paths: paths from
+    /// end to end and across, a tree, and the entries of an end.
+    fn of_diamond(&mut self, mut plan: Plan) {
         plan.vids.truncate(1);
         let member = |bridge: u16| Member { transmits: true, receives: true, service: 256, bridge, vid: 1 };
         plan.members = [0, 3].map(member).to_vec();
@@ -118,6 +125,16 @@ impl Vectors {
             self.path(&table, (1, from, to), plan.bridges.len());
         }
         self.tree(&table, 1, 0, plan.bridges.len());
+        self.entries(&table, 0);
+    }
+
+    /// Links 7 of cost 10 and 9 of cost 12, one half of link 7 down.
+    fn of_parallel_links(&mut self) {
+        let mut plan = down(links_7_and_9([10, 12]), &[1]);
+        plan.vids.truncate(1);
+        let table = plan.bytes();
+        self.table(&table);
+        self.path(&table, (1, 0, 1), plan.bridges.len());
         self.entries(&table, 0);
     }
 
