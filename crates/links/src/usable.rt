@@ -1,11 +1,11 @@
-// What the link of a half-link costs, and how many links are usable (01, "Links").
-use crate::metric::metric_of;
+// What the link of a half-link costs, and how many links are usable (01, "Links"; 02, A3).
 use key_index::chain::other_place;
 use numbers::metric::Metric;
 use readers::half_link::HalfLink;
 use table::records::half_link;
 use table::shape::Shape;
 ghost use mathlib.Core.Path.{_≡_};
+ghost use mathlib.Core.Bool.{false};
 ghost use Prim.Native.Nat.{_<_};
 ghost use Rattle.rule.specs.Words.{wordsOf};
 ghost use Rattle.rule.specs.Links.{countUsable};
@@ -15,9 +15,9 @@ ghost use Rattle.table.specs.Numbered.{halfLinkNumber};
 ghost use Rattle.verdict.specs.Examination.{Checked, LinkIndex};
 ghost use Rattle.links.specs.Mates.{linkMetric, counted};
 
-// What the link of the half-link `h`, which is number `i`, costs. "A half-link alone isn't used."
-pub fn link_metric(table: &[u8], s: Shape, link_index: &[u32], i: usize, h: HalfLink) -> Metric
-    requires { ⌜ Checked (now table) s × (i < s .«half_links») × (halfLinkValues h ≡ halfLinkNumber (wordsOf (now table)) s i) × LinkIndex (now «link_index») (now table) s ⌝ }
+// What the link of the half-link `h`, which is number `i` and is not down, costs. "A half-link alone isn't used."
+fn metric_with_mate(table: &[u8], s: Shape, link_index: &[u32], i: usize, h: HalfLink) -> Metric
+    requires { ⌜ Checked (now table) s × (i < s .«half_links») × (halfLinkValues h ≡ halfLinkNumber (wordsOf (now table)) s i) × LinkIndex (now «link_index») (now table) s × (h .down ≡ false) ⌝ }
     ensures { λ r. ⌜ r .0 ≡ linkMetric (planAt (wordsOf (now (table .entry))) s .halfLinks) (halfLinkValues h) ⌝ }
 {
     let place = other_place(link_index, s.half_links, i as u32 + 1);
@@ -25,7 +25,23 @@ pub fn link_metric(table: &[u8], s: Shape, link_index: &[u32], i: usize, h: Half
         return Metric::UNUSABLE;
     }
     let mate = half_link(table, s, place as usize - 1);
-    metric_of(h, mate)
+    if mate.down {
+        Metric::UNUSABLE
+    } else {
+        h.metric.combined(mate.metric)
+    }
+}
+
+// What the link of the half-link `h`, which is number `i`, costs. Where a half of it is down, the unusable metric stands for it.
+pub fn link_metric(table: &[u8], s: Shape, link_index: &[u32], i: usize, h: HalfLink) -> Metric
+    requires { ⌜ Checked (now table) s × (i < s .«half_links») × (halfLinkValues h ≡ halfLinkNumber (wordsOf (now table)) s i) × LinkIndex (now «link_index») (now table) s ⌝ }
+    ensures { λ r. ⌜ r .0 ≡ linkMetric (planAt (wordsOf (now (table .entry))) s .halfLinks) (halfLinkValues h) ⌝ }
+{
+    if h.down {
+        Metric::UNUSABLE
+    } else {
+        metric_with_mate(table, s, link_index, i, h)
+    }
 }
 
 // 1 where the half-link `i` is of a usable link and is seen from its lower bridge.

@@ -1,4 +1,4 @@
--- Links, usable links, joined bridges and the link that a hop takes (01, "Links"), as functions of the list of half-links.
+-- Links, usable links, joined bridges and the link that a hop takes (01, "Links"; 02, A1 and A3), as functions of the list of half-links.
 -- None depends on the order of the list: a half-link's mate is found by its link number.
 -- Assumes nothing.
 use Prim.Native.Nat.{ℕ, max}

@@ -1,4 +1,5 @@
--- The mates of a half-link of an accepted plan: at most one, and the one that the index of link numbers has. Assumes nothing.
+-- The mates of a half-link of an accepted plan: at most one, and the one that the index of link numbers has; and the metric of its link.
+-- Assumes nothing.
 use Prim.Native.Nat.{ℕ, suc, _+_, _-_, _≤_, _<_}
 use native.Mathlib.Omega.{arith}
 use native.Mathlib.Numerals.{add-one}
@@ -37,10 +38,20 @@ metric-usable l = go (neitherDown l) (linkCost l)
     go true c = refl
     go false c = refl
 
--- What the link of two half-links costs, by what was asked of each.
-pub metric-by : (h m : HalfLink) (x y : Bool) → h .down ≡ x → m .down ≡ y
-    → cond (not x && not y) (linkCost (record { here = h; there = m })) unusableMetric ≡ metricOf (record { here = h; there = m })
-metric-by h m x y e f = λ i. cond (not (sym e i) && not (sym f i)) (linkCost (record { here = h; there = m })) unusableMetric
+-- What the link of a half-link that is down costs, whatever its mates.
+pub metric-down : (h : HalfLink) (ms : List HalfLink) → h .down ≡ true → unusableMetric ≡ metricWith h ms
+metric-down h [] e = refl
+metric-down h (m ∷ ms) e = λ i. cond (not (sym e i) && not (m .down)) (linkCost (record { here = h; there = m })) unusableMetric
+
+-- What the link of two half-links costs, of which the first is not down.
+pub metric-by : (h m : HalfLink) (b : Bool) → h .down ≡ false → m .down ≡ b
+    → cond b unusableMetric (linkCost (record { here = h; there = m })) ≡ metricOf (record { here = h; there = m })
+metric-by h m b e f = go b ∙ (λ i. cond (not (sym e i) && not (sym f i)) (linkCost (record { here = h; there = m })) unusableMetric)
+  where
+    go : (b : Bool) → cond b unusableMetric (linkCost (record { here = h; there = m }))
+        ≡ cond (not b) (linkCost (record { here = h; there = m })) unusableMetric
+    go true = refl
+    go false = refl
 
 -- "A link is two half-links": a half-link has one mate, where it has any.
 pub one-mate :

@@ -1,44 +1,25 @@
--- `links::usable::link_metric` asks what the half-link and its mate, which the index has, cost together. Assumes nothing.
-use native.Mathlib.Omega.{arith}
-use mathlib.Core.Path.{_∙_}
+-- `links::usable::link_metric` asks the half-link whether it is down before it looks for its mate. Assumes nothing.
+use Rattle.lists.specs.Lists.{selected}
+use Rattle.rule.specs.Words.{wordsOf}
+use Rattle.rule.specs.Links.{mates}
 use Rattle.readers.specs.Readers.{halfLinkValues}
-use Rattle.links.specs.laws.MateLaws.{mate-within, metric-alone, metric-linked}
+use Rattle.table.specs.Positions.{planAt}
+use Rattle.links.specs.laws.MateLaws.{metric-down}
 use borrow.Author.Needs.{needs}
 use Rattle.links.proofs.usable.link_metric.Statement.{statement}
 use Rattle.links.proofs.usable.link_metric.Tie as tie
 
+metric-with-mate-requires : tie.Need-metric-with-mate-requires
+metric-with-mate-requires c κs =
+    let at-start = c .before .before .before in
+    let (checked, i-bound, h-is, link-index) = at-start .pre in
+    (checked, i-bound, h-is, link-index, c .if1 .left)
+
 returns : tie.Need-returns
 returns c =
-    let at-start = c .before .before .before .before in
-    let (checked, i-bound, h-is, link-index) = at-start .pre in
-    metric-alone checked link-index (at-start .args .i) i-bound (halfLinkValues (at-start .args .h)) h-is (c .before .other-place .result)
-    (c .before .other-place .ensures) (c .if1 .taken)
-
-half-link-requires : tie.Need-half-link-requires
-half-link-requires c κs =
-    let at-start = c .before .before .before .before in
-    let (checked, i-bound, h-is, link-index) = at-start .pre in (
-      checked .whole,
-      omega (
-        arith,
-        mate-within checked link-index (at-start .args .i) i-bound (halfLinkValues (at-start .args .h)) h-is
-            (c .before .other-place .result) (c .before .other-place .ensures),
-      ),
-    )
-
-returns-2 : tie.Need-returns-2
-returns-2 c =
-    let at-if1 = c .before .before in
-    let at-other-place = at-if1 .before in
-    let at-start = at-other-place .before .before .before in
-    let (checked, i-bound, h-is, link-index) = at-start .pre in
-    c .metric-of .ensures
-    ∙ metric-linked checked link-index (at-start .args .i) i-bound (halfLinkValues (at-start .args .h)) h-is
-    (at-other-place .other-place .result) (at-other-place .other-place .ensures) (at-if1 .if1 .left)
-    (halfLinkValues (c .before .half-link .result)) (c .before .half-link .ensures)
+    let at-start = c .before .before .before in
+    let h = halfLinkValues (at-start .args .h) in
+    metric-down h (selected (mates h) (planAt (wordsOf (at-start .args .table .now)) (at-start .args .s) .halfLinks)) (c .if1 .taken)
 
 pub link-metric-spec : {M : Type 1} → statement M
-link-metric-spec =
-    tie.close
-    (tie.spec (λ c. search needs) (λ c. search needs) (λ c κs. search needs) returns (λ c. search needs) (λ c. search needs)
-    half-link-requires (λ c κs. search needs) returns-2)
+link-metric-spec = tie.close (tie.spec metric-with-mate-requires returns (λ c. search needs))
