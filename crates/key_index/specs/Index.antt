@@ -3,7 +3,7 @@
 use Prim.Native.Nat.{ℕ, zero, suc, _+_, _*_, _/_, _%_, _≤_, _<_}
 use mathlib.Core.Path.{_≡_}
 use mathlib.Core.List.{List}
-use mathlib.Core.Bool.{Bool, not, _&&_}
+use mathlib.Core.Bool.{Bool, not, _&&_, cond}
 use lib.Dec.{eqb}
 use lib.ListN.{length, getD}
 use Rattle.key_index.specs.Places.{lastPlace}
@@ -46,7 +46,8 @@ abbrev pub earlierPlace : List ℕ → ℕ → ℕ
 earlierPlace s zero = 0
 earlierPlace s (suc i) = lastPlace (holds s (keyAt s i)) i
 
--- The last other place that holds the key which `place` holds.
+-- Another of `n` places that holds the key which `place` holds: the last before it, or where there is none the last of all others.
 abbrev pub otherPlace : List ℕ → ℕ → ℕ → ℕ
 otherPlace s n zero = 0
-otherPlace s n (suc i) = lastPlace (λ k. holds s (keyAt s i) k && not (eqb k i)) n
+otherPlace s n (suc i) =
+    cond (eqb (earlierPlace s (suc i)) 0) (lastPlace (λ k. holds s (keyAt s i) k && not (eqb k i)) n) (earlierPlace s (suc i))

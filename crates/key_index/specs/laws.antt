@@ -2,3 +2,4 @@
 pub mod PlaceLaws
 pub mod Passing
 pub mod IndexLaws
+pub mod OtherLaws

@@ -50,15 +50,16 @@ pub fn place_before(index: &[u32], count: usize, place: u32) -> u32
     last_in_chain(index, count, index[1023 + at], index[511 + at])
 }
 
-// The last other place that holds the key which `place` holds.
+// Another place that holds the key which `place` holds: the last before it, or where there is none the last of all others.
 pub fn other_place(index: &[u32], count: usize, place: u32) -> u32
     requires { ⌜ Indexed (now index) count × (1 ≤ place) × (place ≤ count) ⌝ }
     ensures { λ r. ⌜ r ≡ otherPlace (now (index .entry)) count place ⌝ }
 {
+    let before = place_before(index, count, place);
+    if before != 0 {
+        return before;
+    }
     let at = place as usize;
     let last = last_place(index, count, index[511 + at]);
-    if last != place {
-        return last;
-    }
-    place_before(index, count, place)
+    if last == place { 0 } else { last }
 }

@@ -12,8 +12,8 @@ use lib.Seq.{getD-set-same, getD-set-other}
 use borrow.Author.Tests.{eq-eqb, ne-eqb, eqb-true}
 use Rattle.lists.specs.laws.NumberLaws.{le-or-gt, same-or-not}
 use Rattle.key_index.specs.Places.{lastPlace}
-use Rattle.key_index.specs.laws.PlaceLaws.{last-none, last-here, last-earlier, last-within, last-passes, last-through, last-same, last-but-last, last-but-other}
-use Rattle.key_index.specs.Index.{remainder, keyAt, holds, hasRemainder, Indexed, InChain, Entered, earlierPlace, otherPlace}
+use Rattle.key_index.specs.laws.PlaceLaws.{last-none, last-here, last-earlier, last-within, last-passes, last-through, last-same}
+use Rattle.key_index.specs.Index.{remainder, keyAt, holds, hasRemainder, Indexed, InChain, Entered, earlierPlace}
 
 -- Finding
 
@@ -120,32 +120,6 @@ goes-back {s} {n} x place h l = rw (let e : place ≡ suc (place - 1) = omega ar
           ap (λ (p : ℕ). lastPlace (holds s (keyAt s i)) p) (x .earlier i l)
               ∙ last-through (holds s (keyAt s i)) (hasRemainder s (remainder (keyAt s i))) (holds-remainder s (keyAt s i)) i,
         )
-
--- The other place of a key is the last, or where that is `place` the one before.
-module _ (s : List ℕ) (n place last : ℕ) (h : 0 < place) (l : place ≤ n) (e : last ≡ lastPlace (holds s (getD s (511 + place) 0)) n) where
-  at-place : (i : ℕ) → place ≡ suc i → last ≡ lastPlace (holds s (keyAt s i)) n
-  at-place i f = e ∙ ap (λ (k : ℕ). lastPlace (holds s (getD s k 0)) n) (omega arith)
-
-  held : (i : ℕ) → holds s (keyAt s i) i ≡ true
-  held i = eq-eqb (keyAt s i) (keyAt s i) refl
-
-  pub other-is-last : (last ≡ place → ⊥) → last ≡ otherPlace s n place
-  other-is-last d = go (place - 1) (omega arith)
-    where
-      go : (i : ℕ) → place ≡ suc i → last ≡ otherPlace s n place
-      go i f =
-          at-place i f
-          ∙ sym (last-but-other (holds s (keyAt s i)) i (held i) n (omega arith) (λ g. d (at-place i f ∙ g ∙ sym f)))
-          ∙ ap (otherPlace s n) (sym f)
-
-  pub other-is-before : last ≡ place → earlierPlace s place ≡ otherPlace s n place
-  other-is-before d = go (place - 1) (omega arith)
-    where
-      go : (i : ℕ) → place ≡ suc i → earlierPlace s place ≡ otherPlace s n place
-      go i f =
-          ap (earlierPlace s) f
-          ∙ sym (last-but-last (holds s (keyAt s i)) i (held i) n (omega arith) (sym (at-place i f) ∙ d ∙ f))
-          ∙ ap (otherPlace s n) (sym f)
 
 -- Entering
 

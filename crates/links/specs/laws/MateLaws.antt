@@ -7,11 +7,10 @@ use mathlib.Core.Path.{_≡_, refl, sym, ap, _∙_, subst}
 use mathlib.Core.List.{List, [], _∷_}
 use mathlib.Core.Logic.{_⊎_, inl, inr}
 use mathlib.Core.Bool.{Bool, true, false, not, _&&_, cond}
-use lib.Dec.{T, eqb}
-use borrow.Author.Tests.{eq-eqb, ne-eqb, eqb-true}
+use lib.Dec.{T}
 use Rattle.lists.specs.Lists.{selected}
 use Rattle.lists.specs.Members.{In}
-use Rattle.lists.specs.laws.NumberLaws.{compared, first-of, last-of, true-test, is-true, equal-three, three-equal}
+use Rattle.lists.specs.laws.NumberLaws.{compared, equal-three, three-equal}
 use Rattle.lists.specs.laws.SelectedLaws.{selected-in, in-selected}
 use Rattle.lists.specs.laws.DistinctLaws.{selected-none, only-one, distinct-selected}
 use Rattle.rule.specs.Words.{wordsOf}
@@ -21,8 +20,8 @@ use Rattle.rule.specs.Links.{Link, mates, linkCost, usableMetric, neitherDown, 
 use Rattle.rule.specs.PlanLaws.{Mirrors, PlanLaws}
 use Rattle.rule.specs.laws.OneRecord.{distinct-half-links}
 use Rattle.rule.specs.laws.LinkLaws.{one-half}
-use Rattle.key_index.specs.laws.PlaceLaws.{last-within, last-passes, none-passes}
-use Rattle.key_index.specs.Index.{keyAt, holds, otherPlace}
+use Rattle.key_index.specs.laws.OtherLaws.{other-within, other-holds, no-other-holds}
+use Rattle.key_index.specs.Index.{otherPlace}
 use Rattle.table.specs.declared.shape.Shape.{Shape}
 use Rattle.table.specs.Positions.{halfLinksFrom, planAt}
 use Rattle.table.specs.laws.PositionLaws.{record-in, in-records, every-two-records}
@@ -123,29 +122,10 @@ module _ {t links : List ℕ} {s : Shape} (C : Checked t s) (K : LinkIndex links
           in equal-three (at i .link) (at j .link) (at i .near) (at j .far) (at i .far) (at j .near) (sym e) (M .0) (M .1)
 
   module _ (i : ℕ) (h : i < n) where
-    abbrev other : ℕ → Bool
-    other k = holds links (keyAt links i) k && not (eqb k i)
-
-    other-says : (k : ℕ) → k < n → other k ≡ true → (k ≡ i → ⊥) × (at k .link ≡ at i .link)
-    other-says k l e =
-        let u = true-test (other k) e
-        in (
-          λ d. subst (λ (b : Bool). T (not b)) (eq-eqb k i d) (last-of (holds links (keyAt links i) k) (not (eqb k i)) u),
-          sym (K .keys k l)
-              ∙ eqb-true (keyAt links k) (keyAt links i)
-              (is-true (holds links (keyAt links i) k) (first-of (holds links (keyAt links i) k) (not (eqb k i)) u))
-              ∙ K .keys i h,
-        )
-
-    says-other : (k : ℕ) → k < n → (k ≡ i → ⊥) → at k .link ≡ at i .link → other k ≡ true
-    says-other k l d e =
-        rw (eq-eqb (keyAt links k) (keyAt links i) (K .keys k l ∙ e ∙ sym (K .keys i h)), ne-eqb k i d) refl
-
     pub has-mate : (j : ℕ) → otherPlace links n (suc i) ≡ suc j → selected (mates (at i)) hs ≡ at j ∷ []
     has-mate j e =
-        let l : j < n = omega (arith, last-within other n)
-        in let o = other-says j l (last-passes other n j e)
-        in one-mate (planAt ws s) (C .laws) (at i) (at j) (listed j l) (mated-at i j h l (o .0) (o .1))
+        let (l, d, f) = other-holds links n i h j e
+        in one-mate (planAt ws s) (C .laws) (at i) (at j) (listed j l) (mated-at i j h l d (sym (K .keys j l) ∙ f ∙ K .keys i h))
 
     pub has-no-mate : otherPlace links n (suc i) ≡ 0 → selected (mates (at i)) hs ≡ []
     has-no-mate e =
@@ -156,7 +136,7 @@ module _ {t links : List ℕ} {s : Shape} (C : Checked t s) (K : LinkIndex links
             let r = three-equal (at i .link) (m .link) (at i .near) (m .far) (at i .far) (m .near) u
             in let d : (k ≡ i → ⊥) = λ z. C .laws .half-links .fits (at i) (listed i h) .apart
             (r .1 ∙ ap (λ (x : HalfLink). x .far) f ∙ ap (λ (x : ℕ). at x .far) z)
-            in none-passes other n e k l (says-other k l d (sym (r .0 ∙ ap (λ (x : HalfLink). x .link) f)))
+            in no-other-holds links n i h e k l d (K .keys k l ∙ sym (r .0 ∙ ap (λ (x : HalfLink). x .link) f) ∙ sym (K .keys i h))
 
   -- What the link of the half-link `i` costs: `h` was read there, `place` is what the index has.
   module _ (i : ℕ) (l : i < n) (h : HalfLink) (e : h ≡ at i) (place : ℕ) (f : place ≡ otherPlace links n (i + 1)) where
@@ -164,7 +144,7 @@ module _ {t links : List ℕ} {s : Shape} (C : Checked t s) (K : LinkIndex links
     other-place = f ∙ ap (otherPlace links n) (add-one i)
 
     pub mate-within : place ≤ n
-    mate-within = omega (arith, other-place, last-within (other i l) n)
+    mate-within = omega (arith, other-place, other-within links n i l)
 
     pub metric-alone : place ≡ 0 → 16777215 ≡ linkMetric hs h
     metric-alone z = sym (rw e (ap (metricWith (at i)) (has-no-mate i l (sym other-place ∙ z))))
