@@ -1,12 +1,11 @@
 // The hop by the link of a half-link (01, "Links"), as one number.
 use crate::usable::link_metric;
 use numbers::metric::Metric;
-use readers::half_link::HalfLink;
+use table::records::half_link;
 use table::shape::Shape;
 ghost use mathlib.Core.Path.{_≡_};
 ghost use Prim.Native.Nat.{_<_};
 ghost use Rattle.rule.specs.Words.{wordsOf};
-ghost use Rattle.readers.specs.Readers.{halfLinkValues};
 ghost use Rattle.table.specs.Positions.{planAt};
 ghost use Rattle.table.specs.Numbered.{halfLinkNumber};
 ghost use Rattle.verdict.specs.Examination.{Checked, LinkIndex};
@@ -29,18 +28,18 @@ fn hop_number(metric: Metric, link: u32, port: u32) -> u64
     (metric.0 as u64 * LINK_NUMBERS + link as u64) * PORT_NUMBERS + port as u64
 }
 
-// The number of the hop by the link of the half-link `h`, which is number `i`. A link that is not usable gives no hop.
-pub fn hop_of(table: &[u8], s: Shape, link_index: &[u32], i: usize, h: HalfLink) -> u64
-    requires { ⌜ Checked (now table) s × (i < s .«half_links») × (halfLinkValues h ≡ halfLinkNumber (wordsOf (now table)) s i) × LinkIndex (now «link_index») (now table) s ⌝ }
-    ensures { λ r. ⌜ r ≡ hopOf (planAt (wordsOf (now (table .entry))) s .halfLinks) (halfLinkValues h) ⌝ }
+// The number of the hop by the link of the half-link `i`. A link that is not usable gives no hop. The half-link is read once its link is
+// known to be usable: what is read before would wait in memory while its mate is looked for.
+pub fn hop_of(table: &[u8], s: Shape, link_index: &[u32], i: usize) -> u64
+    requires { ⌜ Checked (now table) s × (i < s .«half_links») × LinkIndex (now «link_index») (now table) s ⌝ }
+    ensures { λ r. ⌜ r ≡ hopOf (planAt (wordsOf (now (table .entry))) s .halfLinks) (halfLinkNumber (wordsOf (now (table .entry))) s i) ⌝ }
 {
-    let link = h.link;
-    let port = h.port;
-    let metric = link_metric(table, s, link_index, i, h);
+    let metric = link_metric(table, s, link_index, i);
     if !metric.is_usable() {
         return NO_HOP;
     }
-    hop_number(metric, link, port)
+    let h = half_link(table, s, i);
+    hop_number(metric, h.link, h.port)
 }
 
 // The cost of the hop with the number `hop`.

@@ -43,12 +43,11 @@ fn offer_half_link(
     requires { ⌜ Checked (now table) s × LinkIndex (now «link_index») (now table) s × (i < s .«half_links») × (length (now row) ≡ 64) × (at < 512) × (marksAt ≤ length (now network)) ⌝ }
     ensures { λ r. ⌜ Offered (planAt (wordsOf (now (table .entry))) s .halfLinks) (halfLinkNumber (wordsOf (now (table .entry))) s i) (now (row .entry)) (now (row .exit)) (now (network .entry)) (now (network .exit)) at r ⌝ }
 {
-    let h = half_link(table, s, i);
-    let far = h.far;
-    let hop = hop_of(table, s, link_index, i, h);
+    let hop = hop_of(table, s, link_index, i);
     if NO_HOP <= hop {
         return at;
     }
+    let far = half_link(table, s, i).far;
     let known = row[far as usize];
     row[far as usize] = lesser(known, hop);
     if known < NO_HOP {

@@ -138,10 +138,10 @@ module _ (hs : List HalfLink) (k h : HalfLink) (e : h ≡ k) where
   pub counted-higher : h .far ≤ h .near → 0 ≡ counted hs k
   counted-higher l = let z : counted hs h ≡ 0 = simp (le-ltb (h .near) (h .far) l) in sym z ∙ ap (counted hs) e
 
-  module _ (l : h .near < h .far) (m : ℕ) (f : m ≡ linkMetric hs h) where
+  module _ (l : h .near < h .far) (m : ℕ) (f : m ≡ linkMetric hs k) where
     lower : cond (usableMetric m) 1 0 ≡ counted hs k
     lower =
-        ap (λ (x : ℕ). cond (usableMetric x) 1 0) f
+        ap (λ (x : ℕ). cond (usableMetric x) 1 0) (f ∙ ap (linkMetric hs) (sym e))
         ∙ ap (λ (b : Bool). cond b (cond (usableMetric (linkMetric hs h)) 1 0) 0) (sym (lt-ltb (h .near) (h .far) l))
         ∙ ap (counted hs) e
 

@@ -32,14 +32,15 @@ use Rattle.links.specs.Hops.{noHop, hopNumber, costOfHop, portOfHop, hop
 abbrev hopBy : List HalfLink → HalfLink → ℕ
 hopBy hs h = hopNumber (linkMetric hs h) (h .link) (h .port)
 
--- The hop by the half-link `h`, whose link costs `m`.
+-- The hop by the half-link `h`, whose link costs `m`; `k` was read for it.
 module _ (hs : List HalfLink) (h : HalfLink) (m : ℕ) (f : m ≡ linkMetric hs h) where
   pub hop-unusable : false ≡ usableMetric m → noHop ≡ hopOf hs h
   hop-unusable u = ap (λ (b : Bool). cond b (hopBy hs h) noHop) (u ∙ ap usableMetric f)
 
-  pub hop-usable : true ≡ usableMetric m → (x : ℕ) → x ≡ hopNumber m (h .link) (h .port) → x ≡ hopOf hs h
-  hop-usable u x e =
+  pub hop-usable : true ≡ usableMetric m → (k : HalfLink) → k ≡ h → (x : ℕ) → x ≡ hopNumber m (k .link) (k .port) → x ≡ hopOf hs h
+  hop-usable u k q x e =
       e
+      ∙ ap (λ (j : HalfLink). hopNumber m (j .link) (j .port)) q
       ∙ ap (λ (c : ℕ). hopNumber c (h .link) (h .port)) f
       ∙ ap (λ (b : Bool). cond b (hopBy hs h) noHop) (u ∙ ap usableMetric f)
 

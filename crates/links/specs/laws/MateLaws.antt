@@ -138,18 +138,18 @@ module _ {t links : List ℕ} {s : Shape} (C : Checked t s) (K : LinkIndex links
             (r .1 ∙ ap (λ (x : HalfLink). x .far) f ∙ ap (λ (x : ℕ). at x .far) z)
             in no-other-holds links n i h e k l d (K .keys k l ∙ sym (r .0 ∙ ap (λ (x : HalfLink). x .link) f) ∙ sym (K .keys i h))
 
-  -- What the link of the half-link `i` costs: `h` was read there, `place` is what the index has.
-  module _ (i : ℕ) (l : i < n) (h : HalfLink) (e : h ≡ at i) (place : ℕ) (f : place ≡ otherPlace links n (i + 1)) where
+  -- What the link of the half-link `i` costs: `place` is what the index has.
+  module _ (i : ℕ) (l : i < n) (place : ℕ) (f : place ≡ otherPlace links n (i + 1)) where
     other-place : place ≡ otherPlace links n (suc i)
     other-place = f ∙ ap (otherPlace links n) (add-one i)
 
     pub mate-within : place ≤ n
     mate-within = omega (arith, other-place, other-within links n i l)
 
-    pub metric-alone : place ≡ 0 → 16777215 ≡ linkMetric hs h
-    metric-alone z = sym (rw e (ap (metricWith (at i)) (has-no-mate i l (sym other-place ∙ z))))
+    pub metric-alone : place ≡ 0 → 16777215 ≡ linkMetric hs (at i)
+    metric-alone z = sym (ap (metricWith (at i)) (has-no-mate i l (sym other-place ∙ z)))
 
-    pub metric-linked : (place ≡ 0 → ⊥) → (m : HalfLink) → m ≡ at (place - 1) → metricOf (record { here = h; there = m }) ≡ linkMetric hs h
+    pub metric-linked : (place ≡ 0 → ⊥) → (m : HalfLink) → m ≡ at (place - 1) → metricOf (record { here = at i; there = m }) ≡ linkMetric hs (at i)
     metric-linked d m k =
-        ap (λ (x : HalfLink). metricWith h (x ∷ [])) k
-        ∙ sym (rw e (ap (metricWith (at i)) (has-mate i l (place - 1) (sym other-place ∙ omega arith))))
+        ap (λ (x : HalfLink). metricWith (at i) (x ∷ [])) k
+        ∙ sym (ap (metricWith (at i)) (has-mate i l (place - 1) (sym other-place ∙ omega arith)))

@@ -66,20 +66,22 @@ kept-but net from base at x b c l h =
 pub no-hops : Cleared (replicate 64 noHop)
 no-hops = record { size = length-replicate {A = ℕ} 64 noHop; empty = λ v l. getD-replicate {A = ℕ} 64 v noHop 0 l }
 
--- The half-link `k` is offered: `h` was read, and `x` is its hop.
-module _ (hs : List HalfLink) {k h : HalfLink} (e : h ≡ k) {x : ℕ} (f : x ≡ hopOf hs h) where
+-- The half-link `k` is offered: `x` is its hop, and `h` was read for it.
+module _ (hs : List HalfLink) {k : HalfLink} {x : ℕ} (x-is : x ≡ hopOf hs k) where
   pub nothing-taken : {row net : List ℕ} {at : ℕ} → noHop ≤ x → Offered hs k row row net net at at
-  nothing-taken {row} {net} {at} l =
-      subst (λ (j : HalfLink). Offered hs j row row net net at at) e (record { outcome = inr (omega (arith, f), refl, refl, refl) })
+  nothing-taken l = record { outcome = inr (omega (arith, x-is), refl, refl, refl) }
 
-  module _ (u : x < noHop) {row net : List ℕ} {y at : ℕ} (g : y ≡ min (getD row (h .far) 0) x) where
+  hop-read : (h : HalfLink) → h ≡ k → x ≡ hopOf hs h
+  hop-read h e = x-is ∙ ap (hopOf hs) (sym e)
+
+  module _ (u : x < noHop) {h : HalfLink} (e : h ≡ k) {row net : List ℕ} {y at : ℕ} (g : y ≡ min (getD row (h .far) 0) x) where
     pub taken-again : getD row (h .far) 0 < noHop → Offered hs k row (set row (h .far) y) net net at at
     taken-again l =
         subst (λ (j : HalfLink). Offered hs j row (set row (h .far) y) net net at at) e
         (record {
           outcome = inl (record {
-            usable = omega (arith, f);
-            row-is = ap (set row (h .far)) (g ∙ ap (min (getD row (h .far) 0)) f);
+            usable = omega (arith, hop-read h e);
+            row-is = ap (set row (h .far)) (g ∙ ap (min (getD row (h .far) 0)) (hop-read h e));
             listing = inl (l, refl, refl);
           });
         })
@@ -90,8 +92,8 @@ module _ (hs : List HalfLink) {k h : HalfLink} (e : h ≡ k) {x : ℕ} (f : x �
         subst (λ (j : HalfLink). Offered hs j row (set row (h .far) y) net (set net (neighboursAt + at) (h .far)) at (at + 1)) e
         (record {
           outcome = inl (record {
-            usable = omega (arith, f);
-            row-is = ap (set row (h .far)) (g ∙ ap (min (getD row (h .far) 0)) f);
+            usable = omega (arith, hop-read h e);
+            row-is = ap (set row (h .far)) (g ∙ ap (min (getD row (h .far) 0)) (hop-read h e));
             listing = inr (l, refl, refl);
           });
         })

@@ -6,6 +6,7 @@ use borrow.Author.Tests.{not-true, not-false}
 use Rattle.rule.specs.Words.{wordsOf}
 use Rattle.readers.specs.Readers.{halfLinkValues}
 use Rattle.table.specs.Positions.{planAt}
+use Rattle.table.specs.Numbered.{halfLinkNumber}
 use Rattle.links.specs.laws.HopLaws.{hop-unusable, hop-usable, hop-fits}
 use borrow.Author.Needs.{needs}
 use Rattle.links.proofs.hop.hop_of.Statement.{statement}
@@ -15,31 +16,44 @@ returns : tie.Need-returns
 returns c =
     let at-link-metric = c .before .before in
     let at-start = at-link-metric .before .before .before in
-    hop-unusable (planAt (wordsOf (at-start .args .table .now)) (at-start .args .s) .halfLinks) (halfLinkValues (at-start .args .h))
+    let words = wordsOf (at-start .args .table .now) in
+    hop-unusable (planAt words (at-start .args .s) .halfLinks) (halfLinkNumber words (at-start .args .s) (at-start .args .i))
     (at-link-metric .link-metric .result .0) (at-link-metric .link-metric .ensures)
     (sym (not-true _ (c .if1 .taken)) ∙ c .before .is-usable .ensures)
 
+half-link-requires : tie.Need-half-link-requires
+half-link-requires c κs =
+    let at-start = c .before .before .before .before .before in
+    let (checked, i-bound, _) = at-start .pre in
+    (checked .whole, i-bound)
+
 hop-number-requires : tie.Need-hop-number-requires
 hop-number-requires c κs =
-    let at-link-metric = c .before .before in
+    let at-if1 = c .before in
+    let at-is-usable = at-if1 .before in
+    let at-link-metric = at-is-usable .before in
     let at-start = at-link-metric .before .before .before in
-    let (checked, i-bound, read, _) = at-start .pre in
+    let (checked, i-bound, _) = at-start .pre in
     omega (
       arith,
-      hop-fits checked (at-start .args .i) i-bound (halfLinkValues (at-start .args .h)) read (at-link-metric .link-metric .result .0)
-          (sym (not-false _ (c .if1 .left)) ∙ c .before .is-usable .ensures),
+      hop-fits checked (at-start .args .i) i-bound (halfLinkValues (c .half-link .result)) (c .half-link .ensures)
+          (at-link-metric .link-metric .result .0) (sym (not-false _ (at-if1 .if1 .left)) ∙ at-is-usable .is-usable .ensures),
     )
 
 returns-2 : tie.Need-returns-2
 returns-2 c =
-    let at-is-usable = c .before .before in
+    let at-half-link = c .before in
+    let at-if1 = at-half-link .before in
+    let at-is-usable = at-if1 .before in
     let at-link-metric = at-is-usable .before in
     let at-start = at-link-metric .before .before .before in
-    hop-usable (planAt (wordsOf (at-start .args .table .now)) (at-start .args .s) .halfLinks) (halfLinkValues (at-start .args .h))
+    let words = wordsOf (at-start .args .table .now) in
+    hop-usable (planAt words (at-start .args .s) .halfLinks) (halfLinkNumber words (at-start .args .s) (at-start .args .i))
     (at-link-metric .link-metric .result .0) (at-link-metric .link-metric .ensures)
-    (sym (not-false _ (c .before .if1 .left)) ∙ at-is-usable .is-usable .ensures) (c .hop-number .result) (c .hop-number .ensures)
+    (sym (not-false _ (at-if1 .if1 .left)) ∙ at-is-usable .is-usable .ensures) (halfLinkValues (at-half-link .half-link .result))
+    (at-half-link .half-link .ensures) (c .hop-number .result) (c .hop-number .ensures)
 
 pub hop-of-spec : {M : Type 1} → statement M
 hop-of-spec =
     tie.close
-    (tie.spec (λ c κs. search needs) (λ c κs. search needs) returns hop-number-requires returns-2)
+    (tie.spec (λ c κs. search needs) (λ c κs. search needs) returns half-link-requires hop-number-requires returns-2)

@@ -21,8 +21,7 @@ link-metric-requires : tie.Need-link-metric-requires
 link-metric-requires c κs =
     let at-half-link = c .before .before in
     let at-start = at-half-link .before .before .before in
-    let (checked, i-bound, link-index) = at-start .pre in
-    (checked, i-bound, at-half-link .half-link .ensures, link-index)
+    at-start .pre
 
 returns-2 : tie.Need-returns-2
 returns-2 c =
