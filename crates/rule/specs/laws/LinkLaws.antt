@@ -47,7 +47,8 @@ usable-parts l t = (
 )
 
 module _ (hs : List HalfLink) where
-  abbrev seenFrom : HalfLink → List Link
+  -- The links that a half-link has with its mates, seen from it.
+  abbrev pub seenFrom : HalfLink → List Link
   seenFrom h = map (λ m. record { here = h; there = m }) (selected (mates h) hs)
 
   pub usable-says : (l : Link) → In l (usableLinks hs) → Usable hs l

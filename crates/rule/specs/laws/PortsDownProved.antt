@@ -22,7 +22,7 @@ use Rattle.rule.specs.PlanLaws.{PlanLaws}
 use Rattle.rule.specs.PortsDown.{MarkedLinksAlone, PartsApart}
 use Rattle.rule.specs.laws.Accepted.{accepted-laws}
 use Rattle.rule.specs.laws.VidPlan.{vid-plan-laws}
-use Rattle.rule.specs.laws.LinkLaws.{Usable, usable-is-link, hop-takes, joined-hop}
+use Rattle.rule.specs.laws.LinkLaws.{Usable, seenFrom, usable-is-link, hop-takes, joined-hop}
 use Rattle.rule.specs.laws.CallLaws.{path-asked}
 use Rattle.rule.specs.laws.Network.{no-path-is-none}
 
@@ -66,20 +66,19 @@ parts-apart t p e v k part marked a b h l d lent =
     laws : PlanLaws q
     laws = vid-plan-laws p (accepted-laws t p e) v
 
--- The links of document 01 alone that are usable.
+-- The links of document 01 alone that are usable: by their cost.
+abbrev pub costsUsable : Link → Bool
+costsUsable l = usableMetric (linkCost l)
+
 abbrev pub usableBefore : List HalfLink → List Link
-usableBefore hs = selected (λ l. usableMetric (linkCost l)) (linksOf hs)
+usableBefore hs = selected costsUsable (linksOf hs)
 
 abbrev pub isUp : HalfLink → Bool
 isUp h = not (h .down)
 
--- The links that a half-link has with mates among `hs`.
-abbrev seen : List HalfLink → HalfLink → List Link
-seen hs h = map (λ m. record { here = h; there = m }) (selected (mates h) hs)
-
 -- Seen from one half-link: where it is down none is usable, else those with a mate that is not down.
 usable-from : (h : HalfLink) (hs : List HalfLink)
-    → selected isUsable (seen hs h) ≡ cond (isUp h) (selected (λ l. usableMetric (linkCost l)) (seen (selected isUp hs) h)) []
+    → selected isUsable (seenFrom hs h) ≡ cond (isUp h) (selected costsUsable (seenFrom (selected isUp hs) h)) []
 unfolding selected
 usable-from h hs = selected-map link isUsable (selected (mates h) hs) ∙ go (isUp h) refl
   where
@@ -87,7 +86,7 @@ usable-from h hs = selected-map link isUsable (selected (mates h) hs) ∙ go (is
     link m = record { here = h; there = m }
 
     cheap : HalfLink → Bool
-    cheap m = usableMetric (linkCost (link m))
+    cheap m = costsUsable (link m)
 
     none : (xs : List HalfLink) → isUp h ≡ false → selected (λ m. isUsable (link m)) xs ≡ []
     none xs e = selected-none (λ m. isUsable (link m)) xs
@@ -108,21 +107,21 @@ usable-from h hs = selected-map link isUsable (selected (mates h) hs) ∙ go (is
 
     go : (b : Bool) → isUp h ≡ b
         → map link (selected (λ m. isUsable (link m)) (selected (mates h) hs))
-        ≡ cond b (selected (λ l. usableMetric (linkCost l)) (seen (selected isUp hs) h)) []
-    go true e = ap (map link) (same hs e) ∙ sym (selected-map link (λ l. usableMetric (linkCost l)) (selected (mates h) (selected isUp hs)))
+        ≡ cond b (selected costsUsable (seenFrom (selected isUp hs) h)) []
+    go true e = ap (map link) (same hs e) ∙ sym (selected-map link costsUsable (selected (mates h) (selected isUp hs)))
     go false e = ap (map link) (none (selected (mates h) hs) e)
 
 -- The usable links of a plan are those that document 01 alone has where half-links that are down are left out.
 pub as-if-absent : (hs : List HalfLink) → usableLinks hs ≡ usableBefore (selected isUp hs)
 unfolding usableLinks linksOf
 as-if-absent hs =
-    selected-flatMap isUsable (seen hs) hs
-    ∙ flatMap-same (λ h. selected isUsable (seen hs h)) (λ h. cond (isUp h) (left h) []) hs (λ h i. usable-from h hs)
+    selected-flatMap isUsable (seenFrom hs) hs
+    ∙ flatMap-same (λ h. selected isUsable (seenFrom hs h)) (λ h. cond (isUp h) (left h) []) hs (λ h i. usable-from h hs)
     ∙ sym (flatMap-selected left isUp hs)
-    ∙ sym (selected-flatMap (λ l. usableMetric (linkCost l)) (seen (selected isUp hs)) (selected isUp hs))
+    ∙ sym (selected-flatMap costsUsable (seenFrom (selected isUp hs)) (selected isUp hs))
   where
     left : HalfLink → List Link
-    left h = selected (λ l. usableMetric (linkCost l)) (seen (selected isUp hs) h)
+    left h = selected costsUsable (seenFrom (selected isUp hs) h)
 
 -- Where none is down, all is as document 01 alone has it: joined pairs, hops, graph, frames, entries and counts know the marks by the
 -- usable links only.
