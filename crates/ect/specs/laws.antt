@@ -3,3 +3,4 @@ pub mod MaskLaws
 pub mod RowLaws
 pub mod InsertionLaws
 pub mod ComparisonLaws
+pub mod ComparedProved

@@ -1,44 +1,107 @@
--- Two lists of equal length compared from a place on: up to there they are equal.
+-- Two lists of equal length compared place by place: up to the place reached they agree, and the rest decides.
 -- Assumes nothing.
-use Prim.Native.Nat.{ℕ, _+_, _≤_, _<_}
+use Prim.Native.Nat.{ℕ, suc, _+_, _≤_, _<_}
 use native.Mathlib.Omega.{arith}
 use mathlib.Core.Path.{_≡_, refl, sym, ap, _∙_}
 use mathlib.Core.List.{List, [], _∷_}
-use mathlib.Core.Bool.{false, _||_, _&&_, or-false}
+use mathlib.Core.Bool.{Bool, true, false, cond}
+use mathlib.Core.Logic.{_⊎_, inl, inr}
 use lib.Dec.{ltb, eqb}
 use lib.ListN.{length, getD, drop, drop-of-length-le}
-use borrow.Author.Tests.{le-ltb, eq-eqb, ne-eqb}
+use borrow.Author.Tests.{lt-ltb, le-ltb, eq-eqb, ne-eqb}
 use Rattle.graph.specs.Order.{isLower}
+use Rattle.graph.specs.laws.OrderLaws.{lower-by-first, lower-by-rest}
+use Rattle.lists.specs.laws.NumberLaws.{compared}
 use Rattle.lists.specs.laws.MemberLaws.{drop-next}
+use Rattle.ect.specs.Comparisons.{saysLower, orderOf, placesLookedAt, comparisonOf, decidedBy}
+use Rattle.ect.specs.declared.comparison.Order.{Order}
 
+-- Nothing is looked at in empty lists.
+pub order-of-none : orderOf [] [] ≡ Order.Equal
+unfolding orderOf isLower
+order-of-none = refl
+
+pub no-places : placesLookedAt [] [] ≡ 0
+unfolding placesLookedAt
+no-places = refl
+
+-- The order says what the test of document 01 says.
+pub lower-by-order : (xs ys : List ℕ) → saysLower (comparisonOf xs ys .order) ≡ isLower xs ys
+unfolding comparisonOf orderOf
+lower-by-order xs ys = go (isLower xs ys) (isLower ys xs)
+  where
+    go : (b c : Bool) → saysLower (cond b Order.Lower (cond c Order.Higher Order.Equal)) ≡ b
+    go true c = refl
+    go false true = refl
+    go false false = refl
+
+-- A place that agrees, and the rest of the lists.
+module _ (x y : ℕ) (xs ys : List ℕ) (e : x ≡ y) where
+  pub order-of-rest : orderOf (x ∷ xs) (y ∷ ys) ≡ orderOf xs ys
+  unfolding orderOf
+  order-of-rest = rw (lower-by-rest x y xs ys e, lower-by-rest y x ys xs (sym e))
+
+  pub one-place-more : placesLookedAt (x ∷ xs) (y ∷ ys) ≡ suc (placesLookedAt xs ys)
+  unfolding placesLookedAt
+  one-place-more = ap (λ b. cond b (suc (placesLookedAt xs ys)) 1) (eq-eqb x y e)
+
+-- A place that differs.
+module _ (x y : ℕ) (xs ys : List ℕ) (n : x ≡ y → ⊥) where
+  pub order-of-numbers : orderOf (x ∷ xs) (y ∷ ys) ≡ cond (ltb x y) Order.Lower Order.Higher
+  unfolding orderOf
+  order-of-numbers = rw (sym (lower-by-first x y xs ys n), sym (lower-by-first y x ys xs (λ e. n (sym e)))) (go (compared x y))
+    where
+      go : (x < y) ⊎ (x ≡ y) ⊎ (y < x) → cond (ltb x y) Order.Lower (cond (ltb y x) Order.Higher Order.Equal) ≡ cond (ltb x y) Order.Lower Order.Higher
+      go (inl h) = rw (lt-ltb x y h)
+      go (inr (inl e)) = absurd (n e)
+      go (inr (inr h)) = rw (lt-ltb y x h)
+
+  pub last-place : placesLookedAt (x ∷ xs) (y ∷ ys) ≡ 1
+  unfolding placesLookedAt
+  last-place = ap (λ b. cond b (suc (placesLookedAt xs ys)) 1) (ne-eqb x y n)
+
+-- How far two lists are compared: the places before `i` agree.
 pub record Comparing (xs ys : List ℕ) (i : ℕ) : Type 0 where
   pub within : i ≤ length xs
-  pub rest : isLower (drop i xs) (drop i ys) ≡ isLower xs ys
+  pub order : orderOf xs ys ≡ orderOf (drop i xs) (drop i ys)
+  pub places : placesLookedAt xs ys ≡ i + placesLookedAt (drop i xs) (drop i ys)
 
 pub comparing-starts : (xs ys : List ℕ) → Comparing xs ys 0
-comparing-starts xs ys = record { within = omega arith; rest = refl }
+comparing-starts xs ys = record { within = omega arith; order = refl; places = omega arith }
 
 module _ {xs ys : List ℕ} {i : ℕ} (same : length xs ≡ length ys) (k : Comparing xs ys i) where
-  step : i < length xs → isLower (drop i xs) (drop i ys)
-      ≡ (ltb (getD xs i 0) (getD ys i 0) || (eqb (getD xs i 0) (getD ys i 0) && isLower (drop (i + 1) xs) (drop (i + 1) ys)))
-  unfolding isLower
-  step h =
-      ap (λ (t : List ℕ). isLower t (drop i ys)) (drop-next xs i (i + 1) 0 (omega arith) h)
-      ∙ ap (isLower (getD xs i 0 ∷ drop (i + 1) xs)) (drop-next ys i (i + 1) 0 (omega arith) (omega arith))
+  answered-with : (order : Order) (places : ℕ) → orderOf xs ys ≡ order → placesLookedAt xs ys ≡ places → record { order = order; places = places } ≡ comparisonOf xs ys
+  unfolding comparisonOf
+  answered-with order places e f = rw (e, f)
 
-  pub comparing-goes-on : i < length xs → getD xs i 0 ≡ getD ys i 0 → Comparing xs ys (i + 1)
-  comparing-goes-on h e = record {
-    within = omega arith;
-    rest = sym (simp (le-ltb (getD xs i 0) (getD ys i 0) (omega arith), eq-eqb (getD xs i 0) (getD ys i 0) e) at (step h)) ∙ k .rest;
-  }
+  module _ (h : i < length xs) where
+    first-rest : drop i xs ≡ getD xs i 0 ∷ drop (i + 1) xs
+    first-rest = drop-next xs i (i + 1) 0 (omega arith) h
 
-  -- The first place where they differ decides.
-  pub comparing-finds : i < length xs → (getD xs i 0 ≡ getD ys i 0 → ⊥) → isLower xs ys ≡ ltb (getD xs i 0) (getD ys i 0)
-  comparing-finds h n = sym (k .rest) ∙ simp (ne-eqb (getD xs i 0) (getD ys i 0) n, or-false) at (step h)
+    second-rest : drop i ys ≡ getD ys i 0 ∷ drop (i + 1) ys
+    second-rest = drop-next ys i (i + 1) 0 (omega arith) (omega arith)
 
-  -- Of equal lists none is lower.
-  pub comparing-ends : length xs ≤ i → isLower xs ys ≡ false
-  unfolding isLower
+    pub comparing-goes-on : getD xs i 0 ≡ getD ys i 0 → Comparing xs ys (i + 1)
+    comparing-goes-on e = record {
+      within = omega arith;
+      order = rw (first-rest, second-rest, order-of-rest _ _ _ _ e) at (k .order);
+      places = omega (arith, rw (first-rest, second-rest, one-place-more _ _ _ _ e) at (k .places));
+    }
+
+    -- The first place that differs decides.
+    pub comparing-finds : (getD xs i 0 ≡ getD ys i 0 → ⊥) → decidedBy (getD xs i 0) (getD ys i 0) (i + 1) ≡ comparisonOf xs ys
+    comparing-finds n =
+        answered-with _ _ (rw (first-rest, second-rest, order-of-numbers _ _ _ _ n) at (k .order))
+        (rw (first-rest, second-rest, last-place _ _ _ _ n) at (k .places))
+
+  -- Where no place is left the lists are equal.
+  pub comparing-ends : length xs ≤ i → record { order = Order.Equal; places = i } ≡ comparisonOf xs ys
   comparing-ends h =
-      sym (k .rest) ∙ ap (λ (t : List ℕ). isLower t (drop i ys)) (drop-of-length-le xs h)
-      ∙ ap (isLower []) (drop-of-length-le ys {i = i} (omega arith))
+      answered-with Order.Equal i (rw (nothing-left, nothing-left′, order-of-none) at (k .order))
+      (omega (arith, no-places, rw (nothing-left, nothing-left′) at (k .places)))
+    where
+      nothing-left : drop i xs ≡ []
+      nothing-left = drop-of-length-le xs h
+
+      nothing-left′ : drop i ys ≡ []
+      nothing-left′ = drop-of-length-le ys {i = i} (omega arith)

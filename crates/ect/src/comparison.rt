@@ -1,0 +1,65 @@
+// PATHIDs compared (01, "The chosen path": "compared place by place as unsigned numbers"; 02, A4): two lent lists, where they stand.
+ghost use mathlib.Core.Path.{_≡_};
+ghost use lib.ListN.{length};
+ghost use Rattle.ect.specs.Comparisons.{saysLower, comparisonOf, decidedBy};
+
+// Whether the first list is lower than the second, equal to it, or higher.
+pub enum Order {
+    Lower,
+    Equal,
+    Higher,
+}
+
+impl Order {
+    pub fn is_lower(self) -> bool
+        ensures { λ r. ⌜ r ≡ saysLower self ⌝ }
+    {
+        match self {
+            Order::Lower => true,
+            Order::Equal => false,
+            Order::Higher => false,
+        }
+    }
+}
+
+// "It answers with the order and the number of places looked at".
+pub struct Comparison {
+    pub order: Order,
+    pub places: usize,
+}
+
+// The answer where the numbers at the last of the places looked at differ.
+fn decided(x: u64, y: u64, places: usize) -> Comparison
+    ensures { λ r. ⌜ r ≡ decidedBy x y places ⌝ }
+{
+    if x < y {
+        return Comparison {
+            order: Order::Lower,
+            places: places,
+        };
+    }
+    Comparison {
+        order: Order::Higher,
+        places: places,
+    }
+}
+
+// Compares two lists of equal length up to the first place that differs. The places are counted as they are read.
+pub fn compare(first: &[u64], second: &[u64]) -> Comparison
+    requires { ⌜ length (now first) ≡ length (now second) ⌝ }
+    ensures { λ r. ⌜ r ≡ comparisonOf (now (first .entry)) (now (second .entry)) ⌝ }
+{
+    let mut places = 0;
+    while places < first.len() {
+        let x = first[places];
+        let y = second[places];
+        places += 1;
+        if x != y {
+            return decided(x, y, places);
+        }
+    }
+    Comparison {
+        order: Order::Equal,
+        places: places,
+    }
+}
