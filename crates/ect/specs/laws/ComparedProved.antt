@@ -8,7 +8,7 @@ use mathlib.Core.Logic.{_⊎_, inl, inr}
 use lib.ListN.{length, getD}
 use Rattle.graph.specs.Order.{Lower, isLower}
 use Rattle.graph.specs.laws.OrderLaws.{lower-never, lower-one-way, lower-compared, lower-test, test-lower}
-use Rattle.lists.specs.laws.NumberLaws.{compared, is-true, is-false}
+use Rattle.lists.specs.laws.NumberLaws.{compared, same-or-not, is-true, is-false}
 use Rattle.ect.specs.Comparisons.{orderOf, placesLookedAt, comparisonOf, Holds, numberAt, FirstDifference, AnswersAsAsked, ComparedAsAsked}
 use Rattle.ect.specs.laws.ComparisonLaws.{no-places, one-place-more, last-place}
 use Rattle.ect.specs.declared.comparison.Order.{Order}
@@ -45,16 +45,12 @@ stops-there : (xs ys : List ℕ) → length xs ≡ length ys → (xs ≡ ys → 
 stops-there [] [] same n = absurd (n refl)
 stops-there [] (y ∷ ys) same n = absurd (omega arith)
 stops-there (x ∷ xs) [] same n = absurd (omega arith)
-stops-there (x ∷ xs) (y ∷ ys) same n = go (compared x y) (stops-there xs ys (suc-inj same))
+stops-there (x ∷ xs) (y ∷ ys) same n = go (same-or-not x y) (stops-there xs ys (suc-inj same))
   where
-    here : (x ≡ y → ⊥) → FirstDifference (x ∷ xs) (y ∷ ys) (placesLookedAt (x ∷ xs) (y ∷ ys))
-    here d = rw (last-place x y xs ys d) (difference-here x y xs ys d)
-
-    go : (x < y) ⊎ (x ≡ y) ⊎ (y < x) → ((xs ≡ ys → ⊥) → FirstDifference xs ys (placesLookedAt xs ys))
+    go : (x ≡ y) ⊎ (x ≡ y → ⊥) → ((xs ≡ ys → ⊥) → FirstDifference xs ys (placesLookedAt xs ys))
         → FirstDifference (x ∷ xs) (y ∷ ys) (placesLookedAt (x ∷ xs) (y ∷ ys))
-    go (inl h) rest = here (λ e. omega arith)
-    go (inr (inr h)) rest = here (λ e. omega arith)
-    go (inr (inl e)) rest = rw (one-place-more x y xs ys e) (difference-after x y xs ys _ e (rest (λ f. n (cc))))
+    go (inl e) rest = rw (one-place-more x y xs ys e) (difference-after x y xs ys _ e (rest (λ f. n (cc))))
+    go (inr d) rest = rw (last-place x y xs ys d) (difference-here x y xs ys d)
 
 -- Two lists have one first difference at most, so wherever one is, it is the last place that is looked at.
 pub looked-up-to : (xs ys : List ℕ) → length xs ≡ length ys → (place : ℕ) → FirstDifference xs ys place → placesLookedAt xs ys ≡ place
