@@ -10,6 +10,7 @@ use Rattle.graph.specs.Order.{Lower, isLower}
 use Rattle.ect.specs.declared.comparison.Order.{Order}
 use Rattle.ect.specs.declared.comparison.Comparison.{Comparison}
 
+-- Whether it is the order of a first list that is lower.
 abbrev pub saysLower : Order → Bool
 saysLower Order.Lower = true
 saysLower Order.Equal = false
@@ -29,9 +30,9 @@ placesLookedAt (x ∷ xs) (y ∷ ys) = cond (eqb x y) (suc (placesLookedAt xs ys
 unfoldable pub comparisonOf : List ℕ → List ℕ → Comparison
 comparisonOf xs ys = record { order = orderOf xs ys; places = placesLookedAt xs ys }
 
--- The answer where the numbers `x` and `y` differ, at the last of so many places.
+-- The answer where the numbers `x` and `y` at a place, counted from 1, are the first that differ.
 abbrev pub decidedBy : ℕ → ℕ → ℕ → Comparison
-decidedBy x y places = record { order = cond (ltb x y) Order.Lower Order.Higher; places = places }
+decidedBy x y place = record { order = cond (ltb x y) Order.Lower Order.Higher; places = place }
 
 -- What an order says of two lists.
 abbrev pub Holds : Order → List ℕ → List ℕ → Type 0

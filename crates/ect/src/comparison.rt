@@ -28,19 +28,19 @@ pub struct Comparison {
     pub places: usize,
 }
 
-// The answer where the numbers at the last of the places looked at differ.
-fn decided(x: u64, y: u64, places: usize) -> Comparison
-    ensures { λ r. ⌜ r ≡ decidedBy x y places ⌝ }
+// The answer where the numbers `x` and `y` at a place, counted from 1, are the first that differ.
+fn decided(x: u64, y: u64, place: usize) -> Comparison
+    ensures { λ r. ⌜ r ≡ decidedBy x y place ⌝ }
 {
     if x < y {
         return Comparison {
             order: Order::Lower,
-            places: places,
+            places: place,
         };
     }
     Comparison {
         order: Order::Higher,
-        places: places,
+        places: place,
     }
 }
 

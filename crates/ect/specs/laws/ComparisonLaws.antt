@@ -35,6 +35,14 @@ lower-by-order xs ys = go (isLower xs ys) (isLower ys xs)
     go false true = refl
     go false false = refl
 
+-- Two numbers that differ decide by the lower.
+module _ (x y place : ℕ) where
+  pub decided-lower : x < y → record { order = Order.Lower; places = place } ≡ decidedBy x y place
+  decided-lower h = rw (lt-ltb x y h)
+
+  pub decided-higher : y ≤ x → record { order = Order.Higher; places = place } ≡ decidedBy x y place
+  decided-higher h = rw (le-ltb x y h)
+
 -- A place that agrees, and the rest of the lists.
 module _ (x y : ℕ) (xs ys : List ℕ) (e : x ≡ y) where
   pub order-of-rest : orderOf (x ∷ xs) (y ∷ ys) ≡ orderOf xs ys
