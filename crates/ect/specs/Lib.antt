@@ -3,3 +3,4 @@ pub mod Masks
 pub mod Rows
 pub mod Comparisons
 pub mod laws
+pub mod figures
