@@ -20,7 +20,7 @@ saysLower Order.Higher = false
 unfoldable pub orderOf : List ℕ → List ℕ → Order
 orderOf xs ys = cond (isLower xs ys) Order.Lower (cond (isLower ys xs) Order.Higher Order.Equal)
 
--- "stop at the first place that differs": a place that agrees is one, and those after it count on.
+-- "stop at the first place that differs": a place that agrees counts one, and the rest is looked at; one that differs is the last.
 unfoldable pub placesLookedAt : List ℕ → List ℕ → ℕ
 placesLookedAt [] ys = 0
 placesLookedAt (x ∷ xs) [] = 0

@@ -44,22 +44,22 @@ fn decided(x: u64, y: u64, place: usize) -> Comparison
     }
 }
 
-// Compares two lists of equal length up to the first place that differs. The places are counted as they are read.
+// Compares two lists of equal length up to the first place that differs, and counts the places before it that agree.
 pub fn compare(first: &[u64], second: &[u64]) -> Comparison
     requires { ⌜ length (now first) ≡ length (now second) ⌝ }
     ensures { λ r. ⌜ r ≡ comparisonOf (now (first .entry)) (now (second .entry)) ⌝ }
 {
-    let mut places = 0;
-    while places < first.len() {
-        let x = first[places];
-        let y = second[places];
-        places += 1;
+    let mut agreeing = 0;
+    while agreeing < first.len() {
+        let x = first[agreeing];
+        let y = second[agreeing];
         if x != y {
-            return decided(x, y, places);
+            return decided(x, y, agreeing + 1);
         }
+        agreeing += 1;
     }
     Comparison {
         order: Order::Equal,
-        places: places,
+        places: agreeing,
     }
 }

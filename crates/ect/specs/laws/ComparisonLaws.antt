@@ -51,7 +51,7 @@ module _ (x y : ℕ) (xs ys : List ℕ) (e : x ≡ y) where
 
   pub one-place-more : placesLookedAt (x ∷ xs) (y ∷ ys) ≡ suc (placesLookedAt xs ys)
   unfolding placesLookedAt
-  one-place-more = ap (λ b. cond b (suc (placesLookedAt xs ys)) 1) (eq-eqb x y e)
+  one-place-more = rw (eq-eqb x y e)
 
 -- A place that differs.
 module _ (x y : ℕ) (xs ys : List ℕ) (n : x ≡ y → ⊥) where
@@ -66,7 +66,7 @@ module _ (x y : ℕ) (xs ys : List ℕ) (n : x ≡ y → ⊥) where
 
   pub last-place : placesLookedAt (x ∷ xs) (y ∷ ys) ≡ 1
   unfolding placesLookedAt
-  last-place = ap (λ b. cond b (suc (placesLookedAt xs ys)) 1) (ne-eqb x y n)
+  last-place = rw (ne-eqb x y n)
 
 -- How far two lists are compared: the places before `i` agree.
 pub record Comparing (xs ys : List ℕ) (i : ℕ) : Type 0 where

@@ -1,4 +1,4 @@
--- `ect::comparison::compare` compares place by place: up to the place reached the lists are equal. Assumes nothing.
+-- `ect::comparison::compare` compares place by place: up to the place reached the lists agree. Assumes nothing.
 use Prim.Native.Nat.{_-_}
 use lib.ListN.{length}
 use mathlib.Core.Path.{_∙_}
@@ -8,10 +8,10 @@ use Rattle.ect.proofs.comparison.compare.Statement.{statement}
 use Rattle.ect.proofs.comparison.compare.Tie as tie
 
 abbrev Inv-loop : tie.InvT-loop
-Inv-loop first second places₀ places = Comparing first second places
+Inv-loop first second agreeing₀ agreeing = Comparing first second agreeing
 
 abbrev μ-loop : tie.MeasureT-loop
-μ-loop first second places₀ places = length first - places
+μ-loop first second agreeing₀ agreeing = length first - agreeing
 
 loop-holds : tie.Need-loop-holds Inv-loop μ-loop
 loop-holds c = comparing-starts _ _
@@ -40,4 +40,4 @@ pub compare-spec : {M : Type 1} → statement M
 compare-spec =
     tie.close
     (tie.spec Inv-loop μ-loop loop-holds (λ c. search needs) (λ c. search needs) (λ c. search needs) (λ c. search needs)
-    (λ c. search needs) (λ c κs. search needs) returns (λ c. search needs) loop-again returns-2)
+    (λ c. search needs) (λ c κs. search needs) returns (λ c. search needs) (λ c. search needs) loop-again returns-2)
