@@ -68,6 +68,12 @@ module _ (x y : ℕ) (xs ys : List ℕ) (n : x ≡ y → ⊥) where
   unfolding placesLookedAt
   last-place = rw (ne-eqb x y n)
 
+-- The order and the places of two lists make their comparison.
+answered-with : (xs ys : List ℕ) (order : Order) (places : ℕ) → orderOf xs ys ≡ order → placesLookedAt xs ys ≡ places
+    → record { order = order; places = places } ≡ comparisonOf xs ys
+unfolding comparisonOf
+answered-with xs ys order places e f = rw (e, f)
+
 -- How far two lists are compared: the places before `i` agree.
 pub record Comparing (xs ys : List ℕ) (i : ℕ) : Type 0 where
   pub within : i ≤ length xs
@@ -78,38 +84,34 @@ pub comparing-starts : (xs ys : List ℕ) → Comparing xs ys 0
 comparing-starts xs ys = record { within = omega arith; order = refl; places = omega arith }
 
 module _ {xs ys : List ℕ} {i : ℕ} (same : length xs ≡ length ys) (k : Comparing xs ys i) where
-  answered-with : (order : Order) (places : ℕ) → orderOf xs ys ≡ order → placesLookedAt xs ys ≡ places → record { order = order; places = places } ≡ comparisonOf xs ys
-  unfolding comparisonOf
-  answered-with order places e f = rw (e, f)
-
   module _ (h : i < length xs) where
-    first-rest : drop i xs ≡ getD xs i 0 ∷ drop (i + 1) xs
-    first-rest = drop-next xs i (i + 1) 0 (omega arith) h
+    rest-of-first : drop i xs ≡ getD xs i 0 ∷ drop (i + 1) xs
+    rest-of-first = drop-next xs i (i + 1) 0 (omega arith) h
 
-    second-rest : drop i ys ≡ getD ys i 0 ∷ drop (i + 1) ys
-    second-rest = drop-next ys i (i + 1) 0 (omega arith) (omega arith)
+    rest-of-second : drop i ys ≡ getD ys i 0 ∷ drop (i + 1) ys
+    rest-of-second = drop-next ys i (i + 1) 0 (omega arith) (omega arith)
 
     pub comparing-goes-on : getD xs i 0 ≡ getD ys i 0 → Comparing xs ys (i + 1)
     comparing-goes-on e = record {
       within = omega arith;
-      order = rw (first-rest, second-rest, order-of-rest _ _ _ _ e) at (k .order);
-      places = omega (arith, rw (first-rest, second-rest, one-place-more _ _ _ _ e) at (k .places));
+      order = rw (rest-of-first, rest-of-second, order-of-rest _ _ _ _ e) at (k .order);
+      places = omega (arith, rw (rest-of-first, rest-of-second, one-place-more _ _ _ _ e) at (k .places));
     }
 
     -- The first place that differs decides.
     pub comparing-finds : (getD xs i 0 ≡ getD ys i 0 → ⊥) → decidedBy (getD xs i 0) (getD ys i 0) (i + 1) ≡ comparisonOf xs ys
     comparing-finds n =
-        answered-with _ _ (rw (first-rest, second-rest, order-of-numbers _ _ _ _ n) at (k .order))
-        (rw (first-rest, second-rest, last-place _ _ _ _ n) at (k .places))
+        answered-with xs ys _ _ (rw (rest-of-first, rest-of-second, order-of-numbers _ _ _ _ n) at (k .order))
+        (rw (rest-of-first, rest-of-second, last-place _ _ _ _ n) at (k .places))
 
   -- Where no place is left the lists are equal.
   pub comparing-ends : length xs ≤ i → record { order = Order.Equal; places = i } ≡ comparisonOf xs ys
   comparing-ends h =
-      answered-with Order.Equal i (rw (nothing-left, nothing-left′, order-of-none) at (k .order))
-      (omega (arith, no-places, rw (nothing-left, nothing-left′) at (k .places)))
+      answered-with xs ys Order.Equal i (rw (first-ends, second-ends, order-of-none) at (k .order))
+      (omega (arith, no-places, rw (first-ends, second-ends) at (k .places)))
     where
-      nothing-left : drop i xs ≡ []
-      nothing-left = drop-of-length-le xs h
+      first-ends : drop i xs ≡ []
+      first-ends = drop-of-length-le xs h
 
-      nothing-left′ : drop i ys ≡ []
-      nothing-left′ = drop-of-length-le ys {i = i} (omega arith)
+      second-ends : drop i ys ≡ []
+      second-ends = drop-of-length-le ys {i = i} (omega arith)
