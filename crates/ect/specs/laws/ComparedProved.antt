@@ -9,7 +9,7 @@ use lib.ListN.{length, getD}
 use Rattle.graph.specs.Order.{Lower, isLower}
 use Rattle.graph.specs.laws.OrderLaws.{lower-never, lower-one-way, lower-compared, lower-test, test-lower}
 use Rattle.lists.specs.laws.NumberLaws.{compared, same-or-not, is-true, is-false}
-use Rattle.ect.specs.Comparisons.{orderOf, placesLookedAt, comparisonOf, Holds, numberAt, FirstDifference, AnswersAsAsked, ComparedAsAsked}
+use Rattle.ect.specs.Comparisons.{orderOf, placesLookedAt, comparisonOf, Holds, numberAt, FirstDifference, ComparedAsAsked}
 use Rattle.ect.specs.laws.ComparisonLaws.{no-places, one-place-more, last-place}
 use Rattle.ect.specs.declared.comparison.Order.{Order}
 
