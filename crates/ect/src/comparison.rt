@@ -11,6 +11,7 @@ pub enum Order {
 }
 
 impl Order {
+    // What a tie asks: whether the first list is the lower.
     pub fn is_lower(self) -> bool
         ensures { λ r. ⌜ r ≡ saysLower self ⌝ }
     {
