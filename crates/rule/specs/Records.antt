@@ -40,6 +40,13 @@ pub record Member : Type 0 where
   pub bridge : ℕ
   pub vid : ℕ
 
+-- Traffic (02, A5): an amount that goes in a VID from one bridge to another.
+pub record Traffic : Type 0 where
+  pub vid : ℕ
+  pub amount : ℕ
+  pub from : ℕ
+  pub to : ℕ
+
 pub data Record : Type 0 where
   bridge : Bridge → Record
   halfLink : HalfLink → Record
