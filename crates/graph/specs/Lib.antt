@@ -2,6 +2,7 @@
 pub mod Order
 pub mod Graph
 pub mod Chosen
+pub mod Pairs
 pub mod Lookups
 pub mod laws
 pub mod figures

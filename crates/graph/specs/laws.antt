@@ -5,6 +5,7 @@ pub mod Ranks
 pub mod Paths
 pub mod LeastPaths
 pub mod ChosenPaths
+pub mod PairLaws
 pub mod Enumeration
 pub mod StoredPaths
 pub mod Agreement

@@ -3,7 +3,7 @@ use Prim.Native.Nat.{ℕ, zero, suc, _+_, _*_, _/_, _%_, _≤_, _<_}
 use native.Mathlib.Omega.{arith}
 use mathlib.Core.Path.{_≡_, refl, sym, ap, _∙_, subst}
 use mathlib.Core.List.{List, [], _∷_, _++_, map, flatMap, append-nil, append-assoc, map-append}
-use mathlib.Core.Logic.{inl, inr}
+use mathlib.Core.Logic.{_⊎_, inl, inr}
 use mathlib.Core.Bool.{Bool, true, false, cond}
 use lib.Dec.{T}
 use lib.ListN.{length, getD, take, length-append, length-map}
@@ -12,7 +12,7 @@ use lib.Seq.{ext-getD}
 use Rattle.lists.specs.Lists.{rising, consIf, selected}
 use Rattle.lists.specs.Members.{In, EveryTwo}
 use Rattle.lists.specs.laws.ListNotions.{Distinct}
-use Rattle.lists.specs.laws.MemberLaws.{nil-not-cons, map-in, map-at, flatMap-in}
+use Rattle.lists.specs.laws.MemberLaws.{nil-not-cons, in-append, map-in, map-at, flatMap-in}
 use Rattle.lists.specs.laws.SelectedLaws.{selected-in, rising-in, rising-at, length-rising}
 use Rattle.lists.specs.laws.DistinctLaws.{nothing-in, selected-all, selected-none, selected-append}
 
@@ -147,6 +147,38 @@ module _ {A : Type 0} where
       go : (b : Bool) → EveryTwo R (selected test xs) → EveryTwo R (consIf b x (selected test xs))
       go true Q = (λ y k. P .0 y (selected-in test y xs k .0), Q)
       go false Q = Q
+
+  pub every-two-weaker : (R S : A → A → Type 0) (xs : List A) → ((x y : A) → R x y → S x y) → EveryTwo R xs → EveryTwo S xs
+  every-two-weaker R S [] h P = tt
+  every-two-weaker R S (x ∷ xs) h P = (λ y k. h x y (P .0 y k), every-two-weaker R S xs h (P .1))
+
+  pub every-two-append : (R : A → A → Type 0) (xs ys : List A) → EveryTwo R xs → EveryTwo R ys
+      → ((x y : A) → In x xs → In y ys → R x y) → EveryTwo R (xs ++ ys)
+  every-two-append R [] ys P Q h = Q
+  every-two-append R (x ∷ xs) ys P Q h =
+      (λ y k. go y (in-append y xs ys k), every-two-append R xs ys (P .1) Q (λ a b k l. h a b (inr k) l))
+    where
+      go : (y : A) → In y xs ⊎ In y ys → R x y
+      go y (inl k) = P .0 y k
+      go y (inr k) = h x y (inl refl) k
+
+module _ {A B : Type 0} (R : B → B → Type 0) where
+  pub every-two-map : (f : A → B) (xs : List A) → EveryTwo (λ x y. R (f x) (f y)) xs → EveryTwo R (map f xs)
+  every-two-map f [] P = tt
+  every-two-map f (x ∷ xs) P = (λ b k. go b (map-in f b xs k), every-two-map f xs (P .1))
+    where
+      go : (b : B) → ((a : A) × In a xs × (b ≡ f a)) → R (f x) b
+      go b (a, k, e) = rw e (P .0 a k)
+
+  pub every-two-flatMap : (S : A → A → Type 0) (f : A → List B) (xs : List A) → EveryTwo S xs → ((a : A) → EveryTwo R (f a))
+      → ((a c : A) → S a c → (x y : B) → In x (f a) → In y (f c) → R x y) → EveryTwo R (flatMap f xs)
+  unfolding flatMap
+  every-two-flatMap S f [] P Q h = tt
+  every-two-flatMap S f (a ∷ xs) P Q h = every-two-append R (f a) (flatMap f xs) (Q a) (every-two-flatMap S f xs (P .1) Q h)
+      (λ x y k l. go x y k (flatMap-in f y xs l))
+    where
+      go : (x y : B) → In x (f a) → ((c : A) × In c xs × In y (f c)) → R x y
+      go x y k (c, i, l) = h a c (P .0 c i) x y k l
 
 -- Lists of rising numbers
 

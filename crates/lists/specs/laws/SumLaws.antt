@@ -1,10 +1,10 @@
 -- Sums over a list. Assumes nothing.
 use Prim.Native.Nat.{ℕ, _+_, _*_, _≤_, _<_}
 use native.Mathlib.Omega.{arith}
-use mathlib.Core.Path.{_≡_, refl, ap}
+use mathlib.Core.Path.{_≡_, refl, sym, ap}
 use mathlib.Core.List.{List, [], _∷_, _++_, flatMap}
 use mathlib.Core.Logic.{inl, inr}
-use mathlib.Core.Bool.{Bool, true, false, not}
+use mathlib.Core.Bool.{Bool, true, false, not, cond}
 use lib.ListN.{length, length-append}
 use Rattle.lists.specs.Lists.{consIf, selected}
 use Rattle.lists.specs.Members.{In, sumOver}
@@ -15,6 +15,14 @@ module _ {A : Type 0} where
   pub sum-add : (f g : A → ℕ) (xs : List A) → sumOver (λ x. f x + g x) xs ≡ sumOver f xs + sumOver g xs
   sum-add f g [] = refl
   sum-add f g (x ∷ xs) = omega (arith, sum-add f g xs)
+
+  pub sum-same : (f g : A → ℕ) (xs : List A) → ((x : A) → In x xs → f x ≡ g x) → sumOver f xs ≡ sumOver g xs
+  sum-same f g [] h = refl
+  sum-same f g (x ∷ xs) h = omega (arith, h x (inl refl), sum-same f g xs (λ y k. h y (inr k)))
+
+  pub sum-nothing : (xs : List A) → sumOver (λ x. 0) xs ≡ 0
+  sum-nothing [] = refl
+  sum-nothing (x ∷ xs) = omega (arith, sum-nothing xs)
 
   pub sum-append : (f : A → ℕ) (xs ys : List A) → sumOver f (xs ++ ys) ≡ sumOver f xs + sumOver f ys
   sum-append f [] ys = omega arith
@@ -44,7 +52,35 @@ module _ {A : Type 0} where
       go true e = omega arith
       go false e = omega arith
 
+  -- The sum over those that pass a test, as a sum over all.
+  pub sum-selected : (f : A → ℕ) (test : A → Bool) (xs : List A) → sumOver f (selected test xs) ≡ sumOver (λ x. cond (test x) (f x) 0) xs
+  unfolding selected
+  sum-selected f test [] = refl
+  sum-selected f test (x ∷ xs) = go (test x) (sum-selected f test xs)
+    where
+      go : (b : Bool) → sumOver f (selected test xs) ≡ sumOver (λ x. cond (test x) (f x) 0) xs
+          → sumOver f (consIf b x (selected test xs)) ≡ cond b (f x) 0 + sumOver (λ x. cond (test x) (f x) 0) xs
+      go true e = omega arith
+      go false e = omega arith
+
+  -- The same number for each that passes a test.
+  pub sum-each : (n : ℕ) (test : A → Bool) (xs : List A) → sumOver (λ x. cond (test x) n 0) xs ≡ length (selected test xs) * n
+  unfolding selected
+  sum-each n test [] = omega arith
+  sum-each n test (x ∷ xs) = go (test x) (sum-each n test xs)
+    where
+      go : (b : Bool) → sumOver (λ x. cond (test x) n 0) xs ≡ length (selected test xs) * n
+          → cond b n 0 + sumOver (λ x. cond (test x) n 0) xs ≡ length (consIf b x (selected test xs)) * n
+      go true e = omega arith
+      go false e = omega arith
+
 module _ {A B : Type 0} where
+  -- A sum of sums, the one list first or the other.
+  pub sum-exchanged : (f : A → B → ℕ) (xs : List A) (ys : List B)
+      → sumOver (λ x. sumOver (f x) ys) xs ≡ sumOver (λ y. sumOver (λ x. f x y) xs) ys
+  sum-exchanged f [] ys = sym (sum-nothing ys)
+  sum-exchanged f (x ∷ xs) ys = omega (arith, sum-exchanged f xs ys, sum-add (f x) (λ y. sumOver (λ z. f z y) xs) ys)
+
   pub length-flatMap : (f : A → List B) (xs : List A) → length (flatMap f xs) ≡ sumOver (λ x. length (f x)) xs
   unfolding flatMap
   length-flatMap f [] = refl
