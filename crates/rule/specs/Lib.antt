@@ -11,6 +11,7 @@ pub mod Paths
 pub mod Entries
 pub mod Answers
 pub mod Calls
+pub mod Loads
 pub mod Lookup
 pub mod Exported
 pub mod Services

@@ -15,6 +15,7 @@ pub mod ListBound
 pub mod SettingLaws
 pub mod NoneOverloaded
 pub mod PortsDownProved
+pub mod LoadLaws
 pub mod Demand3Proved
 pub mod MemberWords
 pub mod ServiceLaws

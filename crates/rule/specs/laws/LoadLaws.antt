@@ -1,0 +1,71 @@
+-- Loads by single records of traffic, and the two sums that a total is (02, A5). Assumes nothing.
+use Prim.Native.Nat.{ℕ, _+_, _*_, _≤_, _<_}
+use native.Mathlib.Omega.{arith}
+use mathlib.Core.Path.{_≡_, refl, sym, ap, _∙_}
+use mathlib.Core.List.{List, [], _∷_, _++_}
+use mathlib.Core.Option.{Option, none, some}
+use mathlib.Core.Bool.{Bool, true, false, cond, not}
+use lib.ListN.{length}
+use Rattle.lists.specs.Lists.{selected}
+use Rattle.lists.specs.Members.{In, sumOver}
+use Rattle.lists.specs.laws.SumLaws.{sum-same, sum-nothing, sum-most, sum-bounded, sum-append, sum-selected, sum-exchanged}
+use Rattle.graph.specs.Chosen.{Chosen}
+use Rattle.graph.specs.Pairs.{Pair, joinedPairs, takes}
+use Rattle.graph.specs.laws.PairLaws.{pairs-taken}
+use Rattle.graph.specs.laws.Enumeration.{chosen-is}
+use Rattle.rule.specs.Records.{Traffic}
+use Rattle.rule.specs.Plan.{Plan}
+use Rattle.rule.specs.PlanLaws.{PlanLaws}
+use Rattle.rule.specs.Links.{graphOf}
+use Rattle.rule.specs.Identifiers.{keyOf}
+use Rattle.rule.specs.Paths.{chosenPath}
+use Rattle.rule.specs.Loads.{indexFor, trafficPath, hopsOf, hasPath, pathTakes, loadOf, totalLoad, lostLoad}
+use Rattle.rule.specs.laws.LinkLaws.{graph-laws}
+use Rattle.rule.specs.laws.IdentifierLaws.{key-laws}
+
+-- What one record gives a pair, and what it gives to the lost amounts.
+abbrev pub given : Plan → List ℕ → Pair → Traffic → ℕ
+given p indexes q t = cond (pathTakes q (trafficPath p indexes t)) (t .amount) 0
+
+abbrev pub notGiven : Plan → List ℕ → Traffic → ℕ
+notGiven p indexes t = cond (not (hasPath (trafficPath p indexes t))) (t .amount) 0
+
+-- "amount times hops".
+abbrev pub carried : Plan → List ℕ → Traffic → ℕ
+carried p indexes t = hopsOf (trafficPath p indexes t) * t .amount
+
+module _ (p : Plan) (indexes : List ℕ) where
+  pub load-by-records : (ts : List Traffic) (q : Pair) → loadOf p indexes ts q ≡ sumOver (given p indexes q) ts
+  unfolding loadOf
+  load-by-records ts q = sum-selected (λ t. t .amount) (λ t. pathTakes q (trafficPath p indexes t)) ts
+
+  pub lost-by-records : (ts : List Traffic) → lostLoad p indexes ts ≡ sumOver (notGiven p indexes) ts
+  unfolding lostLoad
+  lost-by-records ts = sum-selected (λ t. t .amount) (λ t. not (hasPath (trafficPath p indexes t))) ts
+
+  module _ (L : PlanLaws p) where
+    -- The path of a record is chosen by its index of the assignment.
+    pub traffic-chosen : (t : Traffic) (path : List ℕ) → trafficPath p indexes t ≡ some path
+        → Chosen (graphOf p) (keyOf p (indexFor p indexes t)) (t .from) (t .to) path
+    unfolding trafficPath chosenPath
+    traffic-chosen t path e =
+        chosen-is (graphOf p) (graph-laws p L) (keyOf p (indexFor p indexes t)) (key-laws p L (indexFor p indexes t)) (t .from) (t .to) path e
+
+    -- One record, over all joined pairs: "amount times hops".
+    record-carried : (t : Traffic) → sumOver (λ q. given p indexes q t) (joinedPairs (graphOf p)) ≡ carried p indexes t
+    record-carried t = go (trafficPath p indexes t) (traffic-chosen t)
+      where
+        go : (o : Option (List ℕ))
+            → ((path : List ℕ) → o ≡ some path → Chosen (graphOf p) (keyOf p (indexFor p indexes t)) (t .from) (t .to) path)
+            → sumOver (λ q. cond (pathTakes q o) (t .amount) 0) (joinedPairs (graphOf p)) ≡ hopsOf o * t .amount
+        go none f = sum-nothing (joinedPairs (graphOf p)) ∙ omega arith
+        go (some path) f =
+            pairs-taken (graphOf p) (graph-laws p L) (keyOf p (indexFor p indexes t)) (t .from) (t .to) path (f path refl) (t .amount)
+
+    -- Total is "also the sum of amount times hops".
+    pub total-by-records : (ts : List Traffic) → totalLoad p indexes ts ≡ sumOver (carried p indexes) ts
+    unfolding totalLoad
+    total-by-records ts =
+        sum-same (loadOf p indexes ts) (λ q. sumOver (given p indexes q) ts) (joinedPairs (graphOf p)) (λ q i. load-by-records ts q)
+        ∙ sum-exchanged (λ q t. given p indexes q t) (joinedPairs (graphOf p)) ts
+        ∙ sum-same (λ t. sumOver (λ q. given p indexes q t) (joinedPairs (graphOf p))) (carried p indexes) ts (λ t i. record-carried t)
