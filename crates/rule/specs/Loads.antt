@@ -22,6 +22,10 @@ ownIndexes p = map (λ v. v .index) (p .vids)
 abbrev pub vidPlace : Plan → ℕ → ℕ
 vidPlace p vid = firstPassing (hasVid vid) (p .vids)
 
+-- What stands for traffic that is not there.
+abbrev pub noTraffic : Traffic
+noTraffic = record { vid = 0; amount = 0; from = 0; to = 0 }
+
 -- The index that the assignment has for the VID of traffic.
 abbrev pub indexFor : Plan → List ℕ → Traffic → ℕ
 indexFor p indexes t = getD indexes (vidPlace p (t .vid)) 0

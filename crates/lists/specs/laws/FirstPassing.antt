@@ -5,8 +5,10 @@ use native.Mathlib.Omega.{arith}
 use mathlib.Core.Path.{_≡_, refl, ap, _∙_}
 use mathlib.Core.List.{List, [], _∷_, map}
 use mathlib.Core.Bool.{Bool, true, false, cond}
-use lib.ListN.{length, getD}
-use Rattle.lists.specs.Lists.{rising, firstPassing}
+use lib.ListN.{length, getD, getElem?}
+use mathlib.Core.Option.{none, some}
+use Rattle.lists.specs.Lists.{rising, consIf, selected, firstPassing}
+use Rattle.lists.specs.laws.MemberLaws.{none-not-some}
 
 module _ {A : Type 0} (test : A → Bool) where
   -- It is there, or there are as many as the list has.
@@ -28,6 +30,19 @@ module _ {A : Type 0} (test : A → Bool) where
   first-is (x ∷ xs) (suc n) d l e f =
       ap (λ (b : Bool). cond b 0 (suc (firstPassing test xs))) (f 0 (omega arith))
       ∙ ap suc (first-is xs n d (omega arith) e (λ k h. f (suc k) (omega arith)))
+
+  -- The first of those that pass a test stands where the first passes.
+  pub first-selected : (xs : List A) (x d : A) → getElem? (selected test xs) 0 ≡ some x
+      → (firstPassing test xs < length xs) × (getD xs (firstPassing test xs) d ≡ x)
+  unfolding firstPassing selected
+  first-selected [] x d e = absurd (none-not-some e)
+  first-selected (y ∷ xs) x d e = go (test y) e (first-selected xs x d)
+    where
+      go : (b : Bool) → getElem? (consIf b y (selected test xs)) 0 ≡ some x
+          → (getElem? (selected test xs) 0 ≡ some x → (firstPassing test xs < length xs) × (getD xs (firstPassing test xs) d ≡ x))
+          → (cond b 0 (suc (firstPassing test xs)) < suc (length xs)) × (getD (y ∷ xs) (cond b 0 (suc (firstPassing test xs))) d ≡ x)
+      go true e h = (omega arith, let f : y ≡ x = cc in f)
+      go false e h = let (l, f) = h e in (omega arith, f)
 
 module _ {A B : Type 0} (f : A → B) (test : B → Bool) where
   pub first-of-map : (xs : List A) → firstPassing test (map f xs) ≡ firstPassing (λ x. test (f x)) xs

@@ -1,6 +1,7 @@
 -- Loads by single records of traffic, and the two sums that a total is (02, A5). Assumes nothing.
 use Prim.Native.Nat.{ℕ, _+_, _*_, _≤_, _<_}
 use native.Mathlib.Omega.{arith}
+use native.Mathlib.Nat.{mul-le-mul-right}
 use mathlib.Core.Path.{_≡_, refl, sym, ap, _∙_}
 use mathlib.Core.List.{List, [], _∷_, _++_}
 use mathlib.Core.Option.{Option, none, some}
@@ -8,18 +9,21 @@ use mathlib.Core.Bool.{Bool, true, false, cond, not}
 use lib.ListN.{length}
 use Rattle.lists.specs.Lists.{selected}
 use Rattle.lists.specs.Members.{In, sumOver}
+use Rattle.lists.specs.laws.MemberLaws.{map-at}
+use Rattle.lists.specs.laws.FirstPassing.{first-selected}
 use Rattle.lists.specs.laws.SumLaws.{sum-same, sum-nothing, sum-most, sum-bounded, sum-append, sum-selected, sum-exchanged}
 use Rattle.graph.specs.Chosen.{Chosen}
 use Rattle.graph.specs.Pairs.{Pair, joinedPairs, takes}
 use Rattle.graph.specs.laws.PairLaws.{pairs-taken}
 use Rattle.graph.specs.laws.Enumeration.{chosen-is}
-use Rattle.rule.specs.Records.{Traffic}
-use Rattle.rule.specs.Plan.{Plan}
+use Rattle.graph.specs.laws.ChosenPaths.{chosen-fits}
+use Rattle.rule.specs.Records.{Vid, Traffic}
+use Rattle.rule.specs.Plan.{Plan, hasVid, vidRecord, planOfVid}
 use Rattle.rule.specs.PlanLaws.{PlanLaws}
 use Rattle.rule.specs.Links.{graphOf}
 use Rattle.rule.specs.Identifiers.{keyOf}
 use Rattle.rule.specs.Paths.{chosenPath}
-use Rattle.rule.specs.Loads.{indexFor, trafficPath, hopsOf, hasPath, pathTakes, loadOf, totalLoad, lostLoad}
+use Rattle.rule.specs.Loads.{ownIndexes, vidPlace, indexFor, trafficPath, hopsOf, hasPath, pathTakes, loadOf, totalLoad, lostLoad}
 use Rattle.rule.specs.laws.LinkLaws.{graph-laws}
 use Rattle.rule.specs.laws.IdentifierLaws.{key-laws}
 
@@ -69,3 +73,57 @@ module _ (p : Plan) (indexes : List ℕ) where
         sum-same (loadOf p indexes ts) (λ q. sumOver (given p indexes q) ts) (joinedPairs (graphOf p)) (λ q i. load-by-records ts q)
         ∙ sum-exchanged (λ q t. given p indexes q t) (joinedPairs (graphOf p)) ts
         ∙ sum-same (λ t. sumOver (λ q. given p indexes q t) (joinedPairs (graphOf p))) (carried p indexes) ts (λ t i. record-carried t)
+
+    -- No path has more than 63 hops.
+    pub few-hops : (t : Traffic) → t .from < length (p .bridges) → hopsOf (trafficPath p indexes t) ≤ 63
+    few-hops t h = go (trafficPath p indexes t) (traffic-chosen t)
+      where
+        go : (o : Option (List ℕ))
+            → ((path : List ℕ) → o ≡ some path → Chosen (graphOf p) (keyOf p (indexFor p indexes t)) (t .from) (t .to) path)
+            → hopsOf o ≤ 63
+        go none f = omega arith
+        go (some path) f = omega (
+          arith,
+          chosen-fits (graphOf p) (graph-laws p L) (keyOf p (indexFor p indexes t)) (t .from) (t .to) path h (f path refl),
+          L .bridges .few,
+        )
+
+  -- The greatest loads: of 256 records with the greatest amount.
+  module _ (ts : List Traffic) (few : length ts ≤ 256) (amounts : (t : Traffic) → In t ts → t .amount ≤ 65535) where
+    at-most : (b : Bool) (n : ℕ) → cond b n 0 ≤ n
+    at-most true n = omega arith
+    at-most false n = omega arith
+
+    pub greatest-load : (q : Pair) → loadOf p indexes ts q ≤ 256 * 65535
+    greatest-load q = omega (
+      arith,
+      load-by-records ts q,
+      sum-bounded (given p indexes q) 65535 ts (λ t i. omega (arith, at-most (pathTakes q (trafficPath p indexes t)) (t .amount), amounts t i)),
+    )
+
+    pub greatest-lost : lostLoad p indexes ts ≤ 256 * 65535
+    greatest-lost = omega (
+      arith,
+      lost-by-records ts,
+      sum-bounded (notGiven p indexes) 65535 ts (λ t i. omega (arith, at-most (not (hasPath (trafficPath p indexes t))) (t .amount), amounts t i)),
+    )
+
+    pub greatest-total : PlanLaws p → ((t : Traffic) → In t ts → t .from < length (p .bridges)) → totalLoad p indexes ts ≤ 256 * (63 * 65535)
+    greatest-total L known = omega (
+      arith,
+      total-by-records L ts,
+      sum-bounded (carried p indexes) (63 * 65535) ts (λ t i. omega (
+        arith,
+        mul-le-mul-right (t .amount) (few-hops L t (known t i)),
+        amounts t i,
+      )),
+    )
+
+-- By the plan's own indexes the path of traffic is the one that the path call answers.
+pub own-path : (p : Plan) (t : Traffic) (v : Vid) → vidRecord p (t .vid) ≡ some v
+    → trafficPath p (ownIndexes p) t ≡ chosenPath (planOfVid p v) (v .index) (t .from) (t .to)
+unfolding trafficPath
+own-path p t v e =
+    let (l, f) = first-selected (hasVid (t .vid)) (p .vids) v (record { vid = 0; index = 0 }) e
+    in let own : indexFor p (ownIndexes p) t ≡ v .index = map-at (λ v. v .index) (p .vids) (vidPlace p (t .vid)) (record { vid = 0; index = 0 }) 0 l ∙ ap (λ (w : Vid). w .index) f
+    in λ i. chosenPath (planOfVid p (f i)) (own i) (t .from) (t .to)
