@@ -1,7 +1,7 @@
 -- Where the records of a table stand: "Kinds never fall from one record to the next", so the records of a kind stand one after the
 -- other, and their numbers say where. Assumes nothing.
 use Prim.Native.Nat.{ℕ, _+_, _*_}
-use mathlib.Core.List.{List, map}
+use mathlib.Core.List.{List, [], map}
 use mathlib.Core.Bool.{cond}
 use lib.Dec.{ltb}
 use lib.ListN.{drop}
@@ -40,6 +40,7 @@ planAt ws s =
       halfLinks = recordsAt halfLinkOf 3 (halfLinksFrom s) ws (s .«half_links»);
       vids = recordsAt vidOf 1 (vidsFrom s) ws (s .vids);
       members = recordsAt memberOf 2 (membersFrom s) ws (s .members);
+      traffic = [];
     }
 
 abbrev pub lastKind : Shape → ℕ

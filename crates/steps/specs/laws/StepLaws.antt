@@ -149,8 +149,9 @@ same-reading e f g = λ i. goesOn (record { at = e i; last = f i; plan = g i })
 same-plan :
     {a b : List Bridge} {c d : List HalfLink} {e f : List Vid} {g h : List Member} →
     a ≡ b → c ≡ d → e ≡ f → g ≡ h →
-    _≡_ {A = Plan} (record { bridges = a; halfLinks = c; vids = e; members = g }) (record { bridges = b; halfLinks = d; vids = f; members = h })
-same-plan a b c d = λ i. record { bridges = a i; halfLinks = b i; vids = c i; members = d i }
+    _≡_ {A = Plan} (record { bridges = a; halfLinks = c; vids = e; members = g; traffic = [] })
+    (record { bridges = b; halfLinks = d; vids = f; members = h; traffic = [] })
+same-plan a b c d = λ i. record { bridges = a i; halfLinks = b i; vids = c i; members = d i; traffic = [] }
 
 module _ {A : Type 0} (decoded : List ℕ → A) (width from : ℕ) (ws : List ℕ) where
   -- The record after `n` of its kind, by the word where the reading stands.

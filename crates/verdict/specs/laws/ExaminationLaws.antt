@@ -2,7 +2,7 @@
 use Prim.Native.Nat.{ℕ, _+_, _%_, _≤_, _<_}
 use native.Mathlib.Omega.{arith}
 use mathlib.Core.Path.{_≡_, refl, sym, ap, subst, _∙_}
-use mathlib.Core.List.{List}
+use mathlib.Core.List.{List, []}
 use mathlib.Core.Option.{none}
 use mathlib.Core.Bool.{Bool, true, false, not, _||_}
 use lib.Dec.{eqb, ltb}
@@ -57,6 +57,7 @@ start-is ws =
             halfLinks = no-records halfLinkOf 3 (halfLinksFrom noneRead) ws i;
             vids = no-records vidOf 1 (vidsFrom noneRead) ws i;
             members = no-records memberOf 2 (membersFrom noneRead) ws i;
+            traffic = [];
           };
     }
 
