@@ -23,16 +23,44 @@ concerned number kind = cond (eqb number 2) RecordKind.None kind
 
 -- One record more.
 abbrev pub withBridge : Shape → Shape
-withBridge s = record { bridges = s .bridges + 1; «half_links» = s .«half_links»; vids = s .vids; members = s .members }
+withBridge s =
+    record {
+      bridges = s .bridges + 1;
+      «half_links» = s .«half_links»;
+      vids = s .vids;
+      members = s .members;
+      traffic = s .traffic;
+    }
 
 abbrev pub withHalfLink : Shape → Shape
-withHalfLink s = record { bridges = s .bridges; «half_links» = s .«half_links» + 1; vids = s .vids; members = s .members }
+withHalfLink s =
+    record {
+      bridges = s .bridges;
+      «half_links» = s .«half_links» + 1;
+      vids = s .vids;
+      members = s .members;
+      traffic = s .traffic;
+    }
 
 abbrev pub withVid : Shape → Shape
-withVid s = record { bridges = s .bridges; «half_links» = s .«half_links»; vids = s .vids + 1; members = s .members }
+withVid s =
+    record {
+      bridges = s .bridges;
+      «half_links» = s .«half_links»;
+      vids = s .vids + 1;
+      members = s .members;
+      traffic = s .traffic;
+    }
 
 abbrev pub withMember : Shape → Shape
-withMember s = record { bridges = s .bridges; «half_links» = s .«half_links»; vids = s .vids; members = s .members + 1 }
+withMember s =
+    record {
+      bridges = s .bridges;
+      «half_links» = s .«half_links»;
+      vids = s .vids;
+      members = s .members + 1;
+      traffic = s .traffic;
+    }
 
 -- What the answer to a record stands for.
 abbrev pub stepValues : List ℕ → Step → ReadingStep

@@ -78,6 +78,7 @@ pub fn after_bridge(
         half_links: s.half_links,
         vids: s.vids,
         members: s.members,
+        traffic: s.traffic,
     })
 }
 
@@ -106,6 +107,7 @@ pub fn after_half_link(
         half_links: s.half_links + 1,
         vids: s.vids,
         members: s.members,
+        traffic: s.traffic,
     })
 }
 
@@ -123,6 +125,7 @@ pub fn after_vid(table: &[u8], s: Shape) -> Step
         half_links: s.half_links,
         vids: s.vids + 1,
         members: s.members,
+        traffic: s.traffic,
     })
 }
 
@@ -145,5 +148,6 @@ pub fn after_member(table: &[u8], s: Shape, member_index: &mut [u32]) -> Step
         half_links: s.half_links,
         vids: s.vids,
         members: s.members + 1,
+        traffic: s.traffic,
     })
 }

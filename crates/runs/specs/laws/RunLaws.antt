@@ -57,7 +57,10 @@ pub record Running (ws : List ℕ) (kind : ℕ) (s t : Shape) : Type 0 where
 
 pub running-starts : {ws : List ℕ} {kind : ℕ} {s : Shape} → Reached ws s → Running ws kind s s
 running-starts R =
-    record { reached = R; others = record { bridges = λ _. refl; half-links = λ _. refl; vids = λ _. refl; members = λ _. refl } }
+    record {
+      reached = R;
+      others = record { bridges = λ _. refl; half-links = λ _. refl; vids = λ _. refl; members = λ _. refl; traffic = λ _. refl };
+    }
 
 module _ {ws : List ℕ} {kind : ℕ} {s t : Shape} (R : Running ws kind s t) where
   -- No record of the kind follows.
@@ -98,6 +101,7 @@ module _ {ws : List ℕ} {kind : ℕ} {s t : Shape} (R : Running ws kind s t) wh
                 half-links = λ d. o .half-links d ∙ R .others .half-links d;
                 vids = λ d. o .vids d ∙ R .others .vids d;
                 members = λ d. o .members d ∙ R .others .members d;
+                traffic = λ d. o .traffic d ∙ R .others .traffic d;
               };
         }
         )

@@ -49,7 +49,7 @@ loop-again c =
     let at-loop = at-is-next .before in
     run-goes-on (at-loop .loop .inv) (sym (at-is-next .is-next .ensures) ∙ at-if1 .if1 .taken) vidLayout vid-kind
     (at-after-vid .after-vid .ensures) (c .before .step .given .0 .0) (c .before .step .given .1) (omega arith)
-    (record { bridges = λ d. refl; half-links = λ d. refl; vids = λ d. absurd (d refl); members = λ d. refl })
+    (record { bridges = λ d. refl; half-links = λ d. refl; vids = λ d. absurd (d refl); members = λ d. refl; traffic = λ d. refl })
 
 returns : tie.Need-returns Inv-loop μ-loop
 returns c =
