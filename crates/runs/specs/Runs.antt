@@ -22,10 +22,12 @@ isKind ws kind at = ltb at (length ws) && eqb (bits (word ws at) 31 28) kind
 abbrev pub recordsRead : Shape → ℕ
 recordsRead s = s .bridges + s .«half_links» + s .vids + s .members + s .traffic
 
--- The reading has come to the records of `s`: what is left to read, from there, comes to what the whole table comes to.
+-- The reading has come to the records of `s`: what is left to read, from there, comes to what the whole table comes to. There are no
+-- more VIDs than there may be, so that they can be entered into an index.
 pub record Reached (ws : List ℕ) (s : Shape) : Type 0 where
   pub rest : readOn (length ws - recordsRead s) ws (readingAt ws s) ≡ readOn (length ws) ws start
   pub within : wordsRead s ≤ length ws
+  pub few-vids : s .vids ≤ 16
 
 -- There are as many records of the other kinds.
 pub record SameOthers (kind : ℕ) (s t : Shape) : Type 0 where

@@ -84,8 +84,8 @@ module _ {ws : List ℕ} {kind : ℕ} {s t : Shape} (R : Running ws kind s t) wh
         ∙ sym (step-by-kind ws t kind (word-there ws kind (wordsRead t) e) (kind-there ws kind (wordsRead t) e)))
         ∙ whole-after (R .reached) (word-there ws kind (wordsRead t) e)
 
-    pub run-goes-on : (u : Shape) → r ≡ Step.Next u → recordsRead next ≡ recordsRead t + 1 → SameOthers kind t next → Running ws kind s u
-    run-goes-on u n c o = subst (λ (y : Shape). Running ws kind s y) (sym (h .is-next u n)) (
+    pub run-goes-on : (u : Shape) → r ≡ Step.Next u → recordsRead next ≡ recordsRead t + 1 → SameOthers kind t next → next .vids ≤ 16 → Running ws kind s u
+    run-goes-on u n c o few = subst (λ (y : Shape). Running ws kind s y) (sym (h .is-next u n)) (
         record {
           reached =
               record {
@@ -94,6 +94,7 @@ module _ {ws : List ℕ} {kind : ℕ} {s t : Shape} (R : Running ws kind s t) wh
                     ∙ sym (ap (λ (y : Step). after (readOn (length ws - recordsRead t - 1) ws) (stepValues ws y)) (n ∙ ap Step.Next (h .is-next u n)))
                     ∙ comes-to;
                 within = subst (λ (y : Shape). wordsRead y ≤ length ws) (h .is-next u n) (h .within u n);
+                few-vids = few;
               };
           others =
               record {

@@ -4,7 +4,7 @@ use Prim.Native.Nat.{ℕ, zero, suc, _+_, _*_, _-_, _≤_, _<_}
 use native.Mathlib.Omega.{arith}
 use mathlib.Core.Path.{_≡_, refl, sym, ap, subst, _∙_}
 use mathlib.Core.List.{List, [], _∷_, _++_}
-use mathlib.Core.Option.{none, some}
+use mathlib.Core.Option.{Option, none, some}
 use mathlib.Core.Logic.{_⊎_, inl, inr}
 use mathlib.Core.Bool.{Bool, true, false, cond}
 use lib.Dec.{eqb, leb, ltb}
@@ -12,7 +12,7 @@ use lib.ListN.{length, drop, length-drop}
 use borrow.Author.Tests.{lt-ltb, le-ltb, ltb-false, leb-false}
 use Rattle.lists.specs.laws.NumberLaws.{is-false}
 use Rattle.rule.specs.declared.answer.RecordKind.{RecordKind}
-use Rattle.rule.specs.Records.{Bridge, HalfLink, Vid, Member, Traffic, bridgeOf, halfLinkOf, vidOf, memberOf, trafficOf, Layout, bridgeLayout, halfLinkLayout, vidLayout, memberLayout}
+use Rattle.rule.specs.Records.{Bridge, HalfLink, Vid, Member, Traffic, bridgeOf, halfLinkOf, vidOf, memberOf, trafficOf, Layout, bridgeLayout, halfLinkLayout, vidLayout, memberLayout, trafficLayout}
 use Rattle.rule.specs.Words.{wordsOf}
 use Rattle.rule.specs.Outcome.{refused}
 use Rattle.rule.specs.Answers.{kindNumber}
@@ -25,10 +25,10 @@ use Rattle.table.specs.Positions.{recordAt, recordsAt, halfLinksFrom, vidsFrom,
 use Rattle.readers.specs.laws.WordLaws.{count-of-words}
 use Rattle.table.specs.laws.PositionLaws.{how-many, one-more, none-anywhere}
 use Rattle.faults.specs.Faults.{numbered, faultAt}
-use Rattle.earlier.specs.Keys.{sourceKey, addressKey, memberKey, BridgeIndexes, MemberIndex}
+use Rattle.earlier.specs.Keys.{sourceKey, addressKey, memberKey, trafficKey, BridgeIndexes, MemberIndex, TrafficIndex}
 use Rattle.earlier.specs.HalfLinks.{portKey, numberKey}
 use Rattle.earlier.specs.laws.KeyLaws.{keyed-more}
-use Rattle.steps.specs.Steps.{concerned, withBridge, withHalfLink, withVid, withMember, stepValues, Stepped, stepAs, HalfLinkIndexes, BridgesKept, HalfLinksKept, MembersKept}
+use Rattle.steps.specs.Steps.{concerned, withBridge, withHalfLink, withVid, withMember, withTraffic, stepValues, Stepped, stepAs, HalfLinkIndexes, BridgesKept, HalfLinksKept, MembersKept, TrafficKept}
 use Rattle.steps.specs.declared.step.Step.{Step}
 
 -- Refused
@@ -71,6 +71,13 @@ module _ (ws : List ℕ) (s : Shape) (l : Layout) where
       positive (suc n) h = refl
 
   -- Taken: no fault
+
+  pub taken-sound : {next : Shape} {r : Step} → Stepped ws next (stepAs ws s l) r → (t : Shape) → r ≡ Step.Next t → numbered 0 ≡ faultAt ws s l
+  taken-sound h t n = go (faultAt ws s l) (sym (ap (stepValues ws) n) ∙ h .value)
+    where
+      go : (o : Option ℕ) → goesOn (readingAt ws t) ≡ judged (readingAt ws s) l words o → numbered 0 ≡ o
+      go none e = refl
+      go (some f) e = let z : _≡_ {A = ℕ} 0 1 = cc in absurd (omega arith)
 
   module _ (sound : numbered 0 ≡ faultAt ws s l) where
     none-applies : NoFault (faults (readingAt ws s) l words)
@@ -272,6 +279,14 @@ module _ (ws : List ℕ) (s : Shape) where
       last : lastKind (withMember s) ≡ 4
       last = simp (le-ltb 0 (s .traffic) (omega (arith, n)), lt-ltb 0 (s .members + 1) (omega arith))
 
+  pub traffic-taken :
+      (r : Step) → numbered 0 ≡ faultAt ws s trafficLayout → r ≡ Step.Next (withTraffic s) → Stepped ws (withTraffic s) (stepAs ws s trafficLayout) r
+  traffic-taken r e g =
+      taken-step ws s trafficLayout e (withTraffic s) r
+      (same-reading (omega arith) (simp (lt-ltb 0 (s .traffic + 1) (omega arith)))
+      (same-plan refl refl refl refl (grown trafficOf 2 (trafficFrom s) ws (s .traffic) (wordsRead s) (omega arith))))
+      (omega arith) (omega arith) g
+
 -- A record without a fault: its words are there, and there is room for its keys
 
 pub record-there :
@@ -289,8 +304,14 @@ module _ (ws : List ℕ) (s : Shape) where
   pub half-link-room : numbered 0 ≡ faultAt ws s halfLinkLayout → s .«half_links» < 512
   half-link-room e = omega (arith, not-full ws s halfLinkLayout e, how-many halfLinkOf 3 (halfLinksFrom s) ws (s .«half_links»))
 
+  pub vid-room : numbered 0 ≡ faultAt ws s vidLayout → s .vids + 1 ≤ 16
+  vid-room e = omega (arith, not-full ws s vidLayout e, how-many vidOf 1 (vidsFrom s) ws (s .vids))
+
   pub member-room : numbered 0 ≡ faultAt ws s memberLayout → s .members < 512
   member-room e = omega (arith, not-full ws s memberLayout e, how-many memberOf 2 (membersFrom s) ws (s .members))
+
+  pub traffic-room : numbered 0 ≡ faultAt ws s trafficLayout → s .traffic < 512
+  traffic-room e = omega (arith, not-full ws s trafficLayout e, how-many trafficOf 2 (trafficFrom s) ws (s .traffic))
 
   -- The record that was read at the word `at` is the next of its kind.
   next-of-kind :
@@ -380,6 +401,21 @@ module _ (ws : List ℕ) (s : Shape) where
       there =
           next-of-kind memberOf 2 (membersFrom s) (s .members) at m a e
           (omega (arith, none-after 4 s (not-lower ws s memberLayout f) .no-traffic (omega arith)))
+
+  pub traffic-kept :
+      {traffic traffic′ : List ℕ} {r : Step} →
+      TrafficIndex traffic ws (trafficFrom s) (s .traffic) →
+      (x : Traffic) (at key : ℕ) →
+      at ≡ wordsRead s →
+      x ≡ trafficOf (drop at ws) →
+      key ≡ trafficKey x →
+      Entered traffic traffic′ (s .traffic) key →
+      r ≡ Step.Next (withTraffic s) →
+      TrafficKept ws traffic′ r
+  traffic-kept {traffic′ = traffic′} k x at key a e f p g t n =
+      let z : withTraffic s ≡ t = cc
+      in subst (λ (y : Shape). TrafficIndex traffic′ ws (trafficFrom y) (y .traffic)) z
+      (keyed-more k key p (f ∙ ap trafficKey (next-of-kind trafficOf 2 (trafficFrom s) (s .traffic) at x a e refl)))
 
 -- A refusal keeps nothing.
 pub refused-keeps :

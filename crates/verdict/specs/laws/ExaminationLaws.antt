@@ -74,6 +74,7 @@ examining-starts ws links x =
                       ap (λ (n : ℕ). readOn n ws (readingAt ws noneRead)) (omega arith)
                       ∙ ap (λ (s : Reading). readOn (length ws) ws s) (start-is ws);
                   within = omega arith;
+                  few-vids = omega arith;
                 };
             numbers = keyed-none halfLinkOf 3 numberKey links ws (halfLinksFrom noneRead) 0 x refl;
             no-bridges = λ _. refl;
