@@ -24,6 +24,7 @@ fn write_kind(kind: RecordKind, out: &mut [u8], at: usize) -> usize
         RecordKind::HalfLink => write_field(2, out, at),
         RecordKind::Vid => write_field(3, out, at),
         RecordKind::Member => write_field(4, out, at),
+        RecordKind::Traffic => write_field(5, out, at),
         RecordKind::End => write_field(15, out, at),
     }
 }

@@ -2,7 +2,7 @@
 use Prim.Native.Nat.{ℕ, _+_, _*_, _%_, _<_}
 use mathlib.Core.Path.{_≡_}
 use mathlib.Core.List.{List}
-use Rattle.rule.specs.Records.{Bridge, bridgeOf, Member, memberOf}
+use Rattle.rule.specs.Records.{Bridge, bridgeOf, Vid, vidOf, Member, memberOf, Traffic, trafficOf}
 use Rattle.key_index.specs.Index.{keyAt, Indexed}
 use Rattle.table.specs.Positions.{recordAt}
 
@@ -24,6 +24,13 @@ addressKey b = b .identifier % 4294967296
 abbrev pub memberKey : Member → ℕ
 memberKey m = m .isid * 64 + m .bridge
 
+abbrev pub vidKey : Vid → ℕ
+vidKey v = v .vid
+
+-- VID, from and to: with bridge numbers of 16 bits less than is compared.
+abbrev pub trafficKey : Traffic → ℕ
+trafficKey t = t .vid * 65536 + t .from * 64 + t .to
+
 -- The first `n` bridges are in the two indexes.
 pub record BridgeIndexes (sources addresses ws : List ℕ) (n : ℕ) : Type 0 where
   pub by-source : KeyedBy bridgeOf 3 sourceKey sources ws 0 n
@@ -32,3 +39,10 @@ pub record BridgeIndexes (sources addresses ws : List ℕ) (n : ℕ) : Type 0 wh
 -- The first `n` members from the word `from` on are in the index.
 abbrev pub MemberIndex : List ℕ → List ℕ → ℕ → ℕ → Type 0
 MemberIndex members ws from n = KeyedBy memberOf 2 memberKey members ws from n
+
+-- The first `n` VIDs, and the first `n` traffic records, from the word `from` on are in the index.
+abbrev pub VidIndex : List ℕ → List ℕ → ℕ → ℕ → Type 0
+VidIndex vids ws from n = KeyedBy vidOf 1 vidKey vids ws from n
+
+abbrev pub TrafficIndex : List ℕ → List ℕ → ℕ → ℕ → Type 0
+TrafficIndex traffic ws from n = KeyedBy trafficOf 2 trafficKey traffic ws from n

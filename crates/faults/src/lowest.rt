@@ -5,6 +5,8 @@ use earlier::half_link::names_unknown;
 use earlier::repeats::is_bridge_repeated;
 use earlier::repeats::is_member_repeated;
 use earlier::repeats::is_vid_known;
+use earlier::traffic::is_traffic_repeated;
+use earlier::traffic::is_vid_indexed;
 use readers::bridge::BridgeRead;
 use readers::bridge::read_bridge;
 use readers::end::EndRead;
@@ -13,6 +15,8 @@ use readers::half_link::HalfLinkRead;
 use readers::half_link::read_half_link;
 use readers::member::MemberRead;
 use readers::member::read_member;
+use readers::traffic::TrafficRead;
+use readers::traffic::read_traffic;
 use readers::vid::VidRead;
 use readers::vid::read_vid;
 use rule::kinds::BRIDGE;
@@ -23,16 +27,18 @@ use rule::kinds::MOST_BRIDGES;
 use rule::kinds::MOST_ENDS;
 use rule::kinds::MOST_HALF_LINKS;
 use rule::kinds::MOST_MEMBERS;
+use rule::kinds::MOST_TRAFFIC;
 use rule::kinds::MOST_VIDS;
+use rule::kinds::TRAFFIC;
 use rule::kinds::VID;
 use table::shape::Shape;
 ghost use mathlib.Core.Path.{_≡_};
 ghost use Rattle.rule.specs.Words.{wordsOf};
-ghost use Rattle.rule.specs.Records.{bridgeLayout, halfLinkLayout, vidLayout, memberLayout, endLayout};
-ghost use Rattle.table.specs.Positions.{halfLinksFrom, membersFrom, wordsRead};
+ghost use Rattle.rule.specs.Records.{bridgeLayout, halfLinkLayout, vidLayout, memberLayout, trafficLayout, endLayout};
+ghost use Rattle.table.specs.Positions.{halfLinksFrom, vidsFrom, membersFrom, trafficFrom, wordsRead};
 ghost use Rattle.table.specs.Whole.{Whole};
 ghost use Rattle.earlier.specs.HalfLinks.{portKey, numberKey, Keyed};
-ghost use Rattle.earlier.specs.Keys.{BridgeIndexes, MemberIndex};
+ghost use Rattle.earlier.specs.Keys.{BridgeIndexes, VidIndex, MemberIndex, TrafficIndex};
 ghost use Rattle.faults.specs.Faults.{numbered, ownFault, faultAt};
 
 // The lowest of the faults 2 to 6 that a record shows by itself, after a record of the kind `last` and `count` records of its own
@@ -170,6 +176,45 @@ pub fn member_fault(table: &[u8], s: Shape, member_index: &[u32]) -> u32
                 return 7;
             }
             if is_member_repeated(table, s.members_from(), member_index, s.members, m) {
+                return 8;
+            }
+            0
+        }
+    }
+}
+
+// Of the traffic record after those of `s`, whose VIDs and traffic are in the two indexes. It begins at the word `word`, which the
+// caller gives as for a half-link.
+pub fn traffic_fault(
+    table: &[u8],
+    s: Shape,
+    word: usize,
+    vid_index: &[u32],
+    traffic_index: &[u32],
+) -> u32
+    requires { ⌜ Whole (now table) s × (word ≡ wordsRead s) ⌝ }
+    requires { ⌜ VidIndex (now «vid_index») (wordsOf (now table)) (vidsFrom s) (s .vids) ⌝ }
+    requires { ⌜ TrafficIndex (now «traffic_index») (wordsOf (now table)) (trafficFrom s) (s .traffic) ⌝ }
+    ensures { λ r. ⌜ numbered r ≡ faultAt (wordsOf (now (table .entry))) s trafficLayout ⌝ }
+{
+    let at = 4 * word;
+    let last = s.last_kind();
+    let read = read_traffic(&table[at..]);
+    match read {
+        TrafficRead::Cut => own_fault(last, TRAFFIC, 3, s.traffic, MOST_TRAFFIC),
+        TrafficRead::OutOfRange => own_fault(last, TRAFFIC, 6, s.traffic, MOST_TRAFFIC),
+        TrafficRead::Record(t) => {
+            let own = own_fault(last, TRAFFIC, 0, s.traffic, MOST_TRAFFIC);
+            if own != 0 {
+                return own;
+            }
+            if names_unknown(s.bridges, t.from, t.to) {
+                return 7;
+            }
+            if !is_vid_indexed(vid_index, s.vids, t.vid) {
+                return 7;
+            }
+            if is_traffic_repeated(table, s.traffic_from(), traffic_index, s.traffic, t) {
                 return 8;
             }
             0

@@ -47,6 +47,7 @@ fn print_limit(
         half_links: half_links,
         vids: vids,
         members: members,
+        traffic: 0,
     };
     let mut table = [0u8; LONGEST];
     write_table(s, &mut table);

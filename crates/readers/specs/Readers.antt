@@ -6,16 +6,18 @@ use mathlib.Core.List.{List}
 use mathlib.Core.Bool.{cond}
 use lib.Dec.{eqb, ltb}
 use lib.ListN.{length}
-use Rattle.rule.specs.Records.{Record, Bridge, HalfLink, Vid, Member, bridge, halfLink, vid, member, end, Layout}
+use Rattle.rule.specs.Records.{Record, Bridge, HalfLink, Vid, Member, Traffic, bridge, halfLink, vid, member, traffic, end, Layout}
 use Rattle.rule.specs.Check.{outsideRange}
 use Rattle.readers.specs.declared.bridge.Bridge.{Bridge as table·Bridge}
 use Rattle.readers.specs.declared.half_link.HalfLink.{HalfLink as table·HalfLink}
 use Rattle.readers.specs.declared.vid.Vid.{Vid as table·Vid}
 use Rattle.readers.specs.declared.member.Member.{Member as table·Member}
+use Rattle.readers.specs.declared.traffic.Traffic.{Traffic as table·Traffic}
 use Rattle.readers.specs.declared.bridge.BridgeRead.{BridgeRead}
 use Rattle.readers.specs.declared.half_link.HalfLinkRead.{HalfLinkRead}
 use Rattle.readers.specs.declared.vid.VidRead.{VidRead}
 use Rattle.readers.specs.declared.member.MemberRead.{MemberRead}
+use Rattle.readers.specs.declared.traffic.TrafficRead.{TrafficRead}
 use Rattle.readers.specs.declared.end.EndRead.{EndRead}
 
 -- 3: "The record's words aren't all there"; 4: "A zero bit is set"; 6: "A value is outside its range"; or the record.
@@ -45,6 +47,9 @@ abbrev pub memberValues : table·Member → Member
 memberValues m =
     record { transmits = m .transmits; receives = m .receives; isid = m .isid; bridge = m .bridge; vid = m .vid }
 
+abbrev pub trafficValues : table·Traffic → Traffic
+trafficValues t = record { vid = t .vid; amount = t .amount; from = t .from; to = t .to }
+
 -- What the readers' answers stand for.
 abbrev pub bridgeRead : BridgeRead → Read
 bridgeRead BridgeRead.Cut = cut
@@ -68,6 +73,11 @@ memberRead MemberRead.Cut = cut
 memberRead MemberRead.ZeroBit = zeroBit
 memberRead MemberRead.OutOfRange = outOfRange
 memberRead (MemberRead.Record m) = whole (member (memberValues m))
+
+abbrev pub trafficRead : TrafficRead → Read
+trafficRead TrafficRead.Cut = cut
+trafficRead TrafficRead.OutOfRange = outOfRange
+trafficRead (TrafficRead.Record t) = whole (traffic (trafficValues t))
 
 abbrev pub endRead : EndRead → Read
 endRead EndRead.Cut = cut

@@ -3,5 +3,6 @@ pub mod bridge;
 pub mod end;
 pub mod half_link;
 pub mod member;
+pub mod traffic;
 pub mod vid;
 pub mod words;

@@ -4,7 +4,7 @@ use Prim.Native.Nat.{ℕ}
 use mathlib.Core.Option.{Option, none, some}
 use Rattle.rule.specs.Outcome.{Outcome, answered, refused}
 use Rattle.rule.specs.declared.answer.RecordKind.{RecordKind}
-use Rattle.rule.specs.declared.answer.RecordKind.the-variants.{None as NoKind, Bridge, HalfLink, Vid, Member, End}
+use Rattle.rule.specs.declared.answer.RecordKind.the-variants.{None as NoKind, Bridge, HalfLink, Vid, Member, Traffic, End}
 use Rattle.rule.specs.declared.answer.Counts.{Counts}
 use Rattle.rule.specs.declared.answer.CheckAnswer.{CheckAnswer}
 use Rattle.rule.specs.declared.answer.CheckAnswer.the-variants
@@ -22,6 +22,7 @@ kindNumber Bridge = some 1
 kindNumber HalfLink = some 2
 kindNumber Vid = some 3
 kindNumber Member = some 4
+kindNumber Traffic = some 5
 kindNumber End = some 15
 
 -- "cost, hops".

@@ -8,7 +8,7 @@ use lib.Dec.{eqb, leb, ltb}
 use lib.ListN.{length, drop}
 use Rattle.lists.specs.Lists.{selected, anyPasses}
 use Rattle.rule.specs.Words.{wordsOf, bits}
-use Rattle.rule.specs.Records.{Bridge, HalfLink, Member, Record, bridge, halfLink, vid, member, end, address, endCount, Layout, layoutOf, Range, inLimits}
+use Rattle.rule.specs.Records.{Bridge, HalfLink, Member, Traffic, Record, bridge, halfLink, vid, member, traffic, end, address, endCount, Layout, layoutOf, Range, inLimits}
 use Rattle.rule.specs.Outcome.{Outcome, answered, refused, refusedIf}
 use Rattle.rule.specs.Plan.{Plan, noRecords, withRecord, alike, knownBridge, knownVid}
 
@@ -28,16 +28,21 @@ abbrev pub wrongEndCount : ℕ → Option ℕ → Bool
 wrongEndCount at none = false
 wrongEndCount at (some n) = not (eqb n at)
 
--- 7. "A bridge or VID that a half-link or member names has no record, or near and far bridge are equal."
+-- 7. "A bridge or VID that a half-link or member names has no record, or near and far bridge are equal"; of traffic "an unknown name or
+-- equal ends" (02, A5).
+abbrev pub unknownEnds : Plan → ℕ → ℕ → Bool
+unknownEnds p a b = not (knownBridge p a) || not (knownBridge p b) || eqb a b
+
 abbrev pub unknownName : Plan → Record → Bool
 unknownName p (bridge b) = false
-unknownName p (halfLink h) = not (knownBridge p (h .near)) || not (knownBridge p (h .far)) || eqb (h .near) (h .far)
+unknownName p (halfLink h) = unknownEnds p (h .near) (h .far)
 unknownName p (vid v) = false
 unknownName p (member m) = not (knownBridge p (m .bridge)) || not (knownVid p (m .vid))
+unknownName p (traffic t) = unknownEnds p (t .from) (t .to) || not (knownVid p (t .vid))
 unknownName p (end n) = false
 
--- 8. "A record repeats an earlier one's address, SPsourceID, near bridge with port, VID, or bridge with I-SID and VID": the record,
--- and the earlier one.
+-- 8. "A record repeats an earlier one's address, SPsourceID, near bridge with port, VID, or bridge with I-SID and VID"; of traffic "a
+-- repeated VID, from and to 8; the opposite direction is no repeat" (02, A5): the record, and the earlier one.
 abbrev pub repeatsBridge : Bridge → Bridge → Bool
 repeatsBridge b e = eqb (address e) (address b) || eqb (e .spSourceId) (b .spSourceId)
 
@@ -47,11 +52,15 @@ repeatsPort h e = eqb (e .near) (h .near) && eqb (e .port) (h .port)
 abbrev pub repeatsMember : Member → Member → Bool
 repeatsMember m e = eqb (e .bridge) (m .bridge) && eqb (e .isid) (m .isid) && eqb (e .vid) (m .vid)
 
+abbrev pub repeatsTraffic : Traffic → Traffic → Bool
+repeatsTraffic t e = eqb (e .vid) (t .vid) && eqb (e .from) (t .from) && eqb (e .to) (t .to)
+
 abbrev pub repeated : Plan → Record → Bool
 repeated p (bridge b) = anyPasses (repeatsBridge b) (p .bridges)
 repeated p (halfLink h) = anyPasses (repeatsPort h) (p .halfLinks)
 repeated p (vid v) = knownVid p (v .vid)
 repeated p (member m) = anyPasses (repeatsMember m) (p .members)
+repeated p (traffic t) = anyPasses (repeatsTraffic t) (p .traffic)
 repeated p (end n) = false
 
 -- 9. "It is a third half-link of a link number, or the second and no mirror of the first": `earlier` are the half-links before
@@ -72,6 +81,7 @@ wrongLink p (bridge b) = false
 wrongLink p (halfLink h) = wrongHalf h (selected (hasLink (h .link)) (p .halfLinks))
 wrongLink p (vid v) = false
 wrongLink p (member m) = false
+wrongLink p (traffic t) = false
 wrongLink p (end n) = false
 
 -- 10. "Words follow the end record": `n` words from its first to the end of the table.

@@ -1,4 +1,4 @@
--- The decoded plan of a table: four lists of records, in table order.
+-- The decoded plan of a table: five lists of records, in table order.
 -- Assumes nothing.
 use Prim.Native.Nat.{ℕ}
 use mathlib.Core.List.{List, [], _∷_, _++_}
@@ -7,27 +7,30 @@ use mathlib.Core.Bool.{Bool, false}
 use lib.Dec.{eqb, ltb}
 use lib.ListN.{length, getD, getElem?}
 use Rattle.lists.specs.Lists.{selected, anyPasses}
-use Rattle.rule.specs.Records.{Bridge, HalfLink, Vid, Member, Record, bridge, halfLink, vid, member, end}
+use Rattle.rule.specs.Records.{Bridge, HalfLink, Vid, Member, Traffic, Record, bridge, halfLink, vid, member, traffic, end}
 
 pub record Plan : Type 0 where
   pub bridges : List Bridge
   pub halfLinks : List HalfLink
   pub vids : List Vid
   pub members : List Member
+  pub traffic : List Traffic
 
 abbrev pub noRecords : Plan
-noRecords = record { bridges = []; halfLinks = []; vids = []; members = [] }
+noRecords = record { bridges = []; halfLinks = []; vids = []; members = []; traffic = [] }
 
 -- The plan with one record more. An end record adds none.
 abbrev pub withRecord : Plan → Record → Plan
 withRecord p (bridge b) =
-    record { bridges = p .bridges ++ (b ∷ []); halfLinks = p .halfLinks; vids = p .vids; members = p .members }
+    record { bridges = p .bridges ++ (b ∷ []); halfLinks = p .halfLinks; vids = p .vids; members = p .members; traffic = p .traffic }
 withRecord p (halfLink h) =
-    record { bridges = p .bridges; halfLinks = p .halfLinks ++ (h ∷ []); vids = p .vids; members = p .members }
+    record { bridges = p .bridges; halfLinks = p .halfLinks ++ (h ∷ []); vids = p .vids; members = p .members; traffic = p .traffic }
 withRecord p (vid v) =
-    record { bridges = p .bridges; halfLinks = p .halfLinks; vids = p .vids ++ (v ∷ []); members = p .members }
+    record { bridges = p .bridges; halfLinks = p .halfLinks; vids = p .vids ++ (v ∷ []); members = p .members; traffic = p .traffic }
 withRecord p (member m) =
-    record { bridges = p .bridges; halfLinks = p .halfLinks; vids = p .vids; members = p .members ++ (m ∷ []) }
+    record { bridges = p .bridges; halfLinks = p .halfLinks; vids = p .vids; members = p .members ++ (m ∷ []); traffic = p .traffic }
+withRecord p (traffic t) =
+    record { bridges = p .bridges; halfLinks = p .halfLinks; vids = p .vids; members = p .members; traffic = p .traffic ++ (t ∷ []) }
 withRecord p (end n) = p
 
 -- How many records of the kind of a record there are.
@@ -36,6 +39,7 @@ alike p (bridge b) = length (p .bridges)
 alike p (halfLink h) = length (p .halfLinks)
 alike p (vid v) = length (p .vids)
 alike p (member m) = length (p .members)
+alike p (traffic t) = length (p .traffic)
 alike p (end n) = 0
 
 -- "bridges are numbered from 0 in their order".
@@ -64,6 +68,6 @@ abbrev pub knownVid : Plan → ℕ → Bool
 knownVid p n = anyPasses (hasVid n) (p .vids)
 
 -- The plan that the paths of a VID are chosen in and its frames move over: the plan itself. Request A14 (document 02) puts the plan of
--- the VID's topology behind this name: the same bridges, VIDs and members, and of the half-links those of that topology.
+-- the VID's topology behind this name: the same bridges, VIDs, members and traffic, and of the half-links those of that topology.
 abbrev pub planOfVid : Plan → Vid → Plan
 planOfVid p v = p

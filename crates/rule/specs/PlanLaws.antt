@@ -5,7 +5,7 @@ use mathlib.Core.Path.{_≡_}
 use mathlib.Core.List.{List}
 use lib.ListN.{length}
 use Rattle.lists.specs.Members.{In, EveryTwo}
-use Rattle.rule.specs.Records.{Bridge, HalfLink, Vid, Member, address, groupBit}
+use Rattle.rule.specs.Records.{Bridge, HalfLink, Vid, Member, Traffic, address, groupBit}
 use Rattle.rule.specs.Plan.{Plan}
 
 -- "A record repeats an earlier one's address, SPsourceID, near bridge with port, VID, or bridge with I-SID and VID": of two records
@@ -22,6 +22,10 @@ VidsApart e v = e .vid ≡ v .vid → ⊥
 
 abbrev pub MembersApart : Member → Member → Type 0
 MembersApart e m = e .bridge ≡ m .bridge → e .isid ≡ m .isid → e .vid ≡ m .vid → ⊥
+
+-- "a repeated VID, from and to 8; the opposite direction is no repeat" (02, A5).
+abbrev pub TrafficApart : Traffic → Traffic → Type 0
+TrafficApart e t = e .vid ≡ t .vid → e .from ≡ t .from → e .to ≡ t .to → ⊥
 
 -- Two half-links of one link number: near and far bridge exchanged.
 abbrev pub Mirrors : HalfLink → HalfLink → Type 0
@@ -55,7 +59,16 @@ pub record MemberFits (bridges : ℕ) (vids : List Vid) (m : Member) : Type 0 wh
   pub bridge-known : m .bridge < bridges
   pub vid-known : (v : Vid) × In v vids × (v .vid ≡ m .vid)
 
--- The laws of each of the four lists of records.
+-- Traffic within its ranges, from one bridge of the plan to another, in a VID of the plan.
+pub record TrafficFits (bridges : ℕ) (vids : List Vid) (t : Traffic) : Type 0 where
+  pub least-amount : 1 ≤ t .amount
+  pub greatest-amount : t .amount ≤ 65535
+  pub from-known : t .from < bridges
+  pub to-known : t .to < bridges
+  pub apart : t .from ≡ t .to → ⊥
+  pub vid-known : (v : Vid) × In v vids × (v .vid ≡ t .vid)
+
+-- The laws of each of the five lists of records.
 pub record BridgeLaws (bs : List Bridge) : Type 0 where
   pub few : length bs ≤ 64
   pub apart : EveryTwo BridgesApart bs
@@ -76,8 +89,14 @@ pub record MemberLaws (bridges : ℕ) (vids : List Vid) (ms : List Member) : Typ
   pub apart : EveryTwo MembersApart ms
   pub fits : (m : Member) → In m ms → MemberFits bridges vids m
 
+pub record TrafficLaws (bridges : ℕ) (vids : List Vid) (ts : List Traffic) : Type 0 where
+  pub few : length ts ≤ 256
+  pub apart : EveryTwo TrafficApart ts
+  pub fits : (t : Traffic) → In t ts → TrafficFits bridges vids t
+
 pub record PlanLaws (p : Plan) : Type 0 where
   pub bridges : BridgeLaws (p .bridges)
   pub half-links : HalfLinkLaws (length (p .bridges)) (p .halfLinks)
   pub vids : VidLaws (p .vids)
   pub members : MemberLaws (length (p .bridges)) (p .vids) (p .members)
+  pub traffic : TrafficLaws (length (p .bridges)) (p .vids) (p .traffic)

@@ -52,6 +52,7 @@ pub data Record : Type 0 where
   halfLink : HalfLink → Record
   vid : Vid → Record
   member : Member → Record
+  traffic : Traffic → Record
   end : ℕ → Record
 
 -- The count of an end record, or none of another record.
@@ -60,6 +61,7 @@ endCount (bridge b) = none
 endCount (halfLink h) = none
 endCount (vid v) = none
 endCount (member m) = none
+endCount (traffic t) = none
 endCount (end n) = some n
 
 -- A field of a record's words: the bits `high`..`low` of the word `n`.
@@ -98,6 +100,16 @@ memberOf r =
       isid = fieldAt 0 23 0 r;
       bridge = fieldAt 1 31 16 r;
       vid = fieldAt 1 15 0 r;
+    }
+
+-- "VID in bits 27..16 and amount 1 to 65,535 in 15..0; from (16) and to (16)" (02, A5).
+abbrev pub trafficOf : List ℕ → Traffic
+trafficOf r =
+    record {
+      vid = fieldAt 0 27 16 r;
+      amount = fieldAt 0 15 0 r;
+      from = fieldAt 1 31 16 r;
+      to = fieldAt 1 15 0 r;
     }
 
 -- "Ranges": the least and the greatest value of a field.
@@ -153,6 +165,10 @@ indexLimits = record { least = 1; greatest = 16 }
 -- "a house limit".
 abbrev pub isidLimits : Limits
 isidLimits = record { least = 256; greatest = 16777214 }
+
+-- "amount 1 to 65,535" (02, A5).
+abbrev pub amountLimits : Limits
+amountLimits = record { least = 1; greatest = 65535 }
 
 -- A value of a record and its limits.
 pub record Range : Type 0 where
@@ -228,6 +244,18 @@ memberLayout =
       zeroBits = fieldAt 0 27 26;
       ranges = rangeOf (λ r. memberOf r .isid) isidLimits ∷ rangeOf (λ r. memberOf r .vid) vidLimits ∷ [];
       decoded = λ r. member (memberOf r);
+    }
+
+-- "Kind 5, after the members, is two words", "Up to 256 records are allowed" (02, A5). All bits are in use.
+abbrev pub trafficLayout : Layout
+trafficLayout =
+    record {
+      kind = 5;
+      words = 2;
+      limit = 256;
+      zeroBits = λ r. 0;
+      ranges = rangeOf (λ r. trafficOf r .vid) vidLimits ∷ rangeOf (λ r. trafficOf r .amount) amountLimits ∷ [];
+      decoded = λ r. traffic (trafficOf r);
     }
 
 -- "15 | end, 1: bits 27..0 the number of words before it | exactly 1".

@@ -11,6 +11,7 @@ pub enum RecordKind {
     HalfLink,
     Vid,
     Member,
+    Traffic,
     End,
 }
 

@@ -1,4 +1,4 @@
-// The record kinds by their numbers, how many records of each a table may have, and how long that makes it (01, "The table").
+// The record kinds by their numbers, how many records of each a table may have, and how long that makes it (01, "The table"; 02, A5).
 
 pub const BRIDGE: u32 = 1;
 
@@ -7,6 +7,8 @@ pub const HALF_LINK: u32 = 2;
 pub const VID: u32 = 3;
 
 pub const MEMBER: u32 = 4;
+
+pub const TRAFFIC: u32 = 5;
 
 pub const END: u32 = 15;
 
@@ -17,6 +19,8 @@ pub const MOST_HALF_LINKS: usize = 512;
 pub const MOST_VIDS: usize = 16;
 
 pub const MOST_MEMBERS: usize = 64;
+
+pub const MOST_TRAFFIC: usize = 256;
 
 pub const MOST_ENDS: usize = 1;
 

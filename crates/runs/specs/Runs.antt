@@ -11,7 +11,7 @@ use Rattle.rule.specs.Outcome.{refused}
 use Rattle.rule.specs.Answers.{kindNumber}
 use Rattle.rule.specs.Check.{readOn, start}
 use Rattle.table.specs.declared.shape.Shape.{Shape}
-use Rattle.table.specs.Positions.{halfLinksFrom, vidsFrom, membersFrom, wordsRead, readingAt}
+use Rattle.table.specs.Positions.{halfLinksFrom, vidsFrom, membersFrom, trafficFrom, wordsRead, readingAt}
 use Rattle.earlier.specs.HalfLinks.{numberKey, Keyed}
 use Rattle.steps.specs.declared.step.Step.{Step}
 
@@ -20,12 +20,14 @@ abbrev pub isKind : List ℕ → ℕ → ℕ → Bool
 isKind ws kind at = ltb at (length ws) && eqb (bits (word ws at) 31 28) kind
 
 abbrev pub recordsRead : Shape → ℕ
-recordsRead s = s .bridges + s .«half_links» + s .vids + s .members
+recordsRead s = s .bridges + s .«half_links» + s .vids + s .members + s .traffic
 
--- The reading has come to the records of `s`: what is left to read, from there, comes to what the whole table comes to.
+-- The reading has come to the records of `s`: what is left to read, from there, comes to what the whole table comes to. There are no
+-- more VIDs than there may be, so that they can be entered into an index.
 pub record Reached (ws : List ℕ) (s : Shape) : Type 0 where
   pub rest : readOn (length ws - recordsRead s) ws (readingAt ws s) ≡ readOn (length ws) ws start
   pub within : wordsRead s ≤ length ws
+  pub few-vids : s .vids ≤ 16
 
 -- There are as many records of the other kinds.
 pub record SameOthers (kind : ℕ) (s t : Shape) : Type 0 where
@@ -33,6 +35,7 @@ pub record SameOthers (kind : ℕ) (s t : Shape) : Type 0 where
   pub half-links : (kind ≡ 2 → ⊥) → t .«half_links» ≡ s .«half_links»
   pub vids : (kind ≡ 3 → ⊥) → t .vids ≡ s .vids
   pub members : (kind ≡ 4 → ⊥) → t .members ≡ s .members
+  pub traffic : (kind ≡ 5 → ⊥) → t .traffic ≡ s .traffic
 
 -- A refusal is the verdict.
 abbrev pub Refuses : List ℕ → Step → Type 0
@@ -61,10 +64,12 @@ pub record Before (ws links : List ℕ) (kind : ℕ) (s : Shape) : Type 0 where
   pub no-half-links : kind ≤ 2 → s .«half_links» ≡ 0
   pub no-vids : kind ≤ 3 → s .vids ≡ 0
   pub no-members : kind ≤ 4 → s .members ≡ 0
+  pub no-traffic : kind ≤ 5 → s .traffic ≡ 0
   pub bridges-end : 1 < kind → isKind ws 1 (halfLinksFrom s) ≡ false
   pub half-links-end : 2 < kind → isKind ws 2 (vidsFrom s) ≡ false
   pub vids-end : 3 < kind → isKind ws 3 (membersFrom s) ≡ false
-  pub members-end : 4 < kind → isKind ws 4 (wordsRead s) ≡ false
+  pub members-end : 4 < kind → isKind ws 4 (trafficFrom s) ≡ false
+  pub traffic-end : 5 < kind → isKind ws 5 (wordsRead s) ≡ false
 
 -- The records of the kind were read, or one was refused.
 pub record KindRead (ws links : List ℕ) (kind : ℕ) (r : Step) : Type 0 where

@@ -12,8 +12,8 @@ use Rattle.rule.specs.Outcome.{refused}
 use Rattle.rule.specs.Answers.{kindNumber}
 use Rattle.rule.specs.Check.{goesOn, stops, readAs, ReadingStep}
 use Rattle.table.specs.declared.shape.Shape.{Shape}
-use Rattle.table.specs.Positions.{halfLinksFrom, membersFrom, wordsRead, readingAt}
-use Rattle.earlier.specs.Keys.{BridgeIndexes, MemberIndex}
+use Rattle.table.specs.Positions.{halfLinksFrom, membersFrom, trafficFrom, wordsRead, readingAt}
+use Rattle.earlier.specs.Keys.{BridgeIndexes, MemberIndex, TrafficIndex}
 use Rattle.earlier.specs.HalfLinks.{portKey, numberKey, Keyed}
 use Rattle.steps.specs.declared.step.Step.{Step}
 
@@ -23,16 +23,54 @@ concerned number kind = cond (eqb number 2) RecordKind.None kind
 
 -- One record more.
 abbrev pub withBridge : Shape → Shape
-withBridge s = record { bridges = s .bridges + 1; «half_links» = s .«half_links»; vids = s .vids; members = s .members }
+withBridge s =
+    record {
+      bridges = s .bridges + 1;
+      «half_links» = s .«half_links»;
+      vids = s .vids;
+      members = s .members;
+      traffic = s .traffic;
+    }
 
 abbrev pub withHalfLink : Shape → Shape
-withHalfLink s = record { bridges = s .bridges; «half_links» = s .«half_links» + 1; vids = s .vids; members = s .members }
+withHalfLink s =
+    record {
+      bridges = s .bridges;
+      «half_links» = s .«half_links» + 1;
+      vids = s .vids;
+      members = s .members;
+      traffic = s .traffic;
+    }
 
 abbrev pub withVid : Shape → Shape
-withVid s = record { bridges = s .bridges; «half_links» = s .«half_links»; vids = s .vids + 1; members = s .members }
+withVid s =
+    record {
+      bridges = s .bridges;
+      «half_links» = s .«half_links»;
+      vids = s .vids + 1;
+      members = s .members;
+      traffic = s .traffic;
+    }
 
 abbrev pub withMember : Shape → Shape
-withMember s = record { bridges = s .bridges; «half_links» = s .«half_links»; vids = s .vids; members = s .members + 1 }
+withMember s =
+    record {
+      bridges = s .bridges;
+      «half_links» = s .«half_links»;
+      vids = s .vids;
+      members = s .members + 1;
+      traffic = s .traffic;
+    }
+
+abbrev pub withTraffic : Shape → Shape
+withTraffic s =
+    record {
+      bridges = s .bridges;
+      «half_links» = s .«half_links»;
+      vids = s .vids;
+      members = s .members;
+      traffic = s .traffic + 1;
+    }
 
 -- What the answer to a record stands for.
 abbrev pub stepValues : List ℕ → Step → ReadingStep
@@ -63,3 +101,6 @@ HalfLinksKept ws ports links r = (t : Shape) → r ≡ Step.Next t → HalfLinkI
 
 abbrev pub MembersKept : List ℕ → List ℕ → Step → Type 0
 MembersKept ws members r = (t : Shape) → r ≡ Step.Next t → MemberIndex members ws (membersFrom t) (t .members)
+
+abbrev pub TrafficKept : List ℕ → List ℕ → Step → Type 0
+TrafficKept ws traffic r = (t : Shape) → r ≡ Step.Next t → TrafficIndex traffic ws (trafficFrom t) (t .traffic)

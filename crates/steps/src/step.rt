@@ -2,24 +2,27 @@
 use earlier::half_link::port_key;
 use earlier::repeats::address_key;
 use earlier::repeats::member_key;
+use earlier::traffic::traffic_key;
 use faults::lowest::bridge_fault;
 use faults::lowest::half_link_fault;
 use faults::lowest::member_fault;
+use faults::lowest::traffic_fault;
 use faults::lowest::vid_fault;
 use key_index::entry::enter;
 use readers::bridge::bridge_at;
 use readers::half_link::half_link_at;
 use readers::member::member_at;
+use readers::traffic::traffic_at;
 use rule::answer::RecordKind;
 use table::shape::Shape;
 ghost use mathlib.Core.Path.{_≡_};
 ghost use Prim.Native.Nat.{_<_};
 ghost use Rattle.rule.specs.Words.{wordsOf};
-ghost use Rattle.rule.specs.Records.{bridgeLayout, halfLinkLayout, vidLayout, memberLayout};
-ghost use Rattle.table.specs.Positions.{membersFrom};
+ghost use Rattle.rule.specs.Records.{bridgeLayout, halfLinkLayout, vidLayout, memberLayout, trafficLayout};
+ghost use Rattle.table.specs.Positions.{vidsFrom, membersFrom, trafficFrom};
 ghost use Rattle.table.specs.Whole.{Whole};
-ghost use Rattle.earlier.specs.Keys.{BridgeIndexes, MemberIndex};
-ghost use Rattle.steps.specs.Steps.{concerned, withBridge, withHalfLink, withVid, withMember, stepAs, Stepped, HalfLinkIndexes, BridgesKept, HalfLinksKept, MembersKept};
+ghost use Rattle.earlier.specs.Keys.{BridgeIndexes, VidIndex, MemberIndex, TrafficIndex};
+ghost use Rattle.steps.specs.Steps.{concerned, withBridge, withHalfLink, withVid, withMember, withTraffic, stepAs, Stepped, HalfLinkIndexes, BridgesKept, HalfLinksKept, MembersKept, TrafficKept};
 ghost use Rattle.steps.specs.declared.step.Step.{Step};
 
 pub enum Step {
@@ -78,6 +81,7 @@ pub fn after_bridge(
         half_links: s.half_links,
         vids: s.vids,
         members: s.members,
+        traffic: s.traffic,
     })
 }
 
@@ -106,6 +110,7 @@ pub fn after_half_link(
         half_links: s.half_links + 1,
         vids: s.vids,
         members: s.members,
+        traffic: s.traffic,
     })
 }
 
@@ -123,6 +128,7 @@ pub fn after_vid(table: &[u8], s: Shape) -> Step
         half_links: s.half_links,
         vids: s.vids + 1,
         members: s.members,
+        traffic: s.traffic,
     })
 }
 
@@ -145,5 +151,30 @@ pub fn after_member(table: &[u8], s: Shape, member_index: &mut [u32]) -> Step
         half_links: s.half_links,
         vids: s.vids,
         members: s.members + 1,
+        traffic: s.traffic,
+    })
+}
+
+// The traffic record after those of `s`, whose VIDs and traffic are in the two indexes (02, A5).
+pub fn after_traffic(table: &[u8], s: Shape, vid_index: &[u32], traffic_index: &mut [u32]) -> Step
+    requires { ⌜ Whole (now table) s ⌝ }
+    requires { ⌜ VidIndex (now «vid_index») (wordsOf (now table)) (vidsFrom s) (s .vids) ⌝ }
+    requires { ⌜ TrafficIndex (now «traffic_index») (wordsOf (now table)) (trafficFrom s) (s .traffic) ⌝ }
+    ensures { λ r. ⌜ Stepped (wordsOf (now (table .entry))) (withTraffic s) (stepAs (wordsOf (now (table .entry))) s trafficLayout) r ⌝ }
+    ensures { λ r. ⌜ TrafficKept (wordsOf (now (table .entry))) (now («traffic_index» .exit)) r ⌝ }
+{
+    let at = s.words_read();
+    let fault = traffic_fault(table, s, at, vid_index, &traffic_index[..]);
+    if fault != 0 {
+        return refusal(fault, RecordKind::Traffic, at);
+    }
+    let t = traffic_at(table, at);
+    enter(traffic_index, s.traffic, traffic_key(t.vid, t.from, t.to));
+    Step::Next(Shape {
+        bridges: s.bridges,
+        half_links: s.half_links,
+        vids: s.vids,
+        members: s.members,
+        traffic: s.traffic + 1,
     })
 }

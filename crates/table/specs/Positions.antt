@@ -6,7 +6,7 @@ use mathlib.Core.Bool.{cond}
 use lib.Dec.{ltb}
 use lib.ListN.{drop}
 use Rattle.lists.specs.Lists.{rising}
-use Rattle.rule.specs.Records.{bridgeOf, halfLinkOf, vidOf, memberOf}
+use Rattle.rule.specs.Records.{bridgeOf, halfLinkOf, vidOf, memberOf, trafficOf}
 use Rattle.rule.specs.Plan.{Plan}
 use Rattle.rule.specs.Check.{Reading}
 use Rattle.table.specs.declared.shape.Shape.{Shape}
@@ -29,8 +29,11 @@ vidsFrom s = halfLinksFrom s + 3 * s .«half_links»
 abbrev pub membersFrom : Shape → ℕ
 membersFrom s = vidsFrom s + s .vids
 
+abbrev pub trafficFrom : Shape → ℕ
+trafficFrom s = membersFrom s + 2 * s .members
+
 abbrev pub wordsRead : Shape → ℕ
-wordsRead s = membersFrom s + 2 * s .members
+wordsRead s = trafficFrom s + 2 * s .traffic
 
 -- The plan of the records read.
 abbrev pub planAt : List ℕ → Shape → Plan
@@ -40,12 +43,13 @@ planAt ws s =
       halfLinks = recordsAt halfLinkOf 3 (halfLinksFrom s) ws (s .«half_links»);
       vids = recordsAt vidOf 1 (vidsFrom s) ws (s .vids);
       members = recordsAt memberOf 2 (membersFrom s) ws (s .members);
+      traffic = recordsAt trafficOf 2 (trafficFrom s) ws (s .traffic);
     }
 
 abbrev pub lastKind : Shape → ℕ
 lastKind s =
-    cond (ltb 0 (s .members)) 4
-    (cond (ltb 0 (s .vids)) 3 (cond (ltb 0 (s .«half_links»)) 2 (cond (ltb 0 (s .bridges)) 1 0)))
+    cond (ltb 0 (s .traffic)) 5
+    (cond (ltb 0 (s .members)) 4 (cond (ltb 0 (s .vids)) 3 (cond (ltb 0 (s .«half_links»)) 2 (cond (ltb 0 (s .bridges)) 1 0))))
 
 -- Where the reading stands.
 abbrev pub readingAt : List ℕ → Shape → Reading

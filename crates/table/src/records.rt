@@ -1,4 +1,4 @@
-// Records of a table by their numbers within their kind, and the ECT index of a VID (01, "The table").
+// Records of a table by their numbers within their kind, and the ECT index of a VID (01, "The table"; 02, A5).
 use crate::shape::Shape;
 use readers::bridge::Bridge;
 use readers::bridge::bridge_at;
@@ -6,6 +6,8 @@ use readers::half_link::HalfLink;
 use readers::half_link::half_link_at;
 use readers::member::Member;
 use readers::member::member_at;
+use readers::traffic::Traffic;
+use readers::traffic::traffic_at;
 use readers::vid::Vid;
 use readers::vid::vid_at;
 ghost use mathlib.Core.Path.{_≡_};
@@ -14,8 +16,8 @@ ghost use Rattle.rule.specs.Words.{wordsOf};
 ghost use Rattle.rule.specs.Plan.{vidRecord};
 ghost use Rattle.table.specs.Positions.{planAt};
 ghost use Rattle.table.specs.Whole.{Whole};
-ghost use Rattle.readers.specs.Readers.{bridgeValues, halfLinkValues, vidValues, memberValues};
-ghost use Rattle.table.specs.Numbered.{bridgeNumber, halfLinkNumber, vidNumber, memberNumber, indexOf};
+ghost use Rattle.readers.specs.Readers.{bridgeValues, halfLinkValues, vidValues, memberValues, trafficValues};
+ghost use Rattle.table.specs.Numbered.{bridgeNumber, halfLinkNumber, vidNumber, memberNumber, trafficNumber, indexOf};
 
 pub fn bridge(table: &[u8], s: Shape, d: usize) -> Bridge
     requires { ⌜ Whole (now table) s × (d < s .bridges) ⌝ }
@@ -43,6 +45,13 @@ pub fn member(table: &[u8], s: Shape, j: usize) -> Member
     ensures { λ r. ⌜ memberValues r ≡ memberNumber (wordsOf (now (table .entry))) s j ⌝ }
 {
     member_at(table, s.members_from() + 2 * j)
+}
+
+pub fn traffic(table: &[u8], s: Shape, i: usize) -> Traffic
+    requires { ⌜ Whole (now table) s × (i < s .traffic) ⌝ }
+    ensures { λ r. ⌜ trafficValues r ≡ trafficNumber (wordsOf (now (table .entry))) s i ⌝ }
+{
+    traffic_at(table, s.traffic_from() + 2 * i)
 }
 
 // The ECT index of a VID, or 0 where it has no record.

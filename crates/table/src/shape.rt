@@ -3,16 +3,18 @@
 use rule::kinds::BRIDGE;
 use rule::kinds::HALF_LINK;
 use rule::kinds::MEMBER;
+use rule::kinds::TRAFFIC;
 use rule::kinds::VID;
 ghost use mathlib.Core.Path.{_≡_};
 ghost use Prim.Native.Nat.{_<_};
-ghost use Rattle.table.specs.Positions.{halfLinksFrom, vidsFrom, membersFrom, wordsRead, lastKind};
+ghost use Rattle.table.specs.Positions.{halfLinksFrom, vidsFrom, membersFrom, trafficFrom, wordsRead, lastKind};
 
 pub struct Shape {
     pub bridges: usize,
     pub half_links: usize,
     pub vids: usize,
     pub members: usize,
+    pub traffic: usize,
 }
 
 impl Shape {
@@ -40,18 +42,29 @@ impl Shape {
         self.vids_from() + self.vids
     }
 
+    // The first word of the traffic (02, A5).
+    pub fn traffic_from(self) -> usize
+        requires { ⌜ wordsRead self < 4294967296 ⌝ }
+        ensures { λ r. ⌜ r ≡ trafficFrom self ⌝ }
+    {
+        self.members_from() + 2 * self.members
+    }
+
     // The words of all the records read: the first word of the next record.
     pub fn words_read(self) -> usize
         requires { ⌜ wordsRead self < 4294967296 ⌝ }
         ensures { λ r. ⌜ r ≡ wordsRead self ⌝ }
     {
-        self.members_from() + 2 * self.members
+        self.traffic_from() + 2 * self.traffic
     }
 
     // The kind of the last record read, 0 before the first.
     pub fn last_kind(self) -> u32
         ensures { λ r. ⌜ r ≡ lastKind self ⌝ }
     {
+        if 0 < self.traffic {
+            return TRAFFIC;
+        }
         if 0 < self.members {
             return MEMBER;
         }

@@ -94,6 +94,7 @@ pub fn examine(table: &[u8], link_index: &mut [u32]) -> Examined
         half_links: 0,
         vids: 0,
         members: 0,
+        traffic: 0,
     };
     let mut next = BRIDGE;
     while next <= MEMBER {

@@ -14,11 +14,11 @@ use Rattle.rule.specs.Records.{HalfLink, halfLinkOf}
 use Rattle.rule.specs.Check.{repeatsPort, hasLink, mirrors, wrongHalf}
 use Rattle.key_index.specs.Places.{lastPlace}
 use Rattle.key_index.specs.laws.PlaceLaws.{last-within, last-passes, last-same}
-use Rattle.key_index.specs.laws.Passing.{nothing-passes, last-passing, any-last}
+use Rattle.key_index.specs.laws.Passing.{nothing-passes, last-passing}
 use Rattle.key_index.specs.Index.{keyAt, holds, earlierPlace}
 use Rattle.table.specs.Positions.{recordAt, recordsAt}
-use Rattle.table.specs.laws.PositionLaws.{search-records}
 use Rattle.earlier.specs.HalfLinks.{portKey, numberKey, Keyed}
+use Rattle.earlier.specs.laws.KeyLaws.{found-by-key}
 
 -- Two or more in front of the record: it is a third.
 third-is-wrong : (h : HalfLink) (xs : List HalfLink) (a b : HalfLink) → true ≡ wrongHalf h ((xs ++ (a ∷ [])) ++ (b ∷ []))
@@ -110,9 +110,5 @@ pub port-repeated :
     not (eqb (lastPlace (holds ports (h .near * 65536 + h .port)) n) 0)
     ≡ anyPasses (repeatsPort h) (recordsAt halfLinkOf 3 from ws n)
 port-repeated {ports} {ws} {from} {n} k h l =
-    ap (λ (x : ℕ). not (eqb x 0))
-    (last-same (holds ports (h .near * 65536 + h .port)) (λ i. repeatsPort h (recordAt halfLinkOf 3 from ws i)) n λ i s.
-    ap (λ (x : ℕ). eqb x (h .near * 65536 + h .port)) (k .keys i s)
-    ∙ same-key (recordAt halfLinkOf 3 from ws i .near) (recordAt halfLinkOf 3 from ws i .port) (h .near) (h .port) (omega arith) l)
-    ∙ sym (any-last (λ i. repeatsPort h (recordAt halfLinkOf 3 from ws i)) n)
-    ∙ sym (search-records halfLinkOf 3 from ws (repeatsPort h) n)
+    found-by-key k (h .near * 65536 + h .port) (repeatsPort h) λ i s.
+    same-key (recordAt halfLinkOf 3 from ws i .near) (recordAt halfLinkOf 3 from ws i .port) (h .near) (h .port) (omega arith) l

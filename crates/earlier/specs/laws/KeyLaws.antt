@@ -8,16 +8,17 @@ use mathlib.Core.Logic.{_⊎_, inl, inr}
 use lib.Dec.{eqb}
 use borrow.Author.Tests.{eq-eqb, ne-eqb, eqb-true}
 use Rattle.lists.specs.Lists.{rising, anyPasses}
-use Rattle.lists.specs.laws.NumberLaws.{le-or-gt}
-use Rattle.rule.specs.Records.{Bridge, bridgeOf, address, Member, memberOf}
-use Rattle.rule.specs.Check.{repeatsBridge, repeatsMember}
+use Rattle.lists.specs.laws.NumberLaws.{le-or-gt, true-test, three-equal}
+use Rattle.rule.specs.Records.{Bridge, bridgeOf, address, vidOf, Member, memberOf, Traffic, trafficOf}
+use Rattle.rule.specs.Plan.{hasVid}
+use Rattle.rule.specs.Check.{repeatsBridge, repeatsMember, repeatsTraffic}
 use Rattle.key_index.specs.Places.{lastPlace}
-use Rattle.key_index.specs.laws.PlaceLaws.{last-within, last-passes, none-passes}
+use Rattle.key_index.specs.laws.PlaceLaws.{last-within, last-passes, last-same, none-passes}
 use Rattle.key_index.specs.laws.Passing.{any-last}
 use Rattle.key_index.specs.Index.{keyAt, holds, Indexed, Entered}
 use Rattle.table.specs.Positions.{recordAt, recordsAt}
 use Rattle.table.specs.laws.PositionLaws.{search-records}
-use Rattle.earlier.specs.Keys.{KeyedBy, sourceKey, addressKey, memberKey, BridgeIndexes, MemberIndex}
+use Rattle.earlier.specs.Keys.{KeyedBy, sourceKey, addressKey, memberKey, trafficKey, BridgeIndexes, VidIndex, MemberIndex, TrafficIndex}
 
 -- One record more, and none
 
@@ -58,6 +59,17 @@ module _ {A : Type 0} {decoded : List ℕ → A} {width : ℕ} {key : A → ℕ}
           let l : i < n = omega (arith, last-within (holds s k) n)
           in (i, l, sym (K .keys i l) ∙ eqb-true (keyAt s i) k (last-passes (holds s k) n i f))
 
+  -- Where the records that pass a test are those with the key, the index says whether one passes.
+  pub found-by-key :
+      (test : A → Bool) →
+      ((i : ℕ) → i < n → eqb (key (recordAt decoded width from ws i)) k ≡ test (recordAt decoded width from ws i)) →
+      not (eqb (lastPlace (holds s k) n) 0) ≡ anyPasses test (recordsAt decoded width from ws n)
+  found-by-key test same =
+      ap (λ (x : ℕ). not (eqb x 0))
+      (last-same (holds s k) (λ i. test (recordAt decoded width from ws i)) n λ i l. ap (λ (x : ℕ). eqb x k) (K .keys i l) ∙ same i l)
+      ∙ sym (any-last (λ i. test (recordAt decoded width from ws i)) n)
+      ∙ sym (search-records decoded width from ws test n)
+
 -- Whether a record passes a test, by its number.
 module _ {A : Type 0} (decoded : List ℕ → A) (width from : ℕ) (ws : List ℕ) (test : A → Bool) (n : ℕ) where
   abbrev passes : ℕ → Bool
@@ -75,6 +87,18 @@ module _ {A : Type 0} (decoded : List ℕ → A) (width from : ℕ) (ws : List �
       none : (p : ℕ) → lastPlace passes n ≡ p → p ≡ 0
       none zero e = refl
       none (suc i) e = absurd (h i (omega (arith, last-within passes n)) (last-passes passes n i e))
+
+-- Where no place holds the key that the records which pass a test have, none passes.
+pub nothing-with-key :
+    {A : Type 0} {decoded : List ℕ → A} {width : ℕ} {key : A → ℕ} {s ws : List ℕ} {from n : ℕ} →
+    KeyedBy decoded width key s ws from n →
+    (k : ℕ) (test : A → Bool) →
+    ((r : A) → test r ≡ true → key r ≡ k) →
+    (place : ℕ) → place ≡ lastPlace (holds s k) n → place ≡ 0 →
+    false ≡ anyPasses test (recordsAt decoded width from ws n)
+nothing-with-key {decoded = decoded} {width = width} {ws = ws} {from = from} {n = n} K k test same place e h =
+    no-record-passes decoded width from ws test n λ i l p.
+    no-record-has K k (sym e ∙ h) i l (same (recordAt decoded width from ws i) p)
 
 -- Bridges
 
@@ -112,20 +136,31 @@ module _ {sources addresses ws : List ℕ} {n : ℕ} (x : BridgeIndexes sources 
 
 -- Members
 
+same-member-key : (m r : Member) → repeatsMember m r ≡ true → memberKey r ≡ memberKey m
+same-member-key m r p =
+    let (a, b, c) = three-equal (r .bridge) (m .bridge) (r .isid) (m .isid) (r .vid) (m .vid) (true-test (repeatsMember m r) p)
+    in omega arith
+
 pub no-member-repeated :
     {members ws : List ℕ} {from n : ℕ} → MemberIndex members ws from n → (m : Member) (place : ℕ) →
     place ≡ lastPlace (holds members (memberKey m)) n → place ≡ 0 →
     false ≡ anyPasses (repeatsMember m) (recordsAt memberOf 2 from ws n)
-no-member-repeated {members} {ws} {from} {n} x m place e h =
-    no-record-passes memberOf 2 from ws (repeatsMember m) n λ i l p.
-    differs (recordAt memberOf 2 from ws i) (no-record-has x (memberKey m) (sym e ∙ h) i l) p
-  where
-    differs : (r : Member) → (memberKey r ≡ memberKey m → ⊥) → repeatsMember m r ≡ true → ⊥
-    differs r d p = go (eqb (r .bridge) (m .bridge)) refl (eqb (r .isid) (m .isid)) refl p
-      where
-        go :
-            (y : Bool) → eqb (r .bridge) (m .bridge) ≡ y → (z : Bool) → eqb (r .isid) (m .isid) ≡ z →
-            (y && z && eqb (r .vid) (m .vid)) ≡ true → ⊥
-        go true e true f q = d (let u : r .bridge ≡ m .bridge = eqb-true (r .bridge) (m .bridge) e in let v : r .isid ≡ m .isid = eqb-true (r .isid) (m .isid) f in omega arith)
-        go true e false f q = let z : _≡_ {A = ℕ} 0 1 = cc in omega arith
-        go false e z f q = let z : _≡_ {A = ℕ} 0 1 = cc in omega arith
+no-member-repeated x m = nothing-with-key x (memberKey m) (repeatsMember m) (same-member-key m)
+
+-- Traffic, and the VIDs that it names
+
+same-traffic-key : (t r : Traffic) → repeatsTraffic t r ≡ true → trafficKey r ≡ trafficKey t
+same-traffic-key t r p =
+    let (a, b, c) = three-equal (r .vid) (t .vid) (r .from) (t .from) (r .to) (t .to) (true-test (repeatsTraffic t r) p)
+    in omega arith
+
+pub no-traffic-repeated :
+    {traffic ws : List ℕ} {from n : ℕ} → TrafficIndex traffic ws from n → (t : Traffic) (place : ℕ) →
+    place ≡ lastPlace (holds traffic (trafficKey t)) n → place ≡ 0 →
+    false ≡ anyPasses (repeatsTraffic t) (recordsAt trafficOf 2 from ws n)
+no-traffic-repeated x t = nothing-with-key x (trafficKey t) (repeatsTraffic t) (same-traffic-key t)
+
+pub vid-by-index :
+    {vids ws : List ℕ} {from n : ℕ} → VidIndex vids ws from n → (vid : ℕ) →
+    not (eqb (lastPlace (holds vids vid) n) 0) ≡ anyPasses (hasVid vid) (recordsAt vidOf 1 from ws n)
+vid-by-index x vid = found-by-key x vid (hasVid vid) (λ i l. refl)

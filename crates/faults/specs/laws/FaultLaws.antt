@@ -10,9 +10,9 @@ use lib.Dec.{eqb, leb, ltb}
 use lib.ListN.{length, take, drop, length-drop}
 use borrow.Author.Tests.{lt-ltb, le-ltb}
 use Rattle.lists.specs.laws.NumberLaws.{le-or-gt}
-use Rattle.rule.specs.Records.{Record, HalfLink, Member, halfLink, member, bridgeOf, halfLinkOf, memberOf, Layout, halfLinkLayout, memberLayout, endCount}
+use Rattle.rule.specs.Records.{Record, HalfLink, Member, Traffic, halfLink, member, traffic, bridgeOf, halfLinkOf, memberOf, trafficOf, Layout, halfLinkLayout, memberLayout, trafficLayout, endCount}
 use Rattle.rule.specs.Plan.{alike, knownVid}
-use Rattle.rule.specs.Check.{Reading, Fault, fault, faults, lowestFault, outsideRange, wrongEndCount, unknownName, repeated, wrongLink, wordsFollow}
+use Rattle.rule.specs.Check.{Reading, Fault, fault, faults, lowestFault, outsideRange, wrongEndCount, unknownEnds, unknownName, repeated, wrongLink, wordsFollow}
 use Rattle.rule.specs.Words.{wordsOf}
 use Rattle.table.specs.declared.shape.Shape.{Shape}
 use Rattle.readers.specs.laws.WordLaws.{count-of-words, words-from}
@@ -196,11 +196,9 @@ module _ {l : Layout} {t : List ℕ} {s : Shape} {got : Read} {e : Record} {last
 
 -- 7, by the number of bridges.
 pub unknown-ends :
-    (ws : List ℕ) (s : Shape) (h : HalfLink) →
-    unknownName (planAt ws s) (halfLink h)
-    ≡ (not (ltb (h .near) (s .bridges)) || not (ltb (h .far) (s .bridges)) || eqb (h .near) (h .far))
-unknown-ends ws s h =
-    ap (λ (n : ℕ). not (ltb (h .near) n) || not (ltb (h .far) n) || eqb (h .near) (h .far)) (how-many bridgeOf 3 0 ws (s .bridges))
+    (ws : List ℕ) (s : Shape) (a b : ℕ) →
+    unknownEnds (planAt ws s) a b ≡ (not (ltb a (s .bridges)) || not (ltb b (s .bridges)) || eqb a b)
+unknown-ends ws s a b = ap (λ (n : ℕ). not (ltb a n) || not (ltb b n) || eqb a b) (how-many bridgeOf 3 0 ws (s .bridges))
 
 pub unknown-member :
     (ws : List ℕ) (s : Shape) (m : Member) →
@@ -223,6 +221,20 @@ words-follow t s b e = go (le-or-gt (length t / 4) (wordsRead s + 1))
         lt-ltb 1 (length (drop (wordsRead s) (wordsOf t))) (omega (arith, length-drop (wordsRead s) (wordsOf t), count-of-words t))
         ∙ sym (lt-ltb (wordsRead s + 1) (length t / 4) l) ∙ e
 
+-- 7 of traffic, by what its ends and its VID come to.
+pub unknown-traffic :
+    (ws : List ℕ) (s : Shape) (t : Traffic) (ends known : Bool) →
+    unknownEnds (planAt ws s) (t .from) (t .to) ≡ ends →
+    knownVid (planAt ws s) (t .vid) ≡ known →
+    unknownName (planAt ws s) (traffic t) ≡ (ends || not known)
+unknown-traffic ws s t ends known e f = λ i. e i || not (f i)
+
+-- The record that was read is the one that its words hold, so its values have no more bits than their fields.
+decoded-is :
+    {l : Layout} {t : List ℕ} {s : Shape} {got : Read} {e : Record} {last count : ℕ} → ReadAt l t s got last count
+    → got ≡ whole e → l .decoded (drop (wordsRead s) (wordsOf t)) ≡ e
+decoded-is {l} {t} {s} {e = e} R g = whole-decoded l (drop (wordsRead s) (wordsOf t)) e (sym (R .got-is) ∙ g)
+
 -- The bridge numbers and the port of a half-link have 16 bits.
 pub of-16-bits : (h : HalfLink) (r : List ℕ) → h ≡ halfLinkOf r → (h .near < 65536) × (h .port < 65536)
 of-16-bits h r e = rw e (omega arith, omega arith)
@@ -230,9 +242,7 @@ of-16-bits h r e = rw e (omega arith, omega arith)
 pub read-of-16-bits :
     {t : List ℕ} {s : Shape} {got : Read} {last count : ℕ} {h : HalfLink} → ReadAt halfLinkLayout t s got last count
     → got ≡ whole (halfLink h) → (h .near < 65536) × (h .port < 65536)
-read-of-16-bits {t} {s} {h = h} R e =
-    of-16-bits h (drop (wordsRead s) (wordsOf t))
-    (cc (whole-decoded halfLinkLayout (drop (wordsRead s) (wordsOf t)) (halfLink h) (sym (R .got-is) ∙ e)))
+read-of-16-bits {t} {s} {h = h} R e = of-16-bits h (drop (wordsRead s) (wordsOf t)) (cc (decoded-is R e))
 
 -- The I-SID of a member has 24 bits, its bridge number 16.
 pub member-bits : (m : Member) (r : List ℕ) → m ≡ memberOf r → (m .isid < 16777216) × (m .bridge < 65536)
@@ -241,6 +251,13 @@ member-bits m r e = rw e (omega arith, omega arith)
 pub read-member-bits :
     {t : List ℕ} {s : Shape} {got : Read} {last count : ℕ} {m : Member} → ReadAt memberLayout t s got last count
     → got ≡ whole (member m) → (m .isid < 16777216) × (m .bridge < 65536)
-read-member-bits {t} {s} {m = m} R e =
-    member-bits m (drop (wordsRead s) (wordsOf t))
-    (cc (whole-decoded memberLayout (drop (wordsRead s) (wordsOf t)) (member m) (sym (R .got-is) ∙ e)))
+read-member-bits {t} {s} {m = m} R e = member-bits m (drop (wordsRead s) (wordsOf t)) (cc (decoded-is R e))
+
+-- The VID of traffic has 12 bits, its bridge numbers 16.
+pub traffic-bits : (t : Traffic) (r : List ℕ) → t ≡ trafficOf r → (t .vid < 4096) × (t .from < 65536) × (t .to < 65536)
+traffic-bits t r e = rw e (omega arith, omega arith, omega arith)
+
+pub read-traffic-bits :
+    {t : List ℕ} {s : Shape} {got : Read} {last count : ℕ} {r : Traffic} → ReadAt trafficLayout t s got last count
+    → got ≡ whole (traffic r) → (r .vid < 4096) × (r .from < 65536) × (r .to < 65536)
+read-traffic-bits {t} {s} {r = r} R e = traffic-bits r (drop (wordsRead s) (wordsOf t)) (cc (decoded-is R e))

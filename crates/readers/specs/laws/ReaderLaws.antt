@@ -6,7 +6,7 @@ use mathlib.Core.Bool.{Bool, true, false}
 use lib.ListN.{length}
 use borrow.Author.Tests.{lt-ltb, le-ltb, eq-eqb, ne-eqb}
 use Rattle.lists.specs.Lists.{anyPasses}
-use Rattle.rule.specs.Records.{Bridge, HalfLink, Vid, Member, bridge, vid, Layout, Range, inLimits}
+use Rattle.rule.specs.Records.{Bridge, HalfLink, Vid, Member, Traffic, bridge, vid, Layout, Range, inLimits}
 use Rattle.rule.specs.Check.{outsideRange}
 use Rattle.readers.specs.Readers.{cut, zeroBit, outOfRange, whole, readOf}
 
@@ -79,3 +79,12 @@ pub same-member :
     v ≡ m .vid →
     record { transmits = t; receives = r; isid = s; bridge = b; vid = v } ≡ m
 same-member a b c d e = λ i. record { transmits = a i; receives = b i; isid = c i; bridge = d i; vid = e i }
+
+pub same-traffic :
+    {v a f t : ℕ} {r : Traffic} →
+    v ≡ r .vid →
+    a ≡ r .amount →
+    f ≡ r .from →
+    t ≡ r .to →
+    record { vid = v; amount = a; from = f; to = t } ≡ r
+same-traffic a b c d = λ i. record { vid = a i; amount = b i; from = c i; to = d i }

@@ -14,7 +14,7 @@ use Rattle.graph.specs.Chosen.{neighbours, onward, paths, chosen}
 use Rattle.lists.specs.Members.{sumOver}
 use Rattle.rule.specs.Words.{wordsOf, word}
 use Rattle.rule.specs.figures.Tables.{table}
-use Rattle.rule.specs.Records.{Record, bridge, halfLink, vid, member, end, bridgeOf, halfLinkOf, vidOf, memberOf, allWithin, leastMetric, greatestUsableMetric, unusableMetric, layouts, layoutOf}
+use Rattle.rule.specs.Records.{Record, bridge, halfLink, vid, member, traffic, end, bridgeOf, halfLinkOf, vidOf, memberOf, allWithin, leastMetric, greatestUsableMetric, unusableMetric, layouts, layoutOf}
 use Rattle.rule.specs.Outcome.{Outcome, answered, refused}
 use Rattle.rule.specs.Plan.{Plan, withRecord, alike, bridgeAt, vidAt}
 use Rattle.rule.specs.Check.{longestTable, lowestFault, readOn, verdict}
@@ -28,7 +28,7 @@ use Rattle.rule.specs.Lookup.{entriesIn, faultyList, matchingPorts, look
 use Rattle.rule.specs.Exported.{exportedCheck, exportedPathCost}
 use Rattle.rule.specs.Frames.{crossed, arrivalPort, entryPorts, leaves, crossings, stood, copiesLeave, copies, copiesCross, reached}
 use Rattle.rule.specs.declared.answer.Counts.{Counts}
-use Rattle.rule.specs.declared.answer.RecordKind.the-variants.{None as NoKind, Bridge as BridgeKind, HalfLink as HalfLinkKind, Vid as VidKind, Member as MemberKind, End as EndKind}
+use Rattle.rule.specs.declared.answer.RecordKind.the-variants.{None as NoKind, Bridge as BridgeKind, HalfLink as HalfLinkKind, Vid as VidKind, Member as MemberKind, Traffic as TrafficKind, End as EndKind}
 use Rattle.rule.specs.declared.answer.CheckAnswer.{CheckAnswer}
 use Rattle.rule.specs.declared.answer.PathAnswer.{PathAnswer}
 use Rattle.rule.specs.declared.answer.TreeAnswer.{TreeAnswer}
@@ -73,6 +73,7 @@ fieldsOf (bridge b) = flag (b .overloaded) ∷ b .spSourceId ∷ b .identifier �
 fieldsOf (halfLink h) = flag (h .down) ∷ h .metric ∷ h .near ∷ h .far ∷ h .port ∷ h .link ∷ []
 fieldsOf (vid v) = v .vid ∷ v .index ∷ []
 fieldsOf (member m) = flag (m .transmits) ∷ flag (m .receives) ∷ m .isid ∷ m .bridge ∷ m .vid ∷ []
+fieldsOf (traffic t) = t .vid ∷ t .amount ∷ t .from ∷ t .to ∷ []
 fieldsOf (end n) = n ∷ []
 
 -- What the words of a record hold as each kind: the zero bits, and the fields.
@@ -85,7 +86,8 @@ recordRows p =
     rows
     (map (λ b. 1 ∷ fieldsOf (bridge b)) (p .bridges)
     ++ (map (λ h. 2 ∷ fieldsOf (halfLink h)) (p .halfLinks)
-    ++ (map (λ v. 3 ∷ fieldsOf (vid v)) (p .vids) ++ map (λ m. 4 ∷ fieldsOf (member m)) (p .members))))
+    ++ (map (λ v. 3 ∷ fieldsOf (vid v)) (p .vids)
+    ++ (map (λ m. 4 ∷ fieldsOf (member m)) (p .members) ++ map (λ t. 5 ∷ fieldsOf (traffic t)) (p .traffic)))))
 
 abbrev fiveCounts : Counts → List ℕ
 fiveCounts c = c .bridges ∷ c .«half_links» ∷ c .«usable_links» ∷ c .vids ∷ c .members ∷ []
@@ -538,8 +540,8 @@ pins =
     ∷ pin (ofChain λ p. linkNumbers (copiesCross (copiesAt p) 0 3)) (numbers (7 ∷ 9 ∷ []))
     -- The numbers of the kinds, and the values of each case of an answer.
     ∷ pin
-    (rows (map (λ k. optional (kindNumber k)) (NoKind ∷ BridgeKind ∷ HalfLinkKind ∷ VidKind ∷ MemberKind ∷ EndKind ∷ [])))
-    (rows ([] ∷ (1 ∷ []) ∷ (2 ∷ []) ∷ (3 ∷ []) ∷ (4 ∷ []) ∷ (15 ∷ []) ∷ []))
+    (rows (map (λ k. optional (kindNumber k)) (NoKind ∷ BridgeKind ∷ HalfLinkKind ∷ VidKind ∷ MemberKind ∷ TrafficKind ∷ EndKind ∷ [])))
+    (rows ([] ∷ (1 ∷ []) ∷ (2 ∷ []) ∷ (3 ∷ []) ∷ (4 ∷ []) ∷ (5 ∷ []) ∷ (15 ∷ []) ∷ []))
     ∷ pin (shownBy (λ c. numbers (fiveCounts c)) (checkValues (CheckAnswer.Refused 6 VidKind 9))) (fault 6 3 9)
     ∷ pin (shownBy (λ v. numbers (costAndHops v)) (pathValues (PathAnswer.Refused 6 VidKind 9))) (fault 6 3 9)
     ∷ pin (shownBy (λ n. numbers (n ∷ [])) (treeValues (TreeAnswer.Refused 6 VidKind 9))) (fault 6 3 9)

@@ -79,6 +79,7 @@ diamondPlan =
           ∷ record { vid = 13; index = 9 }
           ∷ [];
       members = [];
+      traffic = [];
     }
 
 diamond-accepted : verdict (table diamond) ≡ answered diamondPlan

@@ -88,6 +88,7 @@ workedPlan =
           record { transmits = true; receives = false; isid = 256; bridge = 0; vid = 10 }
           ∷ record { transmits = false; receives = true; isid = 256; bridge = 1; vid = 10 }
           ∷ [];
+      traffic = [];
     }
 
 pub worked-accepted : verdict worked ≡ answered workedPlan

@@ -16,11 +16,12 @@ use Rattle.lists.specs.laws.MemberLaws.{in-append, in-left, none-not-some}
 use Rattle.lists.specs.laws.SelectedLaws.{selected-in, in-selected, any-in, in-any}
 use Rattle.lists.specs.laws.DistinctLaws.{every-two-end, first-in}
 use Rattle.rule.specs.Words.{wordsOf, bits}
-use Rattle.rule.specs.Records.{Bridge, HalfLink, Vid, Member, bridge, halfLink, vid, member, end, address, endCount, Layout, Range, inLimits, fieldAt, bridgeOf, halfLinkOf, vidOf, memberOf, layouts, layoutOf, bridgeLayout, halfLinkLayout, vidLayout, memberLayout}
+use Rattle.rule.specs.Records.{Bridge, HalfLink, Vid, Member, Traffic, bridge, halfLink, vid, member, traffic, end, address, endCount}
+use Rattle.rule.specs.Records.{Layout, Range, inLimits, fieldAt, bridgeOf, halfLinkOf, vidOf, memberOf, trafficOf, layouts, layoutOf, bridgeLayout, halfLinkLayout, vidLayout, memberLayout, trafficLayout}
 use Rattle.rule.specs.Outcome.{Outcome, answered, refused, refusedAs}
 use Rattle.rule.specs.Plan.{Plan, noRecords, withRecord, alike, knownBridge, knownVid}
-use Rattle.rule.specs.Check.{badLength, outsideRange, wrongEndCount, unknownName, repeated, wrongHalf, wrongLink, Reading, start, Fault, faults, lowestFault, taken, judged, readAs, readFrom, after, readOn, verdict}
-use Rattle.rule.specs.PlanLaws.{BridgesApart, PortsApart, VidsApart, MembersApart, Mirrors, BridgeFits, HalfLinkFits, VidFits, MemberFits, HalfLinkLaws, MemberLaws, PlanLaws}
+use Rattle.rule.specs.Check.{badLength, outsideRange, wrongEndCount, unknownEnds, unknownName, repeated, wrongHalf, wrongLink, Reading, start, Fault, faults, lowestFault, taken, judged, readAs, readFrom, after, readOn, verdict}
+use Rattle.rule.specs.PlanLaws.{BridgesApart, PortsApart, VidsApart, MembersApart, TrafficApart, Mirrors, BridgeFits, HalfLinkFits, VidFits, MemberFits, TrafficFits, HalfLinkLaws, MemberLaws, TrafficLaws, PlanLaws}
 
 -- No fault applies
 
@@ -89,7 +90,7 @@ module _ {A : Type 0} where
   longer : (xs : List A) (a : A) → length (xs ++ (a ∷ [])) ≡ suc (length xs)
   longer xs a = omega (arith, length-append xs (a ∷ []))
 
--- More bridges and VIDs leave half-links and members as they were.
+-- More bridges and VIDs leave half-links, members and traffic as they were.
 half-links-still : (n k : ℕ) (hs : List HalfLink) → n ≤ k → HalfLinkLaws n hs → HalfLinkLaws k hs
 half-links-still n k hs l H = record { apart = H .apart; mirrored = H .mirrored; fits = λ h i. still h (H .fits h i) }
   where
@@ -110,6 +111,20 @@ members-still n k vs ws ms l f M = record { few = M .few; apart = M .apart; fits
     still : (m : Member) → MemberFits n vs m → MemberFits k ws m
     still m F = let (v, i, e) = F .vid-known in record { least-isid = F .least-isid; isid = F .isid; bridge-known = omega arith; vid-known = (v, f v i, e) }
 
+traffic-still : (n k : ℕ) (vs ws : List Vid) (ts : List Traffic) → n ≤ k → ((v : Vid) → In v vs → In v ws) → TrafficLaws n vs ts
+    → TrafficLaws k ws ts
+traffic-still n k vs ws ts l f L = record { few = L .few; apart = L .apart; fits = λ t i. still t (L .fits t i) }
+  where
+    still : (t : Traffic) → TrafficFits n vs t → TrafficFits k ws t
+    still t F = let (v, i, e) = F .vid-known in record {
+      least-amount = F .least-amount;
+      greatest-amount = F .greatest-amount;
+      from-known = omega arith;
+      to-known = omega arith;
+      apart = F .apart;
+      vid-known = (v, f v i, e);
+    }
+
 module _ (p : Plan) (L : PlanLaws p) where
   with-bridge : (b : Bridge) → length (p .bridges) < 64 → BridgeFits b → (T (repeated p (bridge b)) → ⊥)
       → PlanLaws (withRecord p (bridge b))
@@ -123,6 +138,8 @@ module _ (p : Plan) (L : PlanLaws p) where
     vids = L .vids;
     members = members-still (length (p .bridges)) (length (p .bridges ++ (b ∷ []))) (p .vids) (p .vids) (p .members) more (λ v k. k)
         (L .members);
+    traffic = traffic-still (length (p .bridges)) (length (p .bridges ++ (b ∷ []))) (p .vids) (p .vids) (p .traffic) more (λ v k. k)
+        (L .traffic);
   }
     where
       more : length (p .bridges) ≤ length (p .bridges ++ (b ∷ []))
@@ -163,6 +180,7 @@ module _ (p : Plan) (L : PlanLaws p) where
     };
     vids = L .vids;
     members = L .members;
+    traffic = L .traffic;
   }
     where
       apart : (e : HalfLink) → In e (p .halfLinks) → PortsApart e h
@@ -180,6 +198,8 @@ module _ (p : Plan) (L : PlanLaws p) where
     };
     members = members-still (length (p .bridges)) (length (p .bridges)) (p .vids) (p .vids ++ (v ∷ [])) (p .members) (omega arith)
         (λ w k. in-left w (p .vids) (v ∷ []) k) (L .members);
+    traffic = traffic-still (length (p .bridges)) (length (p .bridges)) (p .vids) (p .vids ++ (v ∷ [])) (p .traffic) (omega arith)
+        (λ w k. in-left w (p .vids) (v ∷ []) k) (L .traffic);
   }
     where
       apart : (e : Vid) → In e (p .vids) → VidsApart e v
@@ -196,11 +216,30 @@ module _ (p : Plan) (L : PlanLaws p) where
       apart = every-two-end MembersApart (p .members) m (L .members .apart) apart;
       fits = each-end (MemberFits (length (p .bridges)) (p .vids)) (p .members) m (L .members .fits) s;
     };
+    traffic = L .traffic;
   }
     where
       apart : (e : Member) → In e (p .members) → MembersApart e m
       apart e k i j n = f (in-any (λ e. eqb (e .bridge) (m .bridge) && eqb (e .isid) (m .isid) && eqb (e .vid) (m .vid)) e (p .members) k
           (equal-three (e .bridge) (m .bridge) (e .isid) (m .isid) (e .vid) (m .vid) i j n))
+
+  with-traffic : (t : Traffic) → length (p .traffic) < 256 → TrafficFits (length (p .bridges)) (p .vids) t → (T (repeated p (traffic t)) → ⊥)
+      → PlanLaws (withRecord p (traffic t))
+  with-traffic t l s f = record {
+    bridges = L .bridges;
+    half-links = L .half-links;
+    vids = L .vids;
+    members = L .members;
+    traffic = record {
+      few = omega (arith, longer (p .traffic) t);
+      apart = every-two-end TrafficApart (p .traffic) t (L .traffic .apart) apart;
+      fits = each-end (TrafficFits (length (p .bridges)) (p .vids)) (p .traffic) t (L .traffic .fits) s;
+    };
+  }
+    where
+      apart : (e : Traffic) → In e (p .traffic) → TrafficApart e t
+      apart e k i j n = f (in-any (λ e. eqb (e .vid) (t .vid) && eqb (e .from) (t .from) && eqb (e .to) (t .to)) e (p .traffic) k
+          (equal-three (e .vid) (t .vid) (e .from) (t .from) (e .to) (t .to) i j n))
 
 -- A record without a fault keeps the laws
 
@@ -233,32 +272,50 @@ keeps-bridge s r F L = with-bridge (s .plan) L (bridgeOf r) (F .room) fits (F .n
     fits : BridgeFits (bridgeOf r)
     fits = record { greatest-source = F .in-range .0 .1; individual = omega (arith, F .in-range .1 .1 .0 .1) }
 
+-- 7 does not apply: two bridges are known and differ, and a VID is known.
+record EndsKnown (p : Plan) (a b : ℕ) : Type 0 where
+  first : a < length (p .bridges)
+  second : b < length (p .bridges)
+  differ : a ≡ b → ⊥
+
+ends-known : (p : Plan) (a b : ℕ) → (T (unknownEnds p a b) → ⊥) → EndsKnown p a b
+ends-known p a b f = record {
+  first = is-known a n (λ k. f (either-left (no-a || no-b) equal (either-left no-a no-b k)));
+  second = is-known b n (λ k. f (either-left (no-a || no-b) equal (either-right no-a no-b k)));
+  differ = λ e. f (either-right (no-a || no-b) equal (eq-eqb a b e));
+}
+  where
+    n : ℕ
+    n = length (p .bridges)
+
+    no-a : Bool
+    no-a = not (ltb a n)
+
+    no-b : Bool
+    no-b = not (ltb b n)
+
+    equal : Bool
+    equal = eqb a b
+
+vid-there : (p : Plan) (n : ℕ) → (T (not (knownVid p n)) → ⊥) → (v : Vid) × In v (p .vids) × (v .vid ≡ n)
+vid-there p n f =
+    let (v, k, e) = any-in (λ v. eqb (v .vid) n) (p .vids) (passes (knownVid p n) f)
+    in (v, k, eqb→eq (v .vid) n e)
+
 keeps-half-link : (s : Reading) (r : List ℕ) → Keeps s r halfLinkLayout
 keeps-half-link s r F L = with-half-link (s .plan) L (halfLinkOf r)
     (fits (halfLinkOf r) (F .in-range .0 .0) (F .in-range .1 .0 .0) (F .in-range .1 .0 .1) (F .known)) (F .new) (F .linked)
   where
     fits : (h : HalfLink) → 1 ≤ h .metric → 1 ≤ h .port → h .port ≤ 4095 → (T (unknownName (s .plan) (halfLink h)) → ⊥)
         → HalfLinkFits (length (s .plan .bridges)) h
-    fits h m l g f = record {
+    fits h m l g f = let K = ends-known (s .plan) (h .near) (h .far) f in record {
       metric = m;
       least-port = l;
       greatest-port = g;
-      near-known = is-known (h .near) n (λ k. f (either-left (near || far) equal (either-left near far k)));
-      far-known = is-known (h .far) n (λ k. f (either-left (near || far) equal (either-right near far k)));
-      apart = λ e. f (either-right (near || far) equal (eq-eqb (h .near) (h .far) e));
+      near-known = K .first;
+      far-known = K .second;
+      apart = K .differ;
     }
-      where
-        n : ℕ
-        n = length (s .plan .bridges)
-
-        near : Bool
-        near = not (ltb (h .near) n)
-
-        far : Bool
-        far = not (ltb (h .far) n)
-
-        equal : Bool
-        equal = eqb (h .near) (h .far)
 
 keeps-vid : (s : Reading) (r : List ℕ) → Keeps s r vidLayout
 keeps-vid s r F L = with-vid (s .plan) L (vidOf r) (F .room) fits (F .new)
@@ -280,10 +337,7 @@ keeps-member s r F L = with-member (s .plan) L (memberOf r) (F .room) (fits (mem
       least-isid = l;
       isid = i;
       bridge-known = is-known (m .bridge) (length (s .plan .bridges)) (λ k. f (either-left no-bridge no-vid k));
-      vid-known =
-          let (v, k, e) = any-in (λ v. eqb (v .vid) (m .vid)) (s .plan .vids)
-          (passes (knownVid (s .plan) (m .vid)) (λ k. f (either-right no-bridge no-vid k))) in
-          (v, k, eqb→eq (v .vid) (m .vid) e);
+      vid-known = vid-there (s .plan) (m .vid) (λ k. f (either-right no-bridge no-vid k));
     }
       where
         no-bridge : Bool
@@ -291,6 +345,27 @@ keeps-member s r F L = with-member (s .plan) L (memberOf r) (F .room) (fits (mem
 
         no-vid : Bool
         no-vid = not (knownVid (s .plan) (m .vid))
+
+keeps-traffic : (s : Reading) (r : List ℕ) → Keeps s r trafficLayout
+keeps-traffic s r F L =
+    with-traffic (s .plan) L (trafficOf r) (F .room) (fits (trafficOf r) (F .in-range .1 .0 .0) (F .in-range .1 .0 .1) (F .known)) (F .new)
+  where
+    fits : (t : Traffic) → 1 ≤ t .amount → t .amount ≤ 65535 → (T (unknownName (s .plan) (traffic t)) → ⊥)
+        → TrafficFits (length (s .plan .bridges)) (s .plan .vids) t
+    fits t l g f = let K = ends-known (s .plan) (t .from) (t .to) (λ k. f (either-left ends no-vid k)) in record {
+      least-amount = l;
+      greatest-amount = g;
+      from-known = K .first;
+      to-known = K .second;
+      apart = K .differ;
+      vid-known = vid-there (s .plan) (t .vid) (λ k. f (either-right ends no-vid k));
+    }
+      where
+        ends : Bool
+        ends = unknownEnds (s .plan) (t .from) (t .to)
+
+        no-vid : Bool
+        no-vid = not (knownVid (s .plan) (t .vid))
 
 -- Whatever row of the table of record kinds it has.
 kept : (s : Reading) (r : List ℕ) (l : Layout) → In l layouts → Keeps s r l
@@ -373,6 +448,7 @@ no-records = record {
   half-links = record { apart = tt; mirrored = tt; fits = λ h k. absurd k };
   vids = record { few = omega arith; apart = tt; fits = λ v k. absurd k };
   members = record { few = omega arith; apart = tt; fits = λ m k. absurd k };
+  traffic = record { few = omega arith; apart = tt; fits = λ t k. absurd k };
 }
 
 -- "every accepted table" (demand 3): its plan meets the laws.

@@ -1,4 +1,5 @@
--- What no two records of an accepted plan share: an address, an SPsourceID, a near bridge with port, a VID, a bridge with I-SID and VID.
+-- What no two records of an accepted plan share: an address, an SPsourceID, a near bridge with port, a VID, a bridge with I-SID and VID,
+-- a VID with from and to.
 -- Two records that share it are one. Assumes nothing.
 use Prim.Native.Nat.{ℕ, _<_}
 use mathlib.Core.Path.{_≡_, refl, sym}
@@ -6,9 +7,9 @@ use lib.ListN.{length}
 use Rattle.lists.specs.Members.{In}
 use Rattle.lists.specs.laws.ListNotions.{Distinct}
 use Rattle.lists.specs.laws.DistinctLaws.{every-two-one, every-two-distinct, place-in, distinct-places}
-use Rattle.rule.specs.Records.{HalfLink, Vid, Member, address}
+use Rattle.rule.specs.Records.{HalfLink, Vid, Member, Traffic, address}
 use Rattle.rule.specs.Plan.{Plan, noBridge, bridgeAt}
-use Rattle.rule.specs.PlanLaws.{BridgesApart, PortsApart, VidsApart, MembersApart, PlanLaws}
+use Rattle.rule.specs.PlanLaws.{BridgesApart, PortsApart, VidsApart, MembersApart, TrafficApart, PlanLaws}
 
 module _ (p : Plan) (L : PlanLaws p) where
   pub listed-bridge : (u : ℕ) → u < length (p .bridges) → In (bridgeAt p u) (p .bridges)
@@ -44,3 +45,9 @@ module _ (p : Plan) (L : PlanLaws p) where
 
   pub one-member : (m k : Member) → In m (p .members) → In k (p .members) → m .bridge ≡ k .bridge → m .isid ≡ k .isid → m .vid ≡ k .vid → m ≡ k
   one-member m k i j e f g = every-two-one MembersApart (p .members) (L .members .apart) m k i j (λ A. A e f g) (λ A. A (sym e) (sym f) (sym g))
+
+  pub distinct-traffic : Distinct (p .traffic)
+  distinct-traffic = every-two-distinct TrafficApart (p .traffic) (L .traffic .apart) (λ t k f. f refl refl refl)
+
+  pub one-traffic : (t k : Traffic) → In t (p .traffic) → In k (p .traffic) → t .vid ≡ k .vid → t .from ≡ k .from → t .to ≡ k .to → t ≡ k
+  one-traffic t k i j e f g = every-two-one TrafficApart (p .traffic) (L .traffic .apart) t k i j (λ A. A e f g) (λ A. A (sym e) (sym f) (sym g))

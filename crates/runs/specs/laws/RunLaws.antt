@@ -57,7 +57,10 @@ pub record Running (ws : List ℕ) (kind : ℕ) (s t : Shape) : Type 0 where
 
 pub running-starts : {ws : List ℕ} {kind : ℕ} {s : Shape} → Reached ws s → Running ws kind s s
 running-starts R =
-    record { reached = R; others = record { bridges = λ _. refl; half-links = λ _. refl; vids = λ _. refl; members = λ _. refl } }
+    record {
+      reached = R;
+      others = record { bridges = λ _. refl; half-links = λ _. refl; vids = λ _. refl; members = λ _. refl; traffic = λ _. refl };
+    }
 
 module _ {ws : List ℕ} {kind : ℕ} {s t : Shape} (R : Running ws kind s t) where
   -- No record of the kind follows.
@@ -81,8 +84,8 @@ module _ {ws : List ℕ} {kind : ℕ} {s t : Shape} (R : Running ws kind s t) wh
         ∙ sym (step-by-kind ws t kind (word-there ws kind (wordsRead t) e) (kind-there ws kind (wordsRead t) e)))
         ∙ whole-after (R .reached) (word-there ws kind (wordsRead t) e)
 
-    pub run-goes-on : (u : Shape) → r ≡ Step.Next u → recordsRead next ≡ recordsRead t + 1 → SameOthers kind t next → Running ws kind s u
-    run-goes-on u n c o = subst (λ (y : Shape). Running ws kind s y) (sym (h .is-next u n)) (
+    pub run-goes-on : (u : Shape) → r ≡ Step.Next u → recordsRead next ≡ recordsRead t + 1 → SameOthers kind t next → next .vids ≤ 16 → Running ws kind s u
+    run-goes-on u n c o few = subst (λ (y : Shape). Running ws kind s y) (sym (h .is-next u n)) (
         record {
           reached =
               record {
@@ -91,6 +94,7 @@ module _ {ws : List ℕ} {kind : ℕ} {s t : Shape} (R : Running ws kind s t) wh
                     ∙ sym (ap (λ (y : Step). after (readOn (length ws - recordsRead t - 1) ws) (stepValues ws y)) (n ∙ ap Step.Next (h .is-next u n)))
                     ∙ comes-to;
                 within = subst (λ (y : Shape). wordsRead y ≤ length ws) (h .is-next u n) (h .within u n);
+                few-vids = few;
               };
           others =
               record {
@@ -98,6 +102,7 @@ module _ {ws : List ℕ} {kind : ℕ} {s t : Shape} (R : Running ws kind s t) wh
                 half-links = λ d. o .half-links d ∙ R .others .half-links d;
                 vids = λ d. o .vids d ∙ R .others .vids d;
                 members = λ d. o .members d ∙ R .others .members d;
+                traffic = λ d. o .traffic d ∙ R .others .traffic d;
               };
         }
         )

@@ -4,7 +4,7 @@ use Prim.Native.Nat.{ℕ, zero, suc, _+_, _*_, _-_, _≤_, _<_}
 use native.Mathlib.Omega.{arith}
 use mathlib.Core.Path.{_≡_, refl, sym, ap, subst, _∙_}
 use mathlib.Core.List.{List, [], _∷_, _++_}
-use mathlib.Core.Option.{none, some}
+use mathlib.Core.Option.{Option, none, some}
 use mathlib.Core.Logic.{_⊎_, inl, inr}
 use mathlib.Core.Bool.{Bool, true, false, cond}
 use lib.Dec.{eqb, leb, ltb}
@@ -12,7 +12,7 @@ use lib.ListN.{length, drop, length-drop}
 use borrow.Author.Tests.{lt-ltb, le-ltb, ltb-false, leb-false}
 use Rattle.lists.specs.laws.NumberLaws.{is-false}
 use Rattle.rule.specs.declared.answer.RecordKind.{RecordKind}
-use Rattle.rule.specs.Records.{Bridge, HalfLink, Vid, Member, bridgeOf, halfLinkOf, vidOf, memberOf, Layout, bridgeLayout, halfLinkLayout, vidLayout, memberLayout}
+use Rattle.rule.specs.Records.{Bridge, HalfLink, Vid, Member, Traffic, bridgeOf, halfLinkOf, vidOf, memberOf, trafficOf, Layout, bridgeLayout, halfLinkLayout, vidLayout, memberLayout, trafficLayout}
 use Rattle.rule.specs.Words.{wordsOf}
 use Rattle.rule.specs.Outcome.{refused}
 use Rattle.rule.specs.Answers.{kindNumber}
@@ -21,14 +21,14 @@ use Rattle.rule.specs.laws.Accepted.{NoFault, no-fault}
 use Rattle.rule.specs.Check.{faults, kindConcerned, goesOn, stops, judged}
 use Rattle.key_index.specs.Index.{Entered}
 use Rattle.table.specs.declared.shape.Shape.{Shape}
-use Rattle.table.specs.Positions.{recordAt, recordsAt, halfLinksFrom, vidsFrom, membersFrom, wordsRead, lastKind, planAt, readingAt}
+use Rattle.table.specs.Positions.{recordAt, recordsAt, halfLinksFrom, vidsFrom, membersFrom, trafficFrom, wordsRead, lastKind, planAt, readingAt}
 use Rattle.readers.specs.laws.WordLaws.{count-of-words}
 use Rattle.table.specs.laws.PositionLaws.{how-many, one-more, none-anywhere}
 use Rattle.faults.specs.Faults.{numbered, faultAt}
-use Rattle.earlier.specs.Keys.{sourceKey, addressKey, memberKey, BridgeIndexes, MemberIndex}
+use Rattle.earlier.specs.Keys.{sourceKey, addressKey, memberKey, trafficKey, BridgeIndexes, MemberIndex, TrafficIndex}
 use Rattle.earlier.specs.HalfLinks.{portKey, numberKey}
 use Rattle.earlier.specs.laws.KeyLaws.{keyed-more}
-use Rattle.steps.specs.Steps.{concerned, withBridge, withHalfLink, withVid, withMember, stepValues, Stepped, stepAs, HalfLinkIndexes, BridgesKept, HalfLinksKept, MembersKept}
+use Rattle.steps.specs.Steps.{concerned, withBridge, withHalfLink, withVid, withMember, withTraffic, stepValues, Stepped, stepAs, HalfLinkIndexes, BridgesKept, HalfLinksKept, MembersKept, TrafficKept}
 use Rattle.steps.specs.declared.step.Step.{Step}
 
 -- Refused
@@ -72,6 +72,13 @@ module _ (ws : List ℕ) (s : Shape) (l : Layout) where
 
   -- Taken: no fault
 
+  pub taken-sound : {next : Shape} {r : Step} → Stepped ws next (stepAs ws s l) r → (t : Shape) → r ≡ Step.Next t → numbered 0 ≡ faultAt ws s l
+  taken-sound h t n = go (faultAt ws s l) (sym (ap (stepValues ws) n) ∙ h .value)
+    where
+      go : (o : Option ℕ) → goesOn (readingAt ws t) ≡ judged (readingAt ws s) l words o → numbered 0 ≡ o
+      go none e = refl
+      go (some f) e = let z : _≡_ {A = ℕ} 0 1 = cc in absurd (omega arith)
+
   module _ (sound : numbered 0 ≡ faultAt ws s l) where
     none-applies : NoFault (faults (readingAt ws s) l words)
     none-applies = no-fault (faults (readingAt ws s) l words) (sym sound)
@@ -105,38 +112,47 @@ module _ (ws : List ℕ) (s : Shape) (l : Layout) where
               in omega (arith, not-cut, length-drop (wordsRead s) ws, ap (λ (x : Shape). wordsRead x) z);
         }
 
--- Where no kind after `k` came last, no record of a kind after it was read.
-zero-or-more : (n : ℕ) → ((n ≡ 0) × (ltb 0 n ≡ false)) ⊎ (ltb 0 n ≡ true)
-zero-or-more zero = inl (refl, refl)
-zero-or-more (suc n) = inr (lt-ltb 0 (suc n) (omega arith))
+-- Where no kind after `k` came last, no record of a kind after it was read: none of the kind `c`, and of the kinds before it the
+-- same holds.
+passed-by : (n c rest k : ℕ) → cond (ltb 0 n) c rest ≤ k → k < c → (n ≡ 0) × (rest ≤ k)
+passed-by zero c rest k h l = (refl, h)
+passed-by (suc n) c rest k h l = absurd (let z : c ≤ k = rw (lt-ltb 0 (suc n) (omega arith)) at h in omega arith)
 
 pub record NoneAfter (k : ℕ) (s : Shape) : Type 0 where
+  pub no-traffic : k < 5 → s .traffic ≡ 0
   pub no-members : k < 4 → s .members ≡ 0
   pub no-vids : k < 3 → s .vids ≡ 0
   pub no-half-links : k < 2 → s .«half_links» ≡ 0
 
 pub none-after : (k : ℕ) (s : Shape) → lastKind s ≤ k → NoneAfter k s
 none-after k s h =
-    go (s .members) (s .vids) (s .«half_links») (s .bridges) (zero-or-more (s .members)) (zero-or-more (s .vids)) (zero-or-more (s .«half_links»)) h
+    record {
+      no-traffic = λ l. traffic l .0;
+      no-members = λ l. members l .0;
+      no-vids = λ l. vids l .0;
+      no-half-links = λ l. passed-by (s .«half_links») 2 up-to-bridge k (vids (omega arith) .1) l .0;
+    }
   where
-    go :
-        (m v l b : ℕ) →
-        ((m ≡ 0) × (ltb 0 m ≡ false)) ⊎ (ltb 0 m ≡ true) →
-        ((v ≡ 0) × (ltb 0 v ≡ false)) ⊎ (ltb 0 v ≡ true) →
-        ((l ≡ 0) × (ltb 0 l ≡ false)) ⊎ (ltb 0 l ≡ true) →
-        cond (ltb 0 m) 4 (cond (ltb 0 v) 3 (cond (ltb 0 l) 2 (cond (ltb 0 b) 1 0))) ≤ k →
-        NoneAfter k (record { bridges = b; «half_links» = l; vids = v; members = m })
-    go m v l b (inr e) y z h =
-        let n : 4 ≤ k = rw e at h
-        in record { no-members = λ q. absurd (omega arith); no-vids = λ q. absurd (omega arith); no-half-links = λ q. absurd (omega arith) }
-    go m v l b (inl x) (inr e) z h =
-        let n : 3 ≤ k = rw (x .1, e) at h
-        in record { no-members = λ _. x .0; no-vids = λ q. absurd (omega arith); no-half-links = λ q. absurd (omega arith) }
-    go m v l b (inl x) (inl y) (inr e) h =
-        let n : 2 ≤ k = rw (x .1, y .1, e) at h
-        in record { no-members = λ _. x .0; no-vids = λ _. y .0; no-half-links = λ q. absurd (omega arith) }
-    go m v l b (inl x) (inl y) (inl z) h =
-        record { no-members = λ _. x .0; no-vids = λ _. y .0; no-half-links = λ _. z .0 }
+    up-to-bridge : ℕ
+    up-to-bridge = cond (ltb 0 (s .bridges)) 1 0
+
+    up-to-half-link : ℕ
+    up-to-half-link = cond (ltb 0 (s .«half_links»)) 2 up-to-bridge
+
+    up-to-vid : ℕ
+    up-to-vid = cond (ltb 0 (s .vids)) 3 up-to-half-link
+
+    up-to-member : ℕ
+    up-to-member = cond (ltb 0 (s .members)) 4 up-to-vid
+
+    traffic : k < 5 → (s .traffic ≡ 0) × (up-to-member ≤ k)
+    traffic = passed-by (s .traffic) 5 up-to-member k h
+
+    members : k < 4 → (s .members ≡ 0) × (up-to-vid ≤ k)
+    members l = passed-by (s .members) 4 up-to-vid k (traffic (omega arith) .1) l
+
+    vids : k < 3 → (s .vids ≡ 0) × (up-to-half-link ≤ k)
+    vids l = passed-by (s .vids) 3 up-to-half-link k (members (omega arith) .1) l
 
 same-reading :
     {a b c d : ℕ} {p q : Plan} →
@@ -147,10 +163,11 @@ same-reading :
 same-reading e f g = λ i. goesOn (record { at = e i; last = f i; plan = g i })
 
 same-plan :
-    {a b : List Bridge} {c d : List HalfLink} {e f : List Vid} {g h : List Member} →
-    a ≡ b → c ≡ d → e ≡ f → g ≡ h →
-    _≡_ {A = Plan} (record { bridges = a; halfLinks = c; vids = e; members = g }) (record { bridges = b; halfLinks = d; vids = f; members = h })
-same-plan a b c d = λ i. record { bridges = a i; halfLinks = b i; vids = c i; members = d i }
+    {a b : List Bridge} {c d : List HalfLink} {e f : List Vid} {g h : List Member} {k l : List Traffic} →
+    a ≡ b → c ≡ d → e ≡ f → g ≡ h → k ≡ l →
+    _≡_ {A = Plan} (record { bridges = a; halfLinks = c; vids = e; members = g; traffic = k })
+    (record { bridges = b; halfLinks = d; vids = f; members = h; traffic = l })
+same-plan a b c d e = λ i. record { bridges = a i; halfLinks = b i; vids = c i; members = d i; traffic = e i }
 
 module _ {A : Type 0} (decoded : List ℕ → A) (width from : ℕ) (ws : List ℕ) where
   -- The record after `n` of its kind, by the word where the reading stands.
@@ -167,10 +184,11 @@ module _ (ws : List ℕ) (s : Shape) where
       taken-step ws s bridgeLayout e (withBridge s) r
       (same-reading (omega arith) last
       (same-plan
-      (grown bridgeOf 3 0 ws (s .bridges) (wordsRead s) (omega (arith, h, v, m)))
+      (grown bridgeOf 3 0 ws (s .bridges) (wordsRead s) (omega (arith, h, v, m, n)))
       (none-anywhere halfLinkOf 3 (halfLinksFrom (withBridge s)) ws (halfLinksFrom s) (s .«half_links») h)
       (none-anywhere vidOf 1 (vidsFrom (withBridge s)) ws (vidsFrom s) (s .vids) v)
-      (none-anywhere memberOf 2 (membersFrom (withBridge s)) ws (membersFrom s) (s .members) m)))
+      (none-anywhere memberOf 2 (membersFrom (withBridge s)) ws (membersFrom s) (s .members) m)
+      (none-anywhere trafficOf 2 (trafficFrom (withBridge s)) ws (trafficFrom s) (s .traffic) n)))
       (omega arith) (omega arith) g
     where
       after : NoneAfter 1 s
@@ -185,8 +203,11 @@ module _ (ws : List ℕ) (s : Shape) where
       m : s .members ≡ 0
       m = after .no-members (omega arith)
 
+      n : s .traffic ≡ 0
+      n = after .no-traffic (omega arith)
+
       last : lastKind (withBridge s) ≡ 1
-      last = simp (le-ltb 0 (s .members) (omega (arith, m)), le-ltb 0 (s .vids) (omega (arith, v)), le-ltb 0 (s .«half_links») (omega (arith, h)), lt-ltb 0 (s .bridges + 1) (omega arith))
+      last = simp (le-ltb 0 (s .traffic) (omega (arith, n)), le-ltb 0 (s .members) (omega (arith, m)), le-ltb 0 (s .vids) (omega (arith, v)), le-ltb 0 (s .«half_links») (omega (arith, h)), lt-ltb 0 (s .bridges + 1) (omega arith))
 
   pub half-link-taken :
       (r : Step) → numbered 0 ≡ faultAt ws s halfLinkLayout → r ≡ Step.Next (withHalfLink s) → Stepped ws (withHalfLink s) (stepAs ws s halfLinkLayout) r
@@ -195,9 +216,10 @@ module _ (ws : List ℕ) (s : Shape) where
       (same-reading (omega arith) last
       (same-plan
       refl
-      (grown halfLinkOf 3 (halfLinksFrom s) ws (s .«half_links») (wordsRead s) (omega (arith, v, m)))
+      (grown halfLinkOf 3 (halfLinksFrom s) ws (s .«half_links») (wordsRead s) (omega (arith, v, m, n)))
       (none-anywhere vidOf 1 (vidsFrom (withHalfLink s)) ws (vidsFrom s) (s .vids) v)
-      (none-anywhere memberOf 2 (membersFrom (withHalfLink s)) ws (membersFrom s) (s .members) m)))
+      (none-anywhere memberOf 2 (membersFrom (withHalfLink s)) ws (membersFrom s) (s .members) m)
+      (none-anywhere trafficOf 2 (trafficFrom (withHalfLink s)) ws (trafficFrom s) (s .traffic) n)))
       (omega arith) (omega arith) g
     where
       after : NoneAfter 2 s
@@ -209,8 +231,11 @@ module _ (ws : List ℕ) (s : Shape) where
       m : s .members ≡ 0
       m = after .no-members (omega arith)
 
+      n : s .traffic ≡ 0
+      n = after .no-traffic (omega arith)
+
       last : lastKind (withHalfLink s) ≡ 2
-      last = simp (le-ltb 0 (s .members) (omega (arith, m)), le-ltb 0 (s .vids) (omega (arith, v)), lt-ltb 0 (s .«half_links» + 1) (omega arith))
+      last = simp (le-ltb 0 (s .traffic) (omega (arith, n)), le-ltb 0 (s .members) (omega (arith, m)), le-ltb 0 (s .vids) (omega (arith, v)), lt-ltb 0 (s .«half_links» + 1) (omega arith))
 
   pub vid-taken : (r : Step) → numbered 0 ≡ faultAt ws s vidLayout → r ≡ Step.Next (withVid s) → Stepped ws (withVid s) (stepAs ws s vidLayout) r
   vid-taken r e g =
@@ -219,21 +244,47 @@ module _ (ws : List ℕ) (s : Shape) where
       (same-plan
       refl
       refl
-      (grown vidOf 1 (vidsFrom s) ws (s .vids) (wordsRead s) (omega (arith, m)))
-      (none-anywhere memberOf 2 (membersFrom (withVid s)) ws (membersFrom s) (s .members) m)))
+      (grown vidOf 1 (vidsFrom s) ws (s .vids) (wordsRead s) (omega (arith, m, n)))
+      (none-anywhere memberOf 2 (membersFrom (withVid s)) ws (membersFrom s) (s .members) m)
+      (none-anywhere trafficOf 2 (trafficFrom (withVid s)) ws (trafficFrom s) (s .traffic) n)))
       (omega arith) (omega arith) g
     where
+      after : NoneAfter 3 s
+      after = none-after 3 s (not-lower ws s vidLayout e)
+
       m : s .members ≡ 0
-      m = none-after 3 s (not-lower ws s vidLayout e) .no-members (omega arith)
+      m = after .no-members (omega arith)
+
+      n : s .traffic ≡ 0
+      n = after .no-traffic (omega arith)
 
       last : lastKind (withVid s) ≡ 3
-      last = simp (le-ltb 0 (s .members) (omega (arith, m)), lt-ltb 0 (s .vids + 1) (omega arith))
+      last = simp (le-ltb 0 (s .traffic) (omega (arith, n)), le-ltb 0 (s .members) (omega (arith, m)), lt-ltb 0 (s .vids + 1) (omega arith))
 
   pub member-taken : (r : Step) → numbered 0 ≡ faultAt ws s memberLayout → r ≡ Step.Next (withMember s) → Stepped ws (withMember s) (stepAs ws s memberLayout) r
   member-taken r e g =
       taken-step ws s memberLayout e (withMember s) r
-      (same-reading (omega arith) (simp (lt-ltb 0 (s .members + 1) (omega arith)))
-      (same-plan refl refl refl (grown memberOf 2 (membersFrom s) ws (s .members) (wordsRead s) (omega arith))))
+      (same-reading (omega arith) last
+      (same-plan
+      refl
+      refl
+      refl
+      (grown memberOf 2 (membersFrom s) ws (s .members) (wordsRead s) (omega (arith, n)))
+      (none-anywhere trafficOf 2 (trafficFrom (withMember s)) ws (trafficFrom s) (s .traffic) n)))
+      (omega arith) (omega arith) g
+    where
+      n : s .traffic ≡ 0
+      n = none-after 4 s (not-lower ws s memberLayout e) .no-traffic (omega arith)
+
+      last : lastKind (withMember s) ≡ 4
+      last = simp (le-ltb 0 (s .traffic) (omega (arith, n)), lt-ltb 0 (s .members + 1) (omega arith))
+
+  pub traffic-taken :
+      (r : Step) → numbered 0 ≡ faultAt ws s trafficLayout → r ≡ Step.Next (withTraffic s) → Stepped ws (withTraffic s) (stepAs ws s trafficLayout) r
+  traffic-taken r e g =
+      taken-step ws s trafficLayout e (withTraffic s) r
+      (same-reading (omega arith) (simp (lt-ltb 0 (s .traffic + 1) (omega arith)))
+      (same-plan refl refl refl refl (grown trafficOf 2 (trafficFrom s) ws (s .traffic) (wordsRead s) (omega arith))))
       (omega arith) (omega arith) g
 
 -- A record without a fault: its words are there, and there is room for its keys
@@ -253,8 +304,14 @@ module _ (ws : List ℕ) (s : Shape) where
   pub half-link-room : numbered 0 ≡ faultAt ws s halfLinkLayout → s .«half_links» < 512
   half-link-room e = omega (arith, not-full ws s halfLinkLayout e, how-many halfLinkOf 3 (halfLinksFrom s) ws (s .«half_links»))
 
+  pub vid-room : numbered 0 ≡ faultAt ws s vidLayout → s .vids + 1 ≤ 16
+  vid-room e = omega (arith, not-full ws s vidLayout e, how-many vidOf 1 (vidsFrom s) ws (s .vids))
+
   pub member-room : numbered 0 ≡ faultAt ws s memberLayout → s .members < 512
   member-room e = omega (arith, not-full ws s memberLayout e, how-many memberOf 2 (membersFrom s) ws (s .members))
+
+  pub traffic-room : numbered 0 ≡ faultAt ws s trafficLayout → s .traffic < 512
+  traffic-room e = omega (arith, not-full ws s trafficLayout e, how-many trafficOf 2 (trafficFrom s) ws (s .traffic))
 
   -- The record that was read at the word `at` is the next of its kind.
   next-of-kind :
@@ -294,7 +351,7 @@ module _ (ws : List ℕ) (s : Shape) where
       there : b ≡ recordAt bridgeOf 3 0 ws (s .bridges)
       there =
           next-of-kind bridgeOf 3 0 (s .bridges) at b a e
-          (omega (arith, after .no-half-links (omega arith), after .no-vids (omega arith), after .no-members (omega arith)))
+          (omega (arith, after .no-half-links (omega arith), after .no-vids (omega arith), after .no-members (omega arith), after .no-traffic (omega arith)))
 
   pub half-links-kept :
       {ports links ports′ links′ : List ℕ} {r : Step} →
@@ -323,7 +380,7 @@ module _ (ws : List ℕ) (s : Shape) where
       there : h ≡ recordAt halfLinkOf 3 (halfLinksFrom s) ws (s .«half_links»)
       there =
           next-of-kind halfLinkOf 3 (halfLinksFrom s) (s .«half_links») at h a e
-          (omega (arith, after .no-vids (omega arith), after .no-members (omega arith)))
+          (omega (arith, after .no-vids (omega arith), after .no-members (omega arith), after .no-traffic (omega arith)))
 
   pub members-kept :
       {members members′ : List ℕ} {r : Step} →
@@ -331,14 +388,34 @@ module _ (ws : List ℕ) (s : Shape) where
       (m : Member) (at key : ℕ) →
       at ≡ wordsRead s →
       m ≡ memberOf (drop at ws) →
+      numbered 0 ≡ faultAt ws s memberLayout →
       key ≡ memberKey m →
       Entered members members′ (s .members) key →
       r ≡ Step.Next (withMember s) →
       MembersKept ws members′ r
-  members-kept {members′ = members′} x m at key a e k p g t n =
+  members-kept {members′ = members′} x m at key a e f k p g t n =
       let z : withMember s ≡ t = cc
-      in subst (λ (y : Shape). MemberIndex members′ ws (membersFrom y) (y .members)) z
-      (keyed-more x key p (k ∙ ap memberKey (next-of-kind memberOf 2 (membersFrom s) (s .members) at m a e refl)))
+      in subst (λ (y : Shape). MemberIndex members′ ws (membersFrom y) (y .members)) z (keyed-more x key p (k ∙ ap memberKey there))
+    where
+      there : m ≡ recordAt memberOf 2 (membersFrom s) ws (s .members)
+      there =
+          next-of-kind memberOf 2 (membersFrom s) (s .members) at m a e
+          (omega (arith, none-after 4 s (not-lower ws s memberLayout f) .no-traffic (omega arith)))
+
+  pub traffic-kept :
+      {traffic traffic′ : List ℕ} {r : Step} →
+      TrafficIndex traffic ws (trafficFrom s) (s .traffic) →
+      (x : Traffic) (at key : ℕ) →
+      at ≡ wordsRead s →
+      x ≡ trafficOf (drop at ws) →
+      key ≡ trafficKey x →
+      Entered traffic traffic′ (s .traffic) key →
+      r ≡ Step.Next (withTraffic s) →
+      TrafficKept ws traffic′ r
+  traffic-kept {traffic′ = traffic′} k x at key a e f p g t n =
+      let z : withTraffic s ≡ t = cc
+      in subst (λ (y : Shape). TrafficIndex traffic′ ws (trafficFrom y) (y .traffic)) z
+      (keyed-more k key p (f ∙ ap trafficKey (next-of-kind trafficOf 2 (trafficFrom s) (s .traffic) at x a e refl)))
 
 -- A refusal keeps nothing.
 pub refused-keeps :

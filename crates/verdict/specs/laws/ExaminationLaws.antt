@@ -9,7 +9,7 @@ use lib.Dec.{eqb, ltb}
 use lib.ListN.{length}
 use borrow.Author.Tests.{ltb-false}
 use Rattle.rule.specs.declared.answer.RecordKind.{RecordKind}
-use Rattle.rule.specs.Records.{bridgeOf, halfLinkOf, vidOf, memberOf}
+use Rattle.rule.specs.Records.{bridgeOf, halfLinkOf, vidOf, memberOf, trafficOf}
 use Rattle.rule.specs.Words.{wordsOf}
 use Rattle.rule.specs.Outcome.{Outcome, answered, refused, refusedIf}
 use Rattle.rule.specs.Plan.{Plan}
@@ -17,7 +17,7 @@ use Rattle.rule.specs.Check.{longestTable, badLength, Reading, start, readOn, v
 use Rattle.rule.specs.laws.Accepted.{accepted-laws}
 use Rattle.key_index.specs.Index.{Indexed}
 use Rattle.table.specs.declared.shape.Shape.{Shape}
-use Rattle.table.specs.Positions.{halfLinksFrom, vidsFrom, membersFrom, wordsRead, planAt, readingAt}
+use Rattle.table.specs.Positions.{halfLinksFrom, vidsFrom, membersFrom, trafficFrom, wordsRead, planAt, readingAt}
 use Rattle.table.specs.laws.PositionLaws.{no-records}
 use Rattle.readers.specs.laws.WordLaws.{count-of-words}
 use Rattle.earlier.specs.HalfLinks.{numberKey}
@@ -43,7 +43,7 @@ pub record Examining (ws links : List ℕ) (s : Shape) (next : ℕ) : Type 0 whe
   pub before : Before ws links next s
 
 abbrev noneRead : Shape
-noneRead = record { bridges = 0; «half_links» = 0; vids = 0; members = 0 }
+noneRead = record { bridges = 0; «half_links» = 0; vids = 0; members = 0; traffic = 0 }
 
 start-is : (ws : List ℕ) → readingAt ws noneRead ≡ start
 start-is ws =
@@ -57,6 +57,7 @@ start-is ws =
             halfLinks = no-records halfLinkOf 3 (halfLinksFrom noneRead) ws i;
             vids = no-records vidOf 1 (vidsFrom noneRead) ws i;
             members = no-records memberOf 2 (membersFrom noneRead) ws i;
+            traffic = no-records trafficOf 2 (trafficFrom noneRead) ws i;
           };
     }
 
@@ -73,16 +74,19 @@ examining-starts ws links x =
                       ap (λ (n : ℕ). readOn n ws (readingAt ws noneRead)) (omega arith)
                       ∙ ap (λ (s : Reading). readOn (length ws) ws s) (start-is ws);
                   within = omega arith;
+                  few-vids = omega arith;
                 };
             numbers = keyed-none halfLinkOf 3 numberKey links ws (halfLinksFrom noneRead) 0 x refl;
             no-bridges = λ _. refl;
             no-half-links = λ _. refl;
             no-vids = λ _. refl;
             no-members = λ _. refl;
+            no-traffic = λ _. refl;
             bridges-end = λ h. absurd (omega arith);
             half-links-end = λ h. absurd (omega arith);
             vids-end = λ h. absurd (omega arith);
             members-end = λ h. absurd (omega arith);
+            traffic-end = λ h. absurd (omega arith);
           };
     }
 

@@ -20,7 +20,7 @@ use Rattle.rule.specs.Answers.{kindNumber}
 use Rattle.rule.specs.Plan.{Plan}
 use Rattle.rule.specs.Check.{kindConcerned, faults, lowestFault, stops, judged, readAs, readFrom, stepOf, after, readOn, start}
 use Rattle.table.specs.declared.shape.Shape.{Shape}
-use Rattle.table.specs.Positions.{halfLinksFrom, vidsFrom, membersFrom, wordsRead, lastKind, planAt, readingAt}
+use Rattle.table.specs.Positions.{halfLinksFrom, vidsFrom, membersFrom, trafficFrom, wordsRead, lastKind, planAt, readingAt}
 use Rattle.faults.specs.Faults.{numbered, faultAt}
 use Rattle.steps.specs.Steps.{concerned, stepAs}
 use Rattle.steps.specs.laws.StepLaws.{NoneAfter, none-after, kind-concerned}
@@ -42,11 +42,15 @@ lower-only {ws} {links} {s} B kind l m e = go (le-or-gt (lastKind s) kind)
     ended : NoneAfter kind s → (kind ≡ 1) ⊎ (kind ≡ 1 → ⊥) → (kind ≡ 2) ⊎ (kind ≡ 2 → ⊥) → (kind ≡ 3) ⊎ (kind ≡ 3 → ⊥) → ⊥
     ended N (inl f) y z =
         here 1 (halfLinksFrom s) f
-        (omega (arith, N .no-half-links (omega arith), N .no-vids (omega arith), N .no-members (omega arith))) (B .bridges-end (omega arith))
+        (omega (arith, N .no-half-links (omega arith), N .no-vids (omega arith), N .no-members (omega arith), N .no-traffic (omega arith)))
+        (B .bridges-end (omega arith))
     ended N (inr d) (inl f) z =
-        here 2 (vidsFrom s) f (omega (arith, N .no-vids (omega arith), N .no-members (omega arith))) (B .half-links-end (omega arith))
-    ended N (inr d) (inr g) (inl f) = here 3 (membersFrom s) f (omega (arith, N .no-members (omega arith))) (B .vids-end (omega arith))
-    ended N (inr d) (inr g) (inr h) = here 4 (wordsRead s) (omega arith) refl (B .members-end (omega arith))
+        here 2 (vidsFrom s) f (omega (arith, N .no-vids (omega arith), N .no-members (omega arith), N .no-traffic (omega arith)))
+        (B .half-links-end (omega arith))
+    ended N (inr d) (inr g) (inl f) =
+        here 3 (membersFrom s) f (omega (arith, N .no-members (omega arith), N .no-traffic (omega arith))) (B .vids-end (omega arith))
+    ended N (inr d) (inr g) (inr h) =
+        here 4 (trafficFrom s) (omega arith) (omega (arith, N .no-traffic (omega arith))) (B .members-end (omega arith))
 
     go : (lastKind s ≤ kind) ⊎ (kind < lastKind s) → kind < lastKind s
     go (inr h) = h

@@ -63,10 +63,20 @@ returns-6 c =
       write-field5-bound,
     )
 
+returns-7 : tie.Need-returns-7
+returns-7 c =
+    let at-write-field6 = c .before .before in
+    let at-enum-told7 = at-write-field6 .before .before in
+    let (written, write-field6-bound) = at-write-field6 .write-field6 .ensures in (
+      written-as written _ (sym (ap (λ (k : RecordKind). kindField (kindNumber k)) (at-enum-told7 .enum-told7 .given .1))),
+      write-field6-bound,
+    )
+
 pub write-kind-spec : {M : Type 1} → statement M
 write-kind-spec =
     tie.close
     (tie.spec (λ c. search needs) (λ c. search needs) (λ c κs. search needs) (λ c. search needs) (λ c κs. search needs) (λ c. search needs)
     (λ c κs. search needs) (λ c. search needs) (λ c κs. search needs) (λ c. search needs) (λ c κs. search needs) (λ c. search needs)
-    (λ c κs. search needs) (λ c. search needs) returns (λ c. search needs) returns-2 (λ c. search needs) returns-3 (λ c. search needs)
-    returns-4 (λ c. search needs) returns-5 (λ c. search needs) returns-6)
+    (λ c κs. search needs) (λ c. search needs) (λ c κs. search needs) (λ c. search needs) returns (λ c. search needs) returns-2
+    (λ c. search needs) returns-3 (λ c. search needs) returns-4 (λ c. search needs) returns-5 (λ c. search needs) returns-6
+    (λ c. search needs) returns-7)

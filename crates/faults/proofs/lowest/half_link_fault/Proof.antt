@@ -53,7 +53,7 @@ returns-2 c =
     let half-link-read = halfLinkValues (at-read .read .given .0 .0) in
     left-fault (as-read (at-read .before .before)) (ap (λ (x : HalfLinkRead). halfLinkRead x) (at-read .read .given .1))
     (at-own-fault4 .own-fault4 .ensures) (at-if1 .if1 .left) false true _ _ false refl
-    (unknown-ends (wordsOf (at-start .args .table .now)) (at-start .args .s) half-link-read
+    (unknown-ends (wordsOf (at-start .args .table .now)) (at-start .args .s) (half-link-read .near) (half-link-read .far)
     ∙ sym (c .before .names-unknown .ensures)
     ∙ c .if2 .taken)
     refl refl refl
@@ -78,7 +78,7 @@ returns-3 c =
     let (_, (port-keyed, _)) = at-start .pre in
     left-fault (as-read (at-read .before .before)) (ap (λ (x : HalfLinkRead). halfLinkRead x) (at-read .read .given .1))
     (at-own-fault4 .own-fault4 .ensures) (at-if1 .if1 .left) false false true _ false refl
-    (unknown-ends (wordsOf (at-start .args .table .now)) (at-start .args .s) half-link-read
+    (unknown-ends (wordsOf (at-start .args .table .now)) (at-start .args .s) (half-link-read .near) (half-link-read .far)
     ∙ sym (at-names-unknown .names-unknown .ensures)
     ∙ at-if2 .if2 .left)
     (sym (port-repeated port-keyed half-link-read (of-16-bits at-read .1)) ∙ sym (c .before .is-port-repeated .ensures) ∙ c .if3 .taken)
@@ -107,7 +107,7 @@ by-link c is e =
     let (_, (port-keyed, _)) = at-start .pre in
     left-fault (as-read (at-read .before .before)) (ap (λ (x : HalfLinkRead). halfLinkRead x) (at-read .read .given .1))
     (at-own-fault4 .own-fault4 .ensures) (at-if1 .if1 .left) false false false is false refl
-    (unknown-ends (wordsOf (at-start .args .table .now)) (at-start .args .s) half-link-read
+    (unknown-ends (wordsOf (at-start .args .table .now)) (at-start .args .s) (half-link-read .near) (half-link-read .far)
     ∙ sym (at-names-unknown .names-unknown .ensures)
     ∙ at-if2 .if2 .left)
     (sym (port-repeated port-keyed half-link-read (of-16-bits at-read .1))

@@ -14,8 +14,8 @@ read-bridges-requires c κs =
 returns : tie.Need-returns
 returns c =
     let at-start = c .before .before .before .before in
-    let (_, kind-least, kind-bound, before) = at-start .pre in
-    kind-read before kind-least kind-bound 1 (c .before .if1 .taken) (c .read-bridges .ensures) (λ z. absurd (omega arith))
+    let (_, kind-least, _, before) = at-start .pre in
+    kind-read before kind-least (omega arith) 1 (c .before .if1 .taken) (c .read-bridges .ensures) (λ z. absurd (omega arith))
 
 read-half-links-requires : tie.Need-read-half-links-requires
 read-half-links-requires c κs =
@@ -28,15 +28,15 @@ returns-2 c =
     let at-read-half-links = c .before .before in
     let at-if2 = at-read-half-links .before .before in
     let at-start = at-if2 .before .before .before .before in
-    let (_, kind-least, kind-bound, before) = at-start .pre in
+    let (_, kind-least, _, before) = at-start .pre in
     let (run, numbers-kept) = at-read-half-links .read-half-links .ensures in
-    half-links-read before kind-least kind-bound 2 (at-if2 .if2 .taken) run numbers-kept
+    half-links-read before kind-least (omega arith) 2 (at-if2 .if2 .taken) run numbers-kept
 
 returns-3 : tie.Need-returns-3
 returns-3 c =
     let at-start = c .before .before .before .before .before .before in
-    let (_, kind-least, kind-bound, before) = at-start .pre in
-    kind-read before kind-least kind-bound 3 (c .before .if3 .taken) (c .read-vids .ensures) (λ z. absurd (omega arith))
+    let (_, kind-least, _, before) = at-start .pre in
+    kind-read before kind-least (omega arith) 3 (c .before .if3 .taken) (c .read-vids .ensures) (λ z. absurd (omega arith))
 
 read-members-requires : tie.Need-read-members-requires
 read-members-requires c κs =
@@ -47,8 +47,8 @@ read-members-requires c κs =
 returns-4 : tie.Need-returns-4
 returns-4 c =
     let at-start = c .before .before .before .before .before .before in
-    let (_, kind-least, kind-bound, before) = at-start .pre in
-    kind-read before kind-least kind-bound 4 (omega arith) (c .read-members .ensures) (λ z. absurd (omega arith))
+    let (_, kind-least, _, before) = at-start .pre in
+    kind-read before kind-least (omega arith) 4 (omega arith) (c .read-members .ensures) (λ z. absurd (omega arith))
 
 pub read-kind-spec : {M : Type 1} → statement M
 read-kind-spec =

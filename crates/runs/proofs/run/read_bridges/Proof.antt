@@ -64,7 +64,8 @@ loop-again c =
     let (stepped, bridges-kept) = at-after-bridge .after-bridge .ensures in (
       run-goes-on running (sym (at-is-next .is-next .ensures) ∙ at-if1 .if1 .taken) bridgeLayout bridge-kind stepped
           (at-step .step .given .0 .0) (at-step .step .given .1) (omega arith)
-          (record { bridges = λ d. absurd (d refl); half-links = λ d. refl; vids = λ d. refl; members = λ d. refl }),
+          (record { bridges = λ d. absurd (d refl); half-links = λ d. refl; vids = λ d. refl; members = λ d. refl; traffic = λ d. refl })
+          (running .reached .few-vids),
       bridges-kept (at-step .step .given .0 .0) (at-step .step .given .1),
     )
 

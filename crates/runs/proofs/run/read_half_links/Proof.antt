@@ -67,7 +67,8 @@ loop-again c =
     let (stepped, half-links-kept) = at-after-half-link .after-half-link .ensures in (
       run-goes-on running (sym (at-is-next .is-next .ensures) ∙ at-if1 .if1 .taken) halfLinkLayout half-link-kind stepped
           (at-step .step .given .0 .0) (at-step .step .given .1) (omega arith)
-          (record { bridges = λ d. refl; half-links = λ d. absurd (d refl); vids = λ d. refl; members = λ d. refl }),
+          (record { bridges = λ d. refl; half-links = λ d. absurd (d refl); vids = λ d. refl; members = λ d. refl; traffic = λ d. refl })
+          (running .reached .few-vids),
       half-links-kept (at-step .step .given .0 .0) (at-step .step .given .1),
     )
 

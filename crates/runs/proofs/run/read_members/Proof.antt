@@ -59,7 +59,8 @@ loop-again c =
     let (stepped, members-kept) = at-after-member .after-member .ensures in (
       run-goes-on running (sym (at-is-next .is-next .ensures) ∙ at-if1 .if1 .taken) memberLayout member-kind stepped
           (at-step .step .given .0 .0) (at-step .step .given .1) (omega arith)
-          (record { bridges = λ d. refl; half-links = λ d. refl; vids = λ d. refl; members = λ d. absurd (d refl) }),
+          (record { bridges = λ d. refl; half-links = λ d. refl; vids = λ d. refl; members = λ d. absurd (d refl); traffic = λ d. refl })
+          (running .reached .few-vids),
       members-kept (at-step .step .given .0 .0) (at-step .step .given .1),
     )
 

@@ -6,6 +6,7 @@ use lib.ListN.{length}
 use Rattle.rule.specs.Words.{wordsOf}
 use Rattle.rule.specs.Records.{vidLayout}
 use Rattle.table.specs.Positions.{wordsRead}
+use Rattle.steps.specs.laws.StepLaws.{taken-sound, vid-room}
 use Rattle.runs.specs.laws.KindLaws.{vid-kind}
 use Rattle.runs.specs.laws.RunLaws.{Running, running-starts, run-goes-on, run-ends, run-refuses, whole-at, fewer-words}
 use borrow.Author.Needs.{needs}
@@ -47,9 +48,13 @@ loop-again c =
     let at-if1 = at-after-vid .before in
     let at-is-next = at-if1 .before in
     let at-loop = at-is-next .before in
+    let at-start = at-loop .before .before in
     run-goes-on (at-loop .loop .inv) (sym (at-is-next .is-next .ensures) ∙ at-if1 .if1 .taken) vidLayout vid-kind
     (at-after-vid .after-vid .ensures) (c .before .step .given .0 .0) (c .before .step .given .1) (omega arith)
-    (record { bridges = λ d. refl; half-links = λ d. refl; vids = λ d. absurd (d refl); members = λ d. refl })
+    (record { bridges = λ d. refl; half-links = λ d. refl; vids = λ d. absurd (d refl); members = λ d. refl; traffic = λ d. refl })
+    (vid-room (wordsOf (at-start .args .table .now)) (at-loop .loop .t)
+    (taken-sound (wordsOf (at-start .args .table .now)) (at-loop .loop .t) vidLayout (at-after-vid .after-vid .ensures)
+    (c .before .step .given .0 .0) (c .before .step .given .1)))
 
 returns : tie.Need-returns Inv-loop μ-loop
 returns c =

@@ -65,12 +65,12 @@ returns-2 c =
     let at-words-read = at-if1 .before in
     let at-member-fault = at-words-read .before in
     let at-start = at-member-fault .before .before .before .before in
-    let (_, member-index) = at-start .pre in (
-      member-taken (wordsOf (at-start .args .table .now)) (at-start .args .s) _
-          (ap numbered (sym (at-if1 .if1 .left)) ∙ at-member-fault .member-fault .ensures) refl,
+    let (_, member-index) = at-start .pre in
+    let no-fault = ap numbered (sym (at-if1 .if1 .left)) ∙ at-member-fault .member-fault .ensures in (
+      member-taken (wordsOf (at-start .args .table .now)) (at-start .args .s) _ no-fault refl,
       members-kept (wordsOf (at-start .args .table .now)) (at-start .args .s) member-index (memberValues (at-member-at .member-at .result))
           (at-words-read .words-read .result) (at-member-key .member-key .result) (at-words-read .words-read .ensures)
-          (at-member-at .member-at .ensures) (at-member-key .member-key .ensures) (at-enter .enter .ensures) refl,
+          (at-member-at .member-at .ensures) no-fault (at-member-key .member-key .ensures) (at-enter .enter .ensures) refl,
     )
 
 pub after-member-spec : {M : Type 1} → statement M
