@@ -12,6 +12,7 @@ pub mod Entries
 pub mod Answers
 pub mod Calls
 pub mod Loads
+pub mod LoadsAddUp
 pub mod Lookup
 pub mod Exported
 pub mod Services

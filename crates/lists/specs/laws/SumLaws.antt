@@ -1,13 +1,16 @@
 -- Sums over a list. Assumes nothing.
 use Prim.Native.Nat.{ℕ, _+_, _*_, _≤_, _<_}
 use native.Mathlib.Omega.{arith}
-use mathlib.Core.Path.{_≡_, refl, sym, ap}
-use mathlib.Core.List.{List, [], _∷_, _++_, flatMap}
+use native.Mathlib.Numerals.{add-one}
+use mathlib.Core.Path.{_≡_, refl, sym, ap, _∙_}
+use mathlib.Core.List.{List, [], _∷_, _++_, map, flatMap}
 use mathlib.Core.Logic.{inl, inr}
 use mathlib.Core.Bool.{Bool, true, false, not, cond}
-use lib.ListN.{length, length-append}
-use Rattle.lists.specs.Lists.{consIf, selected}
+use lib.ListN.{length, getD, length-append}
+use Rattle.lists.specs.Lists.{rising, consIf, selected}
 use Rattle.lists.specs.Members.{In, sumOver}
+use Rattle.lists.specs.laws.GivenLaws.{by-places}
+use Rattle.lists.specs.laws.Searching.{rising-more}
 
 -- Sums
 
@@ -93,3 +96,21 @@ module _ {A B : Type 0} where
 
   pub length-flatMap-most : (f : A → List B) (n : ℕ) (xs : List A) → ((x : A) → In x xs → length (f x) ≤ n) → length (flatMap f xs) ≤ length xs * n
   length-flatMap-most f n xs h = omega (arith, length-flatMap f xs, sum-bounded (λ x. length (f x)) n xs h)
+
+-- A sum by places
+
+-- A sum over a list, by its places.
+pub sum-places : {A : Type 0} (f : A → ℕ) (xs : List A) (d : A) → sumOver f xs ≡ sumOver (λ j. f (getD xs j d)) (rising 0 (length xs))
+sum-places {A} f xs d = ap (sumOver f) (sym (by-places xs d)) ∙ over (rising 0 (length xs))
+  where
+    over : (js : List ℕ) → sumOver f (map (λ j. getD xs j d) js) ≡ sumOver (λ j. f (getD xs j d)) js
+    over [] = refl
+    over (j ∷ js) = omega (arith, over js)
+
+-- A sum over the first numbers, with one more.
+pub sum-next : (f : ℕ → ℕ) (i : ℕ) → sumOver f (rising 0 (i + 1)) ≡ sumOver f (rising 0 i) + f i
+sum-next f i =
+    ap (λ (n : ℕ). sumOver f (rising 0 n)) (add-one i)
+    ∙ ap (sumOver f) (rising-more 0 i)
+    ∙ sum-append f (rising 0 i) ((0 + i) ∷ [])
+    ∙ (let z : f (0 + i) ≡ f i = ap f (let y : 0 + i ≡ i = omega arith in y) in omega (arith, z))

@@ -1,18 +1,15 @@
 -- Records of traffic added one after the other are the loads of the plan (02, A5). Assumes nothing.
 use Prim.Native.Nat.{ℕ, suc, _+_, _*_, _≤_, _<_}
 use native.Mathlib.Omega.{arith}
-use native.Mathlib.Numerals.{add-one}
 use mathlib.Core.Path.{_≡_, refl, sym, ap, _∙_, subst}
-use mathlib.Core.List.{List, [], _∷_, _++_, map}
+use mathlib.Core.List.{List}
 use mathlib.Core.Option.{Option}
 use mathlib.Core.Bool.{Bool, cond, not}
 use lib.ListN.{length, getD}
 use Rattle.lists.specs.Lists.{rising}
 use Rattle.lists.specs.Members.{In, sumOver}
 use Rattle.lists.specs.laws.SelectedLaws.{rising-in}
-use Rattle.lists.specs.laws.GivenLaws.{by-places}
-use Rattle.lists.specs.laws.Searching.{rising-more}
-use Rattle.lists.specs.laws.SumLaws.{sum-same, sum-append}
+use Rattle.lists.specs.laws.SumLaws.{sum-same, sum-places, sum-next}
 use Rattle.graph.specs.Pairs.{Pair}
 use Rattle.rule.specs.Records.{Traffic}
 use Rattle.rule.specs.Plan.{Plan}
@@ -113,14 +110,6 @@ adding-starts net indexes words {loads} N = record {
     none : (q : Pair) → Placed q → loadAt loads q ≡ 0
     none q P = N .none (64 * q .lower + q .higher) (omega (arith, P .rises, P .inside))
 
--- A sum with one number more.
-sum-next : (f : ℕ → ℕ) (i : ℕ) → sumOver f (rising 0 (i + 1)) ≡ sumOver f (rising 0 i) + f i
-sum-next f i =
-    ap (λ (n : ℕ). sumOver f (rising 0 n)) (add-one i)
-    ∙ ap (sumOver f) (rising-more 0 i)
-    ∙ sum-append f (rising 0 i) ((0 + i) ∷ [])
-    ∙ (let z : f (0 + i) ≡ f i = ap f (let y : 0 + i ≡ i = omega arith in y) in omega (arith, z))
-
 module _ {net indexes words : List ℕ} {i : ℕ} {loads : List ℕ} {total lost : ℕ} (A : Adding net indexes words i loads total lost) where
   pub adding-room : i < 256 → Room loads 65535
   adding-room h = record { fits = λ q P. omega (arith, A .few q P) }
@@ -135,14 +124,6 @@ module _ {net indexes words : List ℕ} {i : ℕ} {loads : List ℕ} {total lost
     few-total = omega (arith, A .few-total, T .few-total);
     few-lost = omega (arith, A .few-lost, T .few-lost);
   }
-
--- A sum over a list, by its places.
-sum-places : {A : Type 0} (f : A → ℕ) (xs : List A) (d : A) → sumOver f xs ≡ sumOver (λ j. f (getD xs j d)) (rising 0 (length xs))
-sum-places {A} f xs d = ap (sumOver f) (sym (by-places xs d)) ∙ over (rising 0 (length xs))
-  where
-    over : (js : List ℕ) → sumOver f (map (λ j. getD xs j d) js) ≡ sumOver (λ j. f (getD xs j d)) js
-    over [] = refl
-    over (j ∷ js) = omega (arith, over js)
 
 module _ {net indexes words : List ℕ} {i : ℕ} {loads : List ℕ} {total lost : ℕ} (A : Adding net indexes words i loads total lost) {count : ℕ} (all : i ≡ count) where
   -- By the plan of the network and the traffic of the words.

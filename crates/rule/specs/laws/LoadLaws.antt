@@ -1,7 +1,7 @@
 -- Loads by single records of traffic, and the two sums that a total is (02, A5). Assumes nothing.
 use Prim.Native.Nat.{ℕ, _+_, _*_, _≤_, _<_}
 use native.Mathlib.Omega.{arith}
-use native.Mathlib.Nat.{mul-le-mul-right}
+use native.Mathlib.Nat.{mul-comm, mul-le-mul-right}
 use mathlib.Core.Path.{_≡_, refl, sym, ap, _∙_}
 use mathlib.Core.List.{List, [], _∷_, _++_}
 use mathlib.Core.Option.{Option, none, some}
@@ -12,6 +12,7 @@ use Rattle.lists.specs.Members.{In, sumOver}
 use Rattle.lists.specs.laws.MemberLaws.{map-at}
 use Rattle.lists.specs.laws.FirstPassing.{first-selected}
 use Rattle.lists.specs.laws.SumLaws.{sum-same, sum-nothing, sum-most, sum-bounded, sum-append, sum-selected, sum-exchanged}
+use Rattle.graph.specs.Graph.{hops}
 use Rattle.graph.specs.Chosen.{Chosen}
 use Rattle.graph.specs.Pairs.{Pair, joinedPairs, takes}
 use Rattle.graph.specs.laws.PairLaws.{pairs-taken}
@@ -24,6 +25,9 @@ use Rattle.rule.specs.Links.{graphOf}
 use Rattle.rule.specs.Identifiers.{keyOf}
 use Rattle.rule.specs.Paths.{chosenPath}
 use Rattle.rule.specs.Loads.{ownIndexes, vidPlace, indexFor, trafficPath, hopsOf, hasPath, pathTakes, loadOf, totalLoad, lostLoad}
+use Rattle.rule.specs.LoadsAddUp.{AddsUp, LoadsAddUp, OwnPaths}
+use Rattle.rule.specs.laws.Accepted.{accepted-laws}
+use Rattle.rule.specs.laws.CallLaws.{vid-found}
 use Rattle.rule.specs.laws.LinkLaws.{graph-laws}
 use Rattle.rule.specs.laws.IdentifierLaws.{key-laws}
 
@@ -127,3 +131,35 @@ own-path p t v e =
     let (l, f) = first-selected (hasVid (t .vid)) (p .vids) v (record { vid = 0; index = 0 }) e
     in let own : indexFor p (ownIndexes p) t ≡ v .index = map-at (λ v. v .index) (p .vids) (vidPlace p (t .vid)) (record { vid = 0; index = 0 }) 0 l ∙ ap (λ (w : Vid). w .index) f
     in λ i. chosenPath (planOfVid p (f i)) (own i) (t .from) (t .to)
+
+-- "amount times hops" over the records that have a path: the others have no hop.
+carried-selected : (p : Plan) (indexes : List ℕ) (ts : List Traffic) → sumOver (carried p indexes) ts
+    ≡ sumOver (λ t. t .amount * hopsOf (trafficPath p indexes t)) (selected (λ t. hasPath (trafficPath p indexes t)) ts)
+carried-selected p indexes ts =
+    sum-same (carried p indexes) (λ t. cond (hasPath (trafficPath p indexes t)) (t .amount * hopsOf (trafficPath p indexes t)) 0) ts
+    (λ t i. go t (trafficPath p indexes t))
+    ∙ sym (sum-selected (λ t. t .amount * hopsOf (trafficPath p indexes t)) (λ t. hasPath (trafficPath p indexes t)) ts)
+  where
+    go : (t : Traffic) (o : Option (List ℕ)) → hopsOf o * t .amount ≡ cond (hasPath o) (t .amount * hopsOf o) 0
+    go t none = omega arith
+    go t (some path) = mul-comm (hops path) (t .amount)
+
+-- Total, lost and the greatest of each, for every accepted table and every assignment.
+pub loads-add-up : LoadsAddUp
+unfolding totalLoad lostLoad
+loads-add-up t p accepted indexes =
+    let L = accepted-laws t p accepted
+    in let few = L .traffic .few
+    in let amounts : (r : Traffic) → In r (p .traffic) → r .amount ≤ 65535 = λ r i. L .traffic .fits r i .greatest-amount
+    in record {
+      total-of-lines = refl;
+      total-of-records = total-by-records p indexes L (p .traffic) ∙ carried-selected p indexes (p .traffic);
+      lost-of-others = refl;
+      greatest-load = greatest-load p indexes (p .traffic) few amounts;
+      greatest-lost = greatest-lost p indexes (p .traffic) few amounts;
+      greatest-total = greatest-total p indexes (p .traffic) few amounts L (λ r i. L .traffic .fits r i .from-known);
+    }
+
+pub own-paths : OwnPaths
+own-paths t p accepted r i v k e =
+    own-path p r v (ap (vidRecord p) (sym e) ∙ vid-found p (accepted-laws t p accepted) v k)
