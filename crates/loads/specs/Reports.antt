@@ -61,6 +61,14 @@ pub record TrafficWords (p : Plan) (ts : List Traffic) (words : List ℕ) : Type
   pub from-is : (i : ℕ) → i < length ts → fromWord words i ≡ trafficAt ts i .from
   pub to-is : (i : ℕ) → i < length ts → toWord words i ≡ trafficAt ts i .to
 
+-- The words of the record number `i` are written, and those before them are as they were.
+pub record RecordWritten (p : Plan) (i : ℕ) (before after : List ℕ) : Type 0 where
+  pub vid-is : vidWord after i ≡ vidPlace p (trafficAt (p .traffic) i .vid)
+  pub amount-is : amountWord after i ≡ trafficAt (p .traffic) i .amount
+  pub from-is : fromWord after i ≡ trafficAt (p .traffic) i .from
+  pub to-is : toWord after i ≡ trafficAt (p .traffic) i .to
+  pub kept : (j : ℕ) → j < 4 * i → getD after j 0 ≡ getD before j 0
+
 -- The list has the load of every pair, and the sums are total and lost.
 pub record LoadsOf (p : Plan) (indexes : List ℕ) (ts : List Traffic) (loads : List ℕ) (sums : Sums) : Type 0 where
   pub each : (q : Pair) → Placed q → loadAt loads q ≡ loadOf p indexes ts q

@@ -3,3 +3,4 @@ pub mod PlaceLaws
 pub mod AlongLaws
 pub mod TreeLaws
 pub mod ReportLaws
+pub mod TrafficLaws

@@ -2,3 +2,4 @@
 pub mod along;
 pub mod pair;
 pub mod report;
+pub mod traffic;

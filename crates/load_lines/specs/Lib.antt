@@ -1,0 +1,3 @@
+-- The lines of the load report, pair by pair.
+pub mod PairTexts
+pub mod laws
