@@ -10,7 +10,7 @@ use lib.ListN.{length, getD}
 use borrow.Author.Tests.{eq-eqb, ne-eqb, lt-ltb, le-ltb, ltb-true}
 use Rattle.lists.specs.Lists.{rising, selected}
 use Rattle.lists.specs.Appending.{Appended, eachOf}
-use Rattle.lists.specs.laws.AppendingLaws.{AppendingFew, few-starts, few-room, few-goes-on, few-ends}
+use Rattle.lists.specs.laws.AppendingLaws.{appended-nothing, AppendingFew, few-starts, few-room, few-goes-on, few-ends}
 use Rattle.lists.specs.laws.SelectedLaws.{rising-in}
 use Rattle.lists.specs.laws.GivenLaws.{flatMap-map, flatMap-selected, flatMap-same, flatMap-flatMap}
 use Rattle.graph.specs.Pairs.{Pair, pairsOf, joinedPairs}
@@ -27,6 +27,27 @@ use Rattle.loads.specs.Places.{loadAt, hopPlace}
 use Rattle.text.specs.Text.{line}
 use Rattle.listing_lines.specs.Listing.{loadWord, loadLine}
 use Rattle.load_lines.specs.PairTexts.{pairText, LinesFrom, PairLinesIn}
+
+-- The text of two bridges: nothing, or their line.
+module _ (hops loads : List ℕ) (u v : ℕ) where
+  pub not-lower : v ≤ u → (lent : List ℕ) (at : ℕ) → Appended lent at (pairText hops loads u v) lent at
+  unfolding pairText
+  not-lower l lent at = rw (le-ltb u v l) (appended-nothing lent at)
+
+  pub no-port : getD hops v 0 ≡ 0 → (lent : List ℕ) (at : ℕ) → Appended lent at (pairText hops loads u v) lent at
+  unfolding pairText
+  no-port e lent at = go (ltb u v)
+    where
+      go : (b : Bool) → Appended lent at (cond (b && not (eqb (getD hops v 0) 0)) (line loadWord (u ∷ v ∷ getD loads (hopPlace u v) 0 ∷ [])) []) lent at
+      go true = rw (eq-eqb (getD hops v 0) 0 e) (appended-nothing lent at)
+      go false = appended-nothing lent at
+
+  pub has-line : u < v → (getD hops v 0 ≡ 0 → ⊥) → (place : ℕ) → place ≡ hopPlace u v → {lent after : List ℕ} {at next : ℕ}
+      → Appended lent at (line loadWord (u ∷ v ∷ getD loads place 0 ∷ [])) after next → Appended lent at (pairText hops loads u v) after next
+  unfolding pairText
+  has-line l d place e {lent} {after} {at} {next} A =
+      rw (lt-ltb u v l, ne-eqb (getD hops v 0) 0 d)
+      (subst (λ (i : ℕ). Appended lent at (line loadWord (u ∷ v ∷ getD loads i 0 ∷ [])) after next) e A)
 
 -- A hop has a port exactly where the two bridges are joined.
 module _ {p : Plan} {net : List ℕ} (N : NetworkOf p net) (u : ℕ) (known : u < bridgesIn net) {hops : List ℕ} (H : HopPorts net u hops) where
