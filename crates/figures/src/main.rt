@@ -28,8 +28,9 @@ fn print_check(name: &[u8], table: &[u8])
     io::write_all(1, &line[..end]);
 }
 
-// The bytes of a table at most: 65 bridges, 513 half-links, 17 VIDs, 65 members, the end record and a word after it.
-const LONGEST: usize = 4 * (3 * 65 + 3 * 513 + 17 + 2 * 65 + 2);
+// The bytes of a table at most: 65 bridges, 513 half-links, 17 VIDs, 65 members, 257 traffic records, the end record and a word after
+// it.
+const LONGEST: usize = 4 * (3 * 65 + 3 * 513 + 17 + 2 * 65 + 2 * 257 + 2);
 
 // The table with so many records of each kind, and `more` words 0 after its end record.
 fn print_limit(
@@ -38,16 +39,17 @@ fn print_limit(
     half_links: usize,
     vids: usize,
     members: usize,
+    traffic: usize,
     more: usize,
 )
-    requires { ⌜ (length (now name) ≤ 66) × (bridges ≤ 65) × («half_links» ≤ 513) × (vids ≤ 17) × (members ≤ 65) × (more ≤ 1) ⌝ }
+    requires { ⌜ (length (now name) ≤ 66) × (bridges ≤ 65) × («half_links» ≤ 513) × (vids ≤ 17) × (members ≤ 65) × (traffic ≤ 257) × (more ≤ 1) ⌝ }
 {
     let s = Shape {
         bridges: bridges,
         half_links: half_links,
         vids: vids,
         members: members,
-        traffic: 0,
+        traffic: traffic,
     };
     let mut table = [0u8; LONGEST];
     write_table(s, &mut table);
@@ -56,16 +58,18 @@ fn print_limit(
 }
 
 fn main() {
-    print_limit(b"64 bridges: ", 64, 0, 0, 0, 0);
-    print_limit(b"65 bridges: ", 65, 0, 0, 0, 0);
-    print_limit(b"512 half-links: ", 64, 512, 0, 0, 0);
-    print_limit(b"513 half-links: ", 64, 513, 0, 0, 0);
-    print_limit(b"16 VIDs: ", 0, 0, 16, 0, 0);
-    print_limit(b"17 VIDs: ", 0, 0, 17, 0, 0);
-    print_limit(b"64 members: ", 64, 0, 1, 64, 0);
-    print_limit(b"65 members: ", 64, 0, 1, 65, 0);
-    print_limit(b"7492 bytes: ", 64, 512, 16, 64, 0);
-    print_limit(b"7496 bytes: ", 64, 512, 16, 64, 1);
+    print_limit(b"64 bridges: ", 64, 0, 0, 0, 0, 0);
+    print_limit(b"65 bridges: ", 65, 0, 0, 0, 0, 0);
+    print_limit(b"512 half-links: ", 64, 512, 0, 0, 0, 0);
+    print_limit(b"513 half-links: ", 64, 513, 0, 0, 0, 0);
+    print_limit(b"16 VIDs: ", 0, 0, 16, 0, 0, 0);
+    print_limit(b"17 VIDs: ", 0, 0, 17, 0, 0, 0);
+    print_limit(b"64 members: ", 64, 0, 1, 64, 0, 0);
+    print_limit(b"65 members: ", 64, 0, 1, 65, 0, 0);
+    print_limit(b"256 traffic records: ", 64, 0, 1, 0, 256, 0);
+    print_limit(b"257 traffic records: ", 64, 0, 1, 0, 257, 0);
+    print_limit(b"9540 bytes: ", 64, 512, 16, 64, 256, 0);
+    print_limit(b"9544 bytes: ", 64, 512, 16, 64, 256, 1);
     print_paths();
     print_entry_lists();
     print_orders();

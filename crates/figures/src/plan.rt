@@ -7,7 +7,7 @@ ghost use Rattle.table.specs.Positions.{wordsRead};
 
 // Bridge i: SPsourceID i + 1, priority 8000, address 020000000000 and i + 1.
 pub fn bridge_word(number: u32, place: u32) -> u32
-    requires { ⌜ number < 2048 ⌝ }
+    requires { ⌜ number < 4096 ⌝ }
 {
     if place == 0 {
         return 0x10000001 + number;
@@ -20,7 +20,7 @@ pub fn bridge_word(number: u32, place: u32) -> u32
 
 // Half-links 2 k and 2 k + 1 make the link k + 1, between bridge k and the next of 64: metric 10, each on a port of its own.
 fn half_link_word(number: u32, place: u32) -> u32
-    requires { ⌜ number < 2048 ⌝ }
+    requires { ⌜ number < 4096 ⌝ }
 {
     if place == 0 {
         return 0x2000000A;
@@ -38,14 +38,14 @@ fn half_link_word(number: u32, place: u32) -> u32
 
 // VID k + 1, the ECT indexes in turn.
 pub fn vid_word(number: u32) -> u32
-    requires { ⌜ number < 2048 ⌝ }
+    requires { ⌜ number < 4096 ⌝ }
 {
     0x30000000 + (number + 1) * 65536 + number % 16 + 1
 }
 
 // Member m: T and R, I-SID 256 + m, VID 1, the bridges in turn.
 fn member_word(number: u32, place: u32) -> u32
-    requires { ⌜ number < 2048 ⌝ }
+    requires { ⌜ number < 4096 ⌝ }
 {
     if place == 0 {
         return 0x43000100 + number;
@@ -53,13 +53,25 @@ fn member_word(number: u32, place: u32) -> u32
     number % 64 * 65536 + 1
 }
 
-// The word `n` of the table with the records of `s`: of a bridge, a half-link, a VID, a member, or the end record.
+// Traffic i: VID 1, amount i + 1, from the bridges in turn, to the one that is 1 further for the first 64, 2 for the next 64, and so on.
+fn traffic_word(number: u32, place: u32) -> u32
+    requires { ⌜ number < 4096 ⌝ }
+{
+    if place == 0 {
+        return 0x50010001 + number;
+    }
+    let from = number % 64;
+    from * 65536 + (from + 1 + number / 64) % 64
+}
+
+// The word `n` of the table with the records of `s`: of a bridge, a half-link, a VID, a member, a traffic record, or the end record.
 fn word_of(s: Shape, n: u32) -> u32
-    requires { ⌜ (wordsRead s < 2048) × (n < 2048) ⌝ }
+    requires { ⌜ (wordsRead s < 4096) × (n < 4096) ⌝ }
 {
     let half_links = s.half_links_from() as u32;
     let vids = s.vids_from() as u32;
     let members = s.members_from() as u32;
+    let traffic = s.traffic_from() as u32;
     if n < half_links {
         return bridge_word(n / 3, n % 3);
     }
@@ -69,8 +81,11 @@ fn word_of(s: Shape, n: u32) -> u32
     if n < members {
         return vid_word(n - vids);
     }
-    if n < s.words_read() as u32 {
+    if n < traffic {
         return member_word((n - members) / 2, (n - members) % 2);
+    }
+    if n < s.words_read() as u32 {
+        return traffic_word((n - traffic) / 2, (n - traffic) % 2);
     }
     0xF0000000 + n
 }
@@ -87,7 +102,7 @@ pub fn put_word(table: &mut [u8], n: usize, word: u32)
 
 // The table's bytes at the front of the lent ones.
 pub fn write_table(s: Shape, table: &mut [u8])
-    requires { ⌜ (wordsRead s < 2048) × (4 * wordsRead s + 4 ≤ length (now table)) ⌝ }
+    requires { ⌜ (wordsRead s < 4096) × (4 * wordsRead s + 4 ≤ length (now table)) ⌝ }
 {
     let words = s.words_read() + 1;
     let mut n = 0;

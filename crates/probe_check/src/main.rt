@@ -2,7 +2,7 @@
 // bits, high byte first. For each table one line is written: `counts` with the five counts, or `refused` with number, kind and word,
 // the kind by its number in the table or `none`.
 //
-// A length above 8,192 and an input that ends inside a table are reported on standard error and end the run. Only reading and
+// A length above 10,240 and an input that ends inside a table are reported on standard error and end the run. Only reading and
 // writing assume anything: that C's read and write keep their contracts.
 mod answer;
 

@@ -6,7 +6,7 @@ ghost use lib.ListN.{length as List·length};
 ghost use Rattle.probe_input.specs.Lengths.{lengthOf};
 
 // A table's bytes at most: more than the longest table that passes the check has, so that longer ones are tried too.
-pub const LONGEST: usize = 8192;
+pub const LONGEST: usize = 10240;
 
 // A proved loop has to end, and nothing says that the input does: turns count down from a number that no run uses up.
 pub const TURNS: u64 = u64::MAX;
@@ -27,8 +27,8 @@ pub fn read_bytes(bytes: &mut [u8]) -> bool {
 
 // Reads the next table.
 pub fn next_table(program: &[u8], table: &mut [u8]) -> NextTable
-    requires { ⌜ 8192 ≤ List·length (now table) ⌝ }
-    ensures { λ r. ⌜ lengthOf r ≤ 8192 ⌝ }
+    requires { ⌜ 10240 ≤ List·length (now table) ⌝ }
+    ensures { λ r. ⌜ lengthOf r ≤ 10240 ⌝ }
 {
     let mut head = [0u8; 4];
     let start = io::read_full(0, &mut head);
@@ -41,7 +41,7 @@ pub fn next_table(program: &[u8], table: &mut [u8]) -> NextTable
     }
     let length = word_at(&head, 0) as usize;
     if LONGEST < length {
-        report(program, b"a table of more than 8,192 bytes");
+        report(program, b"a table of more than 10,240 bytes");
         return NextTable::None;
     }
     if !read_bytes(&mut table[..length]) {

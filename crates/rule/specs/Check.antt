@@ -12,11 +12,12 @@ use Rattle.rule.specs.Records.{Bridge, HalfLink, Member, Traffic, Record
 use Rattle.rule.specs.Outcome.{Outcome, answered, refused, refusedIf}
 use Rattle.rule.specs.Plan.{Plan, noRecords, withRecord, alike, knownBridge, knownVid}
 
--- The bytes of the longest table: as many records of each kind as there may be.
+-- The bytes of the longest table: as many records of each kind as there may be. "Up to 256 records are allowed, so the longest table
+-- is 9,540 bytes" (02, A5).
 abbrev pub longestTable : ℕ
-longestTable = 7492
+longestTable = 9540
 
--- 1. "The table's length is 0, above 7,492 bytes, or no multiple of 4."
+-- 1. "The table's length is 0, above 7,492 bytes, or no multiple of 4", with 9,540 for 7,492 (02, A5).
 abbrev pub badLength : ℕ → Bool
 badLength n = eqb n 0 || ltb longestTable n || not (eqb (n % 4) 0)
 

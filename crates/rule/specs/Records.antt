@@ -1,4 +1,4 @@
--- The record kinds of a table as one table of data, and the records that they hold (01, "The table").
+-- The record kinds of a table as one table of data, and the records that they hold (01, "The table"; 02, A5).
 -- Assumes nothing.
 use Prim.Native.Nat.{ℕ, _+_, _*_, _-_, _%_, _^_}
 use mathlib.Core.List.{List, [], _∷_}
@@ -264,7 +264,7 @@ endLayout =
     record { kind = 15; words = 1; limit = 1; zeroBits = λ r. 0; ranges = []; decoded = λ r. end (fieldAt 0 27 0 r) }
 
 abbrev pub layouts : List Layout
-layouts = bridgeLayout ∷ halfLinkLayout ∷ vidLayout ∷ memberLayout ∷ endLayout ∷ []
+layouts = bridgeLayout ∷ halfLinkLayout ∷ vidLayout ∷ memberLayout ∷ trafficLayout ∷ endLayout ∷ []
 
 -- The row of a kind, or none where the kind is unknown.
 unfoldable pub layoutOf : ℕ → Option Layout

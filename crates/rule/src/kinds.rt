@@ -24,6 +24,11 @@ pub const MOST_TRAFFIC: usize = 256;
 
 pub const MOST_ENDS: usize = 1;
 
-// Bytes of the longest table: a bridge or half-link has 3 words, a VID 1, a member 2, the end 1.
+// Bytes of the longest table: a bridge or half-link has 3 words, a VID 1, a member or traffic record 2, the end 1.
 pub const LONGEST_TABLE: usize = 4
-    * (3 * MOST_BRIDGES + 3 * MOST_HALF_LINKS + MOST_VIDS + 2 * MOST_MEMBERS + MOST_ENDS);
+    * (3 * MOST_BRIDGES
+        + 3 * MOST_HALF_LINKS
+        + MOST_VIDS
+        + 2 * MOST_MEMBERS
+        + 2 * MOST_TRAFFIC
+        + MOST_ENDS);

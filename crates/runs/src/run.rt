@@ -1,16 +1,19 @@
 // The records of one kind that stand next, read until another kind comes or one is refused. What a record is compared with are the
 // records of its own kind, so the indexes of a kind are needed no longer than its records are read; that of the link numbers is lent,
-// because links are looked up in it later.
+// because links are looked up in it later. Traffic names a VID, so the VIDs are entered into an index before it is read.
+use earlier::traffic::index_vids;
 use key_index::chain::INDEX;
 use readers::words::word_at;
 use rule::kinds::BRIDGE;
 use rule::kinds::HALF_LINK;
 use rule::kinds::MEMBER;
+use rule::kinds::TRAFFIC;
 use rule::kinds::VID;
 use steps::step::Step;
 use steps::step::after_bridge;
 use steps::step::after_half_link;
 use steps::step::after_member;
+use steps::step::after_traffic;
 use steps::step::after_vid;
 use table::shape::Shape;
 ghost use mathlib.Core.Path.{_≡_};
@@ -131,4 +134,42 @@ pub fn read_members(table: &[u8], s: Shape) -> Step
         }
     }
     Step::Next(t)
+}
+
+// Reads the traffic, of which one record stands next; `s` has none yet.
+fn read_indexed_traffic(table: &[u8], s: Shape) -> Step
+    requires { ⌜ Whole (now table) s × Reached (wordsOf (now table)) s × (s .traffic ≡ 0) ⌝ }
+    ensures { λ r. ⌜ Run (wordsOf (now (table .entry))) 5 s r ⌝ }
+{
+    let mut vid_index = [0u32; INDEX];
+    let mut traffic_index = [0u32; INDEX];
+    index_vids(table, s.vids_from(), s.vids, &mut vid_index);
+    let mut t = s;
+    while is_next(table, t, TRAFFIC) {
+        let step = after_traffic(table, t, &vid_index, &mut traffic_index);
+        match step {
+            Step::Next(u) => {
+                t = u;
+            }
+            Step::Refused { number, kind, word } => {
+                return Step::Refused {
+                    number: number,
+                    kind: kind,
+                    word: word,
+                };
+            }
+        }
+    }
+    Step::Next(t)
+}
+
+// Reads the traffic (02, A5); `s` has none yet. Where none stands next, no index is made.
+pub fn read_traffic_records(table: &[u8], s: Shape) -> Step
+    requires { ⌜ Whole (now table) s × Reached (wordsOf (now table)) s × (s .traffic ≡ 0) ⌝ }
+    ensures { λ r. ⌜ Run (wordsOf (now (table .entry))) 5 s r ⌝ }
+{
+    if !is_next(table, s, TRAFFIC) {
+        return Step::Next(s);
+    }
+    read_indexed_traffic(table, s)
 }

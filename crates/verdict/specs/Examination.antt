@@ -21,7 +21,7 @@ examinedValues ws (Examined.Refused number kind at) = refused number (kindNumber
 
 -- A record that stands next has the kind 15, an unknown one, or one lower than that of the record before.
 abbrev pub LowerOnly : List ℕ → Shape → Type 0
-LowerOnly ws s = (kind : ℕ) → 1 ≤ kind → kind ≤ 4 → isKind ws kind (wordsRead s) ≡ true → kind < lastKind s
+LowerOnly ws s = (kind : ℕ) → 1 ≤ kind → kind ≤ 5 → isKind ws kind (wordsRead s) ≡ true → kind < lastKind s
 
 -- What is accepted are the records of `s`.
 abbrev pub AcceptedAs : Shape → Examined → Type 0

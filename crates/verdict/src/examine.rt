@@ -5,7 +5,7 @@ use rule::answer::RecordKind;
 use rule::kinds::BRIDGE;
 use rule::kinds::END;
 use rule::kinds::LONGEST_TABLE;
-use rule::kinds::MEMBER;
+use rule::kinds::TRAFFIC;
 use runs::kinds::read_kind;
 use runs::run::is_next;
 use steps::step::Step;
@@ -29,7 +29,7 @@ pub enum Examined {
     },
 }
 
-// "The table's length is 0, above 7,492 bytes, or no multiple of 4."
+// "The table's length is 0, above 7,492 bytes, or no multiple of 4", with 9,540 for 7,492 (02, A5).
 fn has_bad_length(bytes: usize) -> bool
     ensures { λ r. ⌜ r ≡ badLength bytes ⌝ }
 {
@@ -97,7 +97,7 @@ pub fn examine(table: &[u8], link_index: &mut [u32]) -> Examined
         traffic: 0,
     };
     let mut next = BRIDGE;
-    while next <= MEMBER {
+    while next <= TRAFFIC {
         let read = read_kind(table, s, next, link_index);
         match read {
             Step::Next(t) => {

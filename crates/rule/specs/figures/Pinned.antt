@@ -1,7 +1,7 @@
 -- Small tables and values that pin the definitions to document 01 where the figures and the worked example do not reach: every
 -- refusal in each of its forms, both ends of every range, every constant, and what is given where there is nothing to give.
 -- One collection, and one proof over it. Assumes nothing.
-use Prim.Native.Nat.{ℕ, _+_, _*_}
+use Prim.Native.Nat.{ℕ, _+_, _*_, _/_, _%_}
 use mathlib.Core.Path.{_≡_, refl}
 use mathlib.Core.List.{List, [], _∷_, _++_, map, flatMap}
 use mathlib.Core.Option.{Option, none, some}
@@ -109,7 +109,7 @@ check t = shownBy recordRows (verdict (table t))
 abbrev zeroBytes : ℕ → Shown
 zeroBytes n = shownBy recordRows (verdict (replicate n 0))
 
--- Records of which the tables are made: bridges 0 to 2, the two halves of link 7 between 0 and 1, a VID, a member.
+-- Records of which the tables are made: bridges 0 to 2, the two halves of link 7 between 0 and 1, a VID, a member, traffic from 0 to 1.
 abbrev bridge0 : List ℕ
 bridge0 = 0x10000001 ∷ 0x80000200 ∷ 0x00000001 ∷ []
 
@@ -131,6 +131,9 @@ vid10 = 0x300a0001 ∷ []
 abbrev member0 : List ℕ
 member0 = 0x43000100 ∷ 0x0000000a ∷ []
 
+abbrev traffic01 : List ℕ
+traffic01 = 0x500a0005 ∷ 0x00000001 ∷ []
+
 -- As many bridges, VIDs of index 1 and members of bridge 0 as there are numbers, all different.
 abbrev manyBridges : ℕ → List (List ℕ)
 manyBridges n = map (λ k. (0x10000000 + k) ∷ 0x80000200 ∷ k ∷ []) (rising 1 n)
@@ -140,6 +143,10 @@ manyVids n = map (λ k. (0x30000001 + k * 0x10000) ∷ []) (rising 1 n)
 
 abbrev manyMembers : ℕ → List (List ℕ)
 manyMembers n = map (λ k. (0x40000100 + k) ∷ 0x00000001 ∷ []) (rising 1 n)
+
+-- As many traffic records of VID 1, each from one of 17 bridges to another, all different.
+abbrev manyTraffic : ℕ → List (List ℕ)
+manyTraffic n = map (λ k. 0x50010001 ∷ (k / 16 * 0x10000 + (k / 16 + 1 + k % 16) % 17) ∷ []) (rising 0 n)
 
 -- Bridges 0, 1 and 2 in a chain of the links 7 and 9, bridge 3 alone. Link 8 between 0 and 1 is unusable, link 11 is a half-link
 -- alone. Bridge 0 sends in VID 10 and 11, bridge 2 in VID 10, and bridge 1 in a service without receivers.
@@ -257,24 +264,26 @@ pin a e = record { asked = a; expected = e }
 
 abbrev pins : List Pin
 pins =
-    -- "1. The table's length is 0, above 7,492 bytes, or no multiple of 4." "Kind is none and the word 0 for 1".
+    -- "1. The table's length is 0, above 7,492 bytes, or no multiple of 4": 9,540 with traffic (02, A5). "Kind is none and the word 0 for 1".
     pin (zeroBytes 0) (bare 1 0)
     ∷ pin (zeroBytes 1) (bare 1 0)
     ∷ pin (zeroBytes 6) (bare 1 0)
-    ∷ pin (zeroBytes 7496) (bare 1 0)
-    ∷ pin (zeroBytes 7492) (bare 2 0)
+    ∷ pin (zeroBytes 9544) (bare 1 0)
+    ∷ pin (zeroBytes 9540) (bare 2 0)
     -- "2. The kind is unknown or lower than that of the record before." "for 2 kind is none".
     ∷ pin (check ((0x00000000 ∷ []) ∷ [])) (bare 2 0)
-    ∷ pin (check (vid10 ∷ (0x50000000 ∷ []) ∷ [])) (bare 2 1)
+    ∷ pin (check (vid10 ∷ (0x60000000 ∷ []) ∷ [])) (bare 2 1)
     ∷ pin (check (bridge0 ∷ (0xe0000000 ∷ []) ∷ [])) (bare 2 3)
     ∷ pin (check (vid10 ∷ bridge0 ∷ [])) (bare 2 1)
     ∷ pin (check (bridge0 ∷ bridge1 ∷ half01 ∷ bridge2 ∷ [])) (bare 2 9)
+    ∷ pin (check (bridge0 ∷ bridge1 ∷ vid10 ∷ traffic01 ∷ member0 ∷ [])) (bare 2 9)
     -- "3. The record's words aren't all there, or the table ends with no end record." "for a missing end record kind is none and the
     -- word is the number of words".
     ∷ pin (check ((0x10000001 ∷ []) ∷ [])) (fault 3 1 0)
     ∷ pin (check ((0x10000001 ∷ 0x80000200 ∷ []) ∷ [])) (fault 3 1 0)
     ∷ pin (check (bridge0 ∷ (0x2000000a ∷ 0x00000001 ∷ []) ∷ [])) (fault 3 2 3)
     ∷ pin (check (vid10 ∷ (0x43000100 ∷ []) ∷ [])) (fault 3 4 1)
+    ∷ pin (check (vid10 ∷ (0x500a0005 ∷ []) ∷ [])) (fault 3 5 1)
     ∷ pin (check (vid10 ∷ [])) (bare 3 1)
     ∷ pin (check (bridge0 ∷ bridge1 ∷ [])) (bare 3 6)
     -- "4. A zero bit is set": bits 26..20 of a bridge (02, A1, took bit 27), 26..24 of a half-link (A3 took bit 27), 27..26 of a member.
@@ -286,10 +295,11 @@ pins =
     ∷ pin (check ((0x2100000a ∷ 0x00000001 ∷ 0x00010007 ∷ []) ∷ [])) (fault 4 2 0)
     ∷ pin (check ((0x48000100 ∷ 0x0000000a ∷ []) ∷ [])) (fault 4 4 0)
     ∷ pin (check ((0x44000100 ∷ 0x0000000a ∷ []) ∷ [])) (fault 4 4 0)
-    -- "5. There is one record more of this kind than the limit": the last of 65, 17 and 65. The limit of half-links is below.
+    -- "5. There is one record more of this kind than the limit": the last of 65, 17, 65 and 257. The limit of half-links is below.
     ∷ pin (check (manyBridges 65)) (fault 5 1 192)
     ∷ pin (check (manyVids 17)) (fault 5 3 16)
     ∷ pin (check (bridge0 ∷ manyVids 1 ++ manyMembers 65)) (fault 5 4 132)
+    ∷ pin (check (manyBridges 17 ++ (manyVids 1 ++ manyTraffic 257))) (fault 5 5 564)
     -- "6. A value is outside its range": a bridge's SPsourceID 0, address 0, group address.
     ∷ pin (check ((0x10000000 ∷ 0x80000200 ∷ 0x00000001 ∷ []) ∷ [])) (fault 6 1 0)
     ∷ pin (check ((0x10000001 ∷ 0x80000000 ∷ 0x00000000 ∷ []) ∷ [])) (fault 6 1 0)
@@ -309,6 +319,10 @@ pins =
     ∷ pin (check ((0x43ffffff ∷ 0x0000000a ∷ []) ∷ [])) (fault 6 4 0)
     ∷ pin (check ((0x43000100 ∷ 0x00000000 ∷ []) ∷ [])) (fault 6 4 0)
     ∷ pin (check ((0x43000100 ∷ 0x00000fff ∷ []) ∷ [])) (fault 6 4 0)
+    -- "Amount zero is 6" (02, A5), and so is a VID of 0 and 4,095.
+    ∷ pin (check ((0x500a0000 ∷ 0x00000001 ∷ []) ∷ [])) (fault 6 5 0)
+    ∷ pin (check ((0x50000005 ∷ 0x00000001 ∷ []) ∷ [])) (fault 6 5 0)
+    ∷ pin (check ((0x5fff0005 ∷ 0x00000001 ∷ []) ∷ [])) (fault 6 5 0)
     -- "or the end count is wrong".
     ∷ pin (check ((0xf0000001 ∷ []) ∷ [])) (fault 6 15 0)
     ∷ pin (check (bridge0 ∷ (0xf0000002 ∷ []) ∷ [])) (fault 6 15 3)
@@ -319,6 +333,11 @@ pins =
     ∷ pin (check (bridge0 ∷ bridge1 ∷ (0x2000000a ∷ 0x00010001 ∷ 0x00010007 ∷ []) ∷ [])) (fault 7 2 6)
     ∷ pin (check (bridge0 ∷ vid10 ∷ (0x43000100 ∷ 0x0001000a ∷ []) ∷ [])) (fault 7 4 4)
     ∷ pin (check (bridge0 ∷ vid10 ∷ (0x43000100 ∷ 0x0000000b ∷ []) ∷ [])) (fault 7 4 4)
+    -- "an unknown name or equal ends 7" (02, A5): from, to, both and the VID.
+    ∷ pin (check (bridge0 ∷ bridge1 ∷ vid10 ∷ (0x500a0005 ∷ 0x00020001 ∷ []) ∷ [])) (fault 7 5 7)
+    ∷ pin (check (bridge0 ∷ bridge1 ∷ vid10 ∷ (0x500a0005 ∷ 0x00000002 ∷ []) ∷ [])) (fault 7 5 7)
+    ∷ pin (check (bridge0 ∷ bridge1 ∷ vid10 ∷ (0x500a0005 ∷ 0x00010001 ∷ []) ∷ [])) (fault 7 5 7)
+    ∷ pin (check (bridge0 ∷ bridge1 ∷ vid10 ∷ (0x500b0005 ∷ 0x00000001 ∷ []) ∷ [])) (fault 7 5 7)
     -- "8. A record repeats an earlier one's address, SPsourceID, near bridge with port, VID, or bridge with I-SID and VID." The address
     -- is repeated with another priority.
     ∷ pin (check (bridge0 ∷ bridge1 ∷ (0x10000003 ∷ 0x90000200 ∷ 0x00000001 ∷ []) ∷ [])) (fault 8 1 6)
@@ -326,6 +345,8 @@ pins =
     ∷ pin (check (bridge0 ∷ bridge1 ∷ bridge2 ∷ half01 ∷ (0x2000000a ∷ 0x00000002 ∷ 0x00010008 ∷ []) ∷ [])) (fault 8 2 12)
     ∷ pin (check (vid10 ∷ (0x300b0001 ∷ []) ∷ (0x300a0002 ∷ []) ∷ [])) (fault 8 3 2)
     ∷ pin (check (bridge0 ∷ vid10 ∷ member0 ∷ (0x40000100 ∷ 0x0000000a ∷ []) ∷ [])) (fault 8 4 6)
+    -- "a repeated VID, from and to 8" (02, A5), here with another amount.
+    ∷ pin (check (bridge0 ∷ bridge1 ∷ vid10 ∷ traffic01 ∷ (0x500a0006 ∷ 0x00000001 ∷ []) ∷ [])) (fault 8 5 9)
     -- "9. It is a third half-link of a link number, or the second and no mirror of the first", by its near or its far bridge.
     ∷ pin (check (bridge0 ∷ bridge1 ∷ half01 ∷ half10 ∷ (0x2000000a ∷ 0x00010000 ∷ 0x00030007 ∷ []) ∷ [])) (fault 9 2 12)
     ∷ pin (check (bridge0 ∷ bridge1 ∷ bridge2 ∷ half01 ∷ (0x2000000a ∷ 0x00020000 ∷ 0x00010007 ∷ []) ∷ [])) (fault 9 2 12)
@@ -345,7 +366,8 @@ pins =
     -- "For 2 to 10 the first faulty record counts".
     ∷ pin (check ((0x10000000 ∷ 0x80000200 ∷ 0x00000001 ∷ []) ∷ (0x14000001 ∷ 0x80000200 ∷ 0x00000001 ∷ []) ∷ [])) (fault 6 1 0)
     -- "A table is accepted when none of 1 to 10 applies to it": both ends of each range, any priority, overloaded or not, down or not, and
-    -- half-links and members that differ from each other in one value alone. "T and R may both be 0."
+    -- half-links, members and traffic that differ from each other in one value alone, or in the direction alone: "the opposite direction
+    -- is no repeat" (02, A5). "T and R may both be 0."
     ∷ pin
     (check
     ((0x10000001 ∷ 0x00000000 ∷ 0x00000001 ∷ [])
@@ -359,7 +381,10 @@ pins =
     ∷ (0x42000100 ∷ 0x00010001 ∷ [])
     ∷ (0x41000100 ∷ 0x00000ffe ∷ [])
     ∷ (0x43fffffe ∷ 0x00000001 ∷ [])
-    ∷ (0xf0000019 ∷ [])
+    ∷ (0x50010001 ∷ 0x00000001 ∷ [])
+    ∷ (0x5001ffff ∷ 0x00010000 ∷ [])
+    ∷ (0x5ffe0001 ∷ 0x00000001 ∷ [])
+    ∷ (0xf000001f ∷ [])
     ∷ []))
     (rows
     ((1 ∷ 0 ∷ 1 ∷ 1 ∷ [])
@@ -373,25 +398,31 @@ pins =
     ∷ (4 ∷ 1 ∷ 0 ∷ 256 ∷ 1 ∷ 1 ∷ [])
     ∷ (4 ∷ 0 ∷ 1 ∷ 256 ∷ 0 ∷ 4094 ∷ [])
     ∷ (4 ∷ 1 ∷ 1 ∷ 16777214 ∷ 0 ∷ 1 ∷ [])
+    ∷ (5 ∷ 1 ∷ 1 ∷ 0 ∷ 1 ∷ [])
+    ∷ (5 ∷ 1 ∷ 65535 ∷ 1 ∷ 0 ∷ [])
+    ∷ (5 ∷ 4094 ∷ 1 ∷ 0 ∷ 1 ∷ [])
     ∷ []))
-    -- The kinds, words and limits of "The table", and 7,492 bytes: the words of a longest table four times.
+    -- The kinds, words and limits of "The table", and 9,540 bytes (02, A5): the words of a longest table four times.
     ∷ pin (rows (map (λ l. l .kind ∷ l .words ∷ l .limit ∷ []) layouts))
     (rows
     ((1 ∷ 3 ∷ 64 ∷ [])
     ∷ (2 ∷ 3 ∷ 512 ∷ [])
     ∷ (3 ∷ 1 ∷ 16 ∷ [])
     ∷ (4 ∷ 2 ∷ 64 ∷ [])
+    ∷ (5 ∷ 2 ∷ 256 ∷ [])
     ∷ (15 ∷ 1 ∷ 1 ∷ [])
     ∷ []))
-    ∷ pin (numbers (4 * sumOver (λ l. l .words * l .limit) layouts ∷ longestTable ∷ [])) (numbers (7492 ∷ 7492 ∷ []))
+    ∷ pin (numbers (4 * sumOver (λ l. l .words * l .limit) layouts ∷ longestTable ∷ [])) (numbers (9540 ∷ 9540 ∷ []))
     -- "Ranges: SPsourceID 1 to 1,048,575; address neither zero nor a group address; metric 1 to 16,777,215; port 1 to 4,095; link number
-    -- 1 to 65,535; VID 1 to 4,094; ECT index 1 to 16; I-SID 256 to 16,777,214": the least and the greatest values, row by row.
+    -- 1 to 65,535; VID 1 to 4,094; ECT index 1 to 16; I-SID 256 to 16,777,214", "amount 1 to 65,535" (02, A5): the least and the
+    -- greatest values, row by row.
     ∷ pin (rows (map (λ l. flatMap (λ g. g .limits .least ∷ g .limits .greatest ∷ []) (l .ranges)) layouts))
     (rows
     ((1 ∷ 1048575 ∷ 1 ∷ 0xffffffffffff ∷ 0 ∷ 0 ∷ [])
     ∷ (1 ∷ 16777215 ∷ 1 ∷ 4095 ∷ 1 ∷ 65535 ∷ [])
     ∷ (1 ∷ 4094 ∷ 1 ∷ 16 ∷ [])
     ∷ (256 ∷ 16777214 ∷ 1 ∷ 4094 ∷ [])
+    ∷ (1 ∷ 4094 ∷ 1 ∷ 65535 ∷ [])
     ∷ []
     ∷ []))
     -- "ECT masks, index 1 to 16, hexadecimal: 00 FF 88 77 44 33 CC BB 22 11 66 55 AA 99 DD EE."
@@ -404,6 +435,7 @@ pins =
     ∷ (7 ∷ 1 ∷ 0xffffff ∷ 0xffff ∷ 0xffff ∷ 0xffff ∷ 0xffff ∷ [])
     ∷ (0 ∷ 0xfff ∷ 0xffff ∷ [])
     ∷ (3 ∷ 1 ∷ 1 ∷ 0xffffff ∷ 0xffff ∷ 0xffff ∷ [])
+    ∷ (0 ∷ 0xfff ∷ 0xffff ∷ 0xffff ∷ 0xffff ∷ [])
     ∷ (0 ∷ 0xfffffff ∷ [])
     ∷ []))
     ∷ pin (fieldRows (0x1e345678 ∷ 0x9abcdef0 ∷ 0x13579bdf ∷ []))
@@ -412,6 +444,7 @@ pins =
     ∷ (6 ∷ 1 ∷ 0x345678 ∷ 0x9abc ∷ 0xdef0 ∷ 0x1357 ∷ 0x9bdf ∷ [])
     ∷ (0 ∷ 0xe34 ∷ 0x5678 ∷ [])
     ∷ (3 ∷ 1 ∷ 0 ∷ 0x345678 ∷ 0x9abc ∷ 0xdef0 ∷ [])
+    ∷ (0 ∷ 0xe34 ∷ 0x5678 ∷ 0x9abc ∷ 0xdef0 ∷ [])
     ∷ (0 ∷ 0xe345678 ∷ [])
     ∷ []))
     -- "The metric type carries three named values: 1, the least; 16,777,214, the greatest usable; 16,777,215, unusable."

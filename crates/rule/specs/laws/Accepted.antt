@@ -373,8 +373,9 @@ kept s r l (inl e) = rw e (keeps-bridge s r)
 kept s r l (inr (inl e)) = rw e (keeps-half-link s r)
 kept s r l (inr (inr (inl e))) = rw e (keeps-vid s r)
 kept s r l (inr (inr (inr (inl e)))) = rw e (keeps-member s r)
-kept s r l (inr (inr (inr (inr (inl e))))) = rw e (λ F L. L)
-kept s r l (inr (inr (inr (inr (inr k))))) = absurd k
+kept s r l (inr (inr (inr (inr (inl e))))) = rw e (keeps-traffic s r)
+kept s r l (inr (inr (inr (inr (inr (inl e)))))) = rw e (λ F L. L)
+kept s r l (inr (inr (inr (inr (inr (inr k)))))) = absurd k
 
 row-listed : (k : ℕ) (l : Layout) → layoutOf k ≡ some l → In l layouts
 unfolding layoutOf

@@ -166,7 +166,9 @@ module _ (ws : List ℕ) (fit : (w : ℕ) → In w ws → w < 2 ^ 32) (s : Readi
       go j h (inr i) = M .each j i ∙ ap memberRecord (sym (List·getD-append (s .plan .members) (m ∷ []) (memberOf []) j i))
   one-more l (inr (inr (inr (inr (inl e))))) k n M =
       rw e (record { behind = λ h. absurd (omega arith); none-yet = λ h. absurd (omega arith); each = M .each })
-  one-more l (inr (inr (inr (inr (inr i))))) k n M = absurd i
+  one-more l (inr (inr (inr (inr (inr (inl e)))))) k n M =
+      rw e (record { behind = λ h. absurd (omega arith); none-yet = λ h. absurd (omega arith); each = M .each })
+  one-more l (inr (inr (inr (inr (inr (inr i)))))) k n M = absurd i
 
 -- The table's own words of each member record are those of `memberRecord`.
 pub own-words : (t : List ℕ) (p : Plan) → Bytes t → verdict t ≡ answered p → (j : ℕ) → j < length (p .members)

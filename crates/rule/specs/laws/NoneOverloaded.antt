@@ -106,7 +106,8 @@ one-more ws s l (inr (inl e)) h n B = rw e (record { behind = λ h. absurd (omeg
 one-more ws s l (inr (inr (inl e))) h n B = rw e (record { behind = λ h. absurd (omega arith); each = B .each })
 one-more ws s l (inr (inr (inr (inl e)))) h n B = rw e (record { behind = λ h. absurd (omega arith); each = B .each })
 one-more ws s l (inr (inr (inr (inr (inl e))))) h n B = rw e (record { behind = λ h. absurd (omega arith); each = B .each })
-one-more ws s l (inr (inr (inr (inr (inr k))))) h n B = absurd k
+one-more ws s l (inr (inr (inr (inr (inr (inl e)))))) h n B = rw e (record { behind = λ h. absurd (omega arith); each = B .each })
+one-more ws s l (inr (inr (inr (inr (inr (inr k)))))) h n B = absurd k
 
 -- The bridge `k` of an accepted table is that of the three words from the word 3 k on.
 pub bridge-words : (t : List ℕ) (p : Plan) → verdict t ≡ answered p → (k : ℕ) → k < length (p .bridges) → bridgeAt p k ≡ bridgeOf (drop (3 * k) (wordsOf t))

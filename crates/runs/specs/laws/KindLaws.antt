@@ -11,7 +11,7 @@ use lib.Seq.{drop-cons}
 use borrow.Author.Tests.{ne-eqb, lt-ltb, le-ltb, ltb-true, eqb-true}
 use Rattle.lists.specs.Lists.{selected}
 use Rattle.rule.specs.Words.{word, bits}
-use Rattle.rule.specs.Records.{Layout, layoutOf, bridgeLayout, halfLinkLayout, vidLayout, memberLayout, endLayout}
+use Rattle.rule.specs.Records.{Layout, layoutOf, bridgeLayout, halfLinkLayout, vidLayout, memberLayout, trafficLayout, endLayout}
 use Rattle.rule.specs.Check.{readAs, readFrom, stepOf}
 use Rattle.table.specs.declared.shape.Shape.{Shape}
 use Rattle.table.specs.Positions.{wordsRead, readingAt}
@@ -33,14 +33,18 @@ pub member-kind : layoutOf 4 ≡ some memberLayout
 unfolding layoutOf selected
 member-kind = refl
 
+pub traffic-kind : layoutOf 5 ≡ some trafficLayout
+unfolding layoutOf selected
+traffic-kind = refl
+
 pub end-kind : layoutOf 15 ≡ some endLayout
 unfolding layoutOf selected
 end-kind = refl
 
 pub unknown-kind :
-    (k : ℕ) → (k ≡ 1 → ⊥) → (k ≡ 2 → ⊥) → (k ≡ 3 → ⊥) → (k ≡ 4 → ⊥) → (k ≡ 15 → ⊥) → layoutOf k ≡ none
+    (k : ℕ) → (k ≡ 1 → ⊥) → (k ≡ 2 → ⊥) → (k ≡ 3 → ⊥) → (k ≡ 4 → ⊥) → (k ≡ 5 → ⊥) → (k ≡ 15 → ⊥) → layoutOf k ≡ none
 unfolding layoutOf selected
-unknown-kind k a b c d e = simp (ne-eqb k 1 a, ne-eqb k 2 b, ne-eqb k 3 c, ne-eqb k 4 d, ne-eqb k 15 e)
+unknown-kind k a b c d e f = simp (ne-eqb k 1 a, ne-eqb k 2 b, ne-eqb k 3 c, ne-eqb k 4 d, ne-eqb k 5 e, ne-eqb k 15 f)
 
 -- A record of the kind begins at the word: the word is there, and its kind is that.
 kind-told : (a b : Bool) → (a && b) ≡ true → (a ≡ true) × (b ≡ true)

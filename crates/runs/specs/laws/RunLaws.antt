@@ -13,10 +13,11 @@ use Rattle.rule.specs.Answers.{kindNumber}
 use Rattle.rule.specs.Words.{wordsOf}
 use Rattle.rule.specs.Check.{longestTable, ReadingStep, readAs, stepOf, after, readOn, start}
 use Rattle.table.specs.declared.shape.Shape.{Shape}
-use Rattle.table.specs.Positions.{wordsRead, readingAt}
+use Rattle.table.specs.Positions.{vidsFrom, wordsRead, readingAt}
 use Rattle.table.specs.Whole.{Whole}
 use Rattle.readers.specs.laws.WordLaws.{count-of-words}
-use Rattle.steps.specs.Steps.{stepValues, stepAs, Stepped}
+use Rattle.earlier.specs.Keys.{VidIndex}
+use Rattle.steps.specs.Steps.{withTraffic, stepValues, stepAs, Stepped}
 use Rattle.steps.specs.declared.step.Step.{Step}
 use Rattle.runs.specs.Runs.{isKind, recordsRead, Reached, SameOthers, Run, Numbers, NumbersKept}
 use Rattle.runs.specs.laws.KindLaws.{word-there, kind-there, step-by-kind}
@@ -49,6 +50,16 @@ fewer-words h t u n l = omega (arith, h .within u n, ap (λ (x : Shape). wordsRe
 
 pub numbers-at : {ws links : List ℕ} {t : Shape} → Numbers ws links t → NumbersKept ws links (Step.Next t)
 numbers-at {ws} {links} {t} x u n = let z : t ≡ u = cc in subst (λ (y : Shape). Numbers ws links y) z x
+
+-- A traffic record taken leaves the VIDs, and their index, what they were.
+pub vids-still :
+    {ws vids : List ℕ} {rule : ReadingStep} {r : Step} (t : Shape) →
+    Stepped ws (withTraffic t) rule r →
+    VidIndex vids ws (vidsFrom t) (t .vids) →
+    (u : Shape) →
+    r ≡ Step.Next u →
+    VidIndex vids ws (vidsFrom u) (u .vids)
+vids-still {ws} {vids} t h x u n = subst (λ (y : Shape). VidIndex vids ws (vidsFrom y) (y .vids)) (sym (h .is-next u n)) x
 
 -- A run of records of the kind has come to `t`.
 pub record Running (ws : List ℕ) (kind : ℕ) (s t : Shape) : Type 0 where

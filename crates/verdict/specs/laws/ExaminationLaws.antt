@@ -39,7 +39,7 @@ accepted-as-read {s} t n = let z : s ≡ t = cc in sym z
 -- The kinds before `next` are read.
 pub record Examining (ws links : List ℕ) (s : Shape) (next : ℕ) : Type 0 where
   pub first : 1 ≤ next
-  pub last : next ≤ 5
+  pub last : next ≤ 6
   pub before : Before ws links next s
 
 abbrev noneRead : Shape
@@ -93,7 +93,7 @@ examining-starts ws links x =
 pub examining-next :
     {ws links links′ : List ℕ} {s : Shape} {next : ℕ} {r : Step} →
     Examining ws links s next →
-    next ≤ 4 →
+    next ≤ 5 →
     KindRead ws links′ next r →
     (t : Shape) →
     r ≡ Step.Next t →
@@ -122,9 +122,9 @@ length-fits n b e f = go (eqb n 0) (ltb longestTable n) (not (eqb (n % 4) 0)) (l
     go false true z h e = let k : _≡_ {A = ℕ} 0 1 = cc in absurd (omega arith)
     go false false z h e = h refl
 
-pub all-read : {ws links : List ℕ} {s : Shape} {next : ℕ} → Examining ws links s next → 4 < next → Before ws links 5 s
+pub all-read : {ws links : List ℕ} {s : Shape} {next : ℕ} → Examining ws links s next → 5 < next → Before ws links 6 s
 all-read {ws} {links} {s} {next} x l =
-    subst (λ (k : ℕ). Before ws links k s) (let z : next ≡ 5 = omega (arith, x .last) in z) (x .before)
+    subst (λ (k : ℕ). Before ws links k s) (let z : next ≡ 6 = omega (arith, x .last) in z) (x .before)
 
 -- A table that the verdict accepts is a checked one.
 pub accepted-passes :

@@ -1,4 +1,4 @@
--- What stands after the records of the kinds 1 to 4: nothing, a record out of its order or of an unknown kind, or the end record.
+-- What stands after the records of the kinds 1 to 5: nothing, a record out of its order or of an unknown kind, or the end record.
 -- Assumes nothing.
 use Prim.Native.Nat.{ℕ, zero, suc, _-_, _≤_, _<_}
 use native.Mathlib.Omega.{arith}
@@ -14,7 +14,7 @@ use borrow.Author.Tests.{lt-ltb, eq-eqb}
 use Rattle.lists.specs.laws.NumberLaws.{le-or-gt, same-or-not}
 use Rattle.rule.specs.declared.answer.RecordKind.{RecordKind}
 use Rattle.rule.specs.Words.{word, bits}
-use Rattle.rule.specs.Records.{Layout, layoutOf, bridgeLayout, halfLinkLayout, vidLayout, memberLayout, endLayout}
+use Rattle.rule.specs.Records.{Layout, layoutOf, bridgeLayout, halfLinkLayout, vidLayout, memberLayout, trafficLayout, endLayout}
 use Rattle.rule.specs.Outcome.{Outcome, answered, refused}
 use Rattle.rule.specs.Answers.{kindNumber}
 use Rattle.rule.specs.Plan.{Plan}
@@ -25,12 +25,12 @@ use Rattle.faults.specs.Faults.{numbered, faultAt}
 use Rattle.steps.specs.Steps.{concerned, stepAs}
 use Rattle.steps.specs.laws.StepLaws.{NoneAfter, none-after, kind-concerned}
 use Rattle.runs.specs.Runs.{isKind, recordsRead, Reached, Before}
-use Rattle.runs.specs.laws.KindLaws.{bridge-kind, half-link-kind, vid-kind, member-kind, end-kind, unknown-kind, word-there, kind-there, step-by-kind}
+use Rattle.runs.specs.laws.KindLaws.{bridge-kind, half-link-kind, vid-kind, member-kind, traffic-kind, end-kind, unknown-kind, word-there, kind-there, step-by-kind}
 use Rattle.runs.specs.laws.RunLaws.{whole-after}
 use Rattle.verdict.specs.Examination.{LowerOnly}
 
 -- A record of a kind whose records were read stands after records of a later kind.
-pub lower-only : {ws links : List ℕ} {s : Shape} → Before ws links 5 s → LowerOnly ws s
+pub lower-only : {ws links : List ℕ} {s : Shape} → Before ws links 6 s → LowerOnly ws s
 lower-only {ws} {links} {s} B kind l m e = go (le-or-gt (lastKind s) kind)
   where
     here : (k at : ℕ) → kind ≡ k → wordsRead s ≡ at → isKind ws k at ≡ false → ⊥
@@ -39,22 +39,26 @@ lower-only {ws} {links} {s} B kind l m e = go (le-or-gt (lastKind s) kind)
         in let y : _≡_ {A = ℕ} 0 1 = cc
         in omega arith
 
-    ended : NoneAfter kind s → (kind ≡ 1) ⊎ (kind ≡ 1 → ⊥) → (kind ≡ 2) ⊎ (kind ≡ 2 → ⊥) → (kind ≡ 3) ⊎ (kind ≡ 3 → ⊥) → ⊥
-    ended N (inl f) y z =
+    ended :
+        NoneAfter kind s →
+        (kind ≡ 1) ⊎ (kind ≡ 1 → ⊥) → (kind ≡ 2) ⊎ (kind ≡ 2 → ⊥) → (kind ≡ 3) ⊎ (kind ≡ 3 → ⊥) → (kind ≡ 4) ⊎ (kind ≡ 4 → ⊥) →
+        ⊥
+    ended N (inl f) y z w =
         here 1 (halfLinksFrom s) f
         (omega (arith, N .no-half-links (omega arith), N .no-vids (omega arith), N .no-members (omega arith), N .no-traffic (omega arith)))
         (B .bridges-end (omega arith))
-    ended N (inr d) (inl f) z =
+    ended N (inr d) (inl f) z w =
         here 2 (vidsFrom s) f (omega (arith, N .no-vids (omega arith), N .no-members (omega arith), N .no-traffic (omega arith)))
         (B .half-links-end (omega arith))
-    ended N (inr d) (inr g) (inl f) =
+    ended N (inr d) (inr g) (inl f) w =
         here 3 (membersFrom s) f (omega (arith, N .no-members (omega arith), N .no-traffic (omega arith))) (B .vids-end (omega arith))
-    ended N (inr d) (inr g) (inr h) =
-        here 4 (trafficFrom s) (omega arith) (omega (arith, N .no-traffic (omega arith))) (B .members-end (omega arith))
+    ended N (inr d) (inr g) (inr h) (inl f) =
+        here 4 (trafficFrom s) f (omega (arith, N .no-traffic (omega arith))) (B .members-end (omega arith))
+    ended N (inr d) (inr g) (inr h) (inr i) = here 5 (wordsRead s) (omega arith) refl (B .traffic-end (omega arith))
 
     go : (lastKind s ≤ kind) ⊎ (kind < lastKind s) → kind < lastKind s
     go (inr h) = h
-    go (inl h) = absurd (ended (none-after kind s h) (same-or-not kind 1) (same-or-not kind 2) (same-or-not kind 3))
+    go (inl h) = absurd (ended (none-after kind s h) (same-or-not kind 1) (same-or-not kind 2) (same-or-not kind 3) (same-or-not kind 4))
 
 module _ {ws : List ℕ} {s : Shape} (R : Reached ws s) where
   -- "the table ends with no end record".
@@ -92,23 +96,26 @@ module _ {ws : List ℕ} {s : Shape} (R : Reached ws s) where
           LowerOnly ws s →
           (kind ≡ 15 → ⊥) →
           readAs (readingAt ws s) (drop (wordsRead s) ws) (layoutOf kind) ≡ stops (refused 2 none (wordsRead s))
-      refused-by-kind L d = go (same-or-not kind 1) (same-or-not kind 2) (same-or-not kind 3) (same-or-not kind 4)
+      refused-by-kind L d =
+          go (same-or-not kind 1) (same-or-not kind 2) (same-or-not kind 3) (same-or-not kind 4) (same-or-not kind 5)
         where
           known :
-              (n : ℕ) (row : Layout) → kind ≡ n → layoutOf n ≡ some row → row .kind ≡ n → 1 ≤ n → n ≤ 4 →
+              (n : ℕ) (row : Layout) → kind ≡ n → layoutOf n ≡ some row → row .kind ≡ n → 1 ≤ n → n ≤ 5 →
               readAs (readingAt ws s) (drop (wordsRead s) ws) (layoutOf kind) ≡ stops (refused 2 none (wordsRead s))
           known n row f g h i j =
               lower row (ap layoutOf f ∙ g) (omega (arith, L kind (omega arith) (omega arith) is-this))
 
           go :
               (kind ≡ 1) ⊎ (kind ≡ 1 → ⊥) → (kind ≡ 2) ⊎ (kind ≡ 2 → ⊥) → (kind ≡ 3) ⊎ (kind ≡ 3 → ⊥) → (kind ≡ 4) ⊎ (kind ≡ 4 → ⊥) →
+              (kind ≡ 5) ⊎ (kind ≡ 5 → ⊥) →
               readAs (readingAt ws s) (drop (wordsRead s) ws) (layoutOf kind) ≡ stops (refused 2 none (wordsRead s))
-          go (inl f) y z w = known 1 bridgeLayout f bridge-kind refl (omega arith) (omega arith)
-          go (inr p) (inl f) z w = known 2 halfLinkLayout f half-link-kind refl (omega arith) (omega arith)
-          go (inr p) (inr q) (inl f) w = known 3 vidLayout f vid-kind refl (omega arith) (omega arith)
-          go (inr p) (inr q) (inr r) (inl f) = known 4 memberLayout f member-kind refl (omega arith) (omega arith)
-          go (inr p) (inr q) (inr r) (inr t) =
-              ap (readAs (readingAt ws s) (drop (wordsRead s) ws)) (unknown-kind kind p q r t d)
+          go (inl f) y z w v = known 1 bridgeLayout f bridge-kind refl (omega arith) (omega arith)
+          go (inr p) (inl f) z w v = known 2 halfLinkLayout f half-link-kind refl (omega arith) (omega arith)
+          go (inr p) (inr q) (inl f) w v = known 3 vidLayout f vid-kind refl (omega arith) (omega arith)
+          go (inr p) (inr q) (inr r) (inl f) v = known 4 memberLayout f member-kind refl (omega arith) (omega arith)
+          go (inr p) (inr q) (inr r) (inr t) (inl f) = known 5 trafficLayout f traffic-kind refl (omega arith) (omega arith)
+          go (inr p) (inr q) (inr r) (inr t) (inr u) =
+              ap (readAs (readingAt ws s) (drop (wordsRead s) ws)) (unknown-kind kind p q r t u d)
 
     -- 2: "The kind is unknown or lower than that of the record before."
     pub out-of-order :

@@ -13,7 +13,7 @@ abbrev Inv-loop : tie.InvT-loop
 Inv-loop table link-index₀ s₀ next₀ link-index s next = Examining (wordsOf table) link-index s next
 
 abbrev μ-loop : tie.MeasureT-loop
-μ-loop table link-index₀ s₀ next₀ link-index s next = 5 - next
+μ-loop table link-index₀ s₀ next₀ link-index s next = 6 - next
 
 returns : tie.Need-returns Inv-loop μ-loop
 returns c =
