@@ -32,7 +32,7 @@ pub enum NextPart {
 
 // One part more was given.
 fn part_given(examined: Examined, counts: Counts, given: usize, written: usize) -> NextPart
-    requires { ⌜ given < 1089 ⌝ }
+    requires { ⌜ given < 1090 ⌝ }
     ensures { λ r. ⌜ r ≡ NextPart.Part written (record { examined = examined; counts = counts; given = given + 1 }) ⌝ }
 {
     NextPart::Part {

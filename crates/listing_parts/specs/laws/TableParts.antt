@@ -2,27 +2,44 @@
 use Prim.Native.Nat.{ℕ, zero, suc, _+_, _*_, _-_, _/_, _%_, _≤_, _<_}
 use native.Mathlib.Omega.{arith}
 use native.Mathlib.Nat.{mod-lt, div-lt-iff-lt-mul, mul-le-mul-left, mul-le-mul-right}
-use mathlib.Core.Path.{_≡_, sym, ap, subst, _∙_}
+use mathlib.Core.Path.{_≡_, refl, sym, ap, subst, _∙_}
 use mathlib.Core.List.{List}
+use mathlib.Core.Bool.{Bool, true, false, cond}
+use lib.Dec.{ltb}
 use lib.ListN.{length}
+use borrow.Author.Tests.{lt-ltb, le-ltb}
 use Rattle.lists.specs.Appending.{Appended}
 use Rattle.rule.specs.declared.answer.Counts.{Counts}
-use Rattle.rule.specs.Records.{Vid, bridgeOf, vidOf}
+use Rattle.rule.specs.Records.{Vid, bridgeOf, vidOf, trafficOf}
 use Rattle.rule.specs.Plan.{Plan, vidAt}
 use Rattle.rule.specs.Calls.{countsOf, planEntries}
 use Rattle.table.specs.declared.shape.Shape.{Shape}
-use Rattle.table.specs.Positions.{vidsFrom, planAt}
+use Rattle.table.specs.Positions.{vidsFrom, trafficFrom, planAt}
 use Rattle.table.specs.laws.PositionLaws.{how-many, record-at}
 use Rattle.text.specs.Text.{line}
 use Rattle.check_text.specs.CheckText.{countsWord, countsFields}
 use Rattle.table.specs.Numbered.{vidNumber}
-use Rattle.listing_lines.specs.Listing.{pathLines, entryLines}
-use Rattle.listing_parts.specs.Parts.{pairCount, partCount, listingPart}
-use Rattle.listing_parts.specs.laws.PartLaws.{path-part, entry-part}
+use Rattle.listing_lines.specs.Listing.{pathLines, entryLines, loadReport}
+use Rattle.listing_parts.specs.Parts.{pairCount, partCount, partsOfShape, listingPart}
+use Rattle.listing_parts.specs.laws.PartLaws.{path-part, entry-part, report-part}
 
 -- A plan has at most 16 VIDs and 64 bridges.
 pub few-pairs : (vids bridges : ℕ) → vids ≤ 16 → bridges ≤ 64 → vids * bridges ≤ 1024
 few-pairs vids bridges h l = omega (arith, mul-le-mul-left vids l, mul-le-mul-right 64 h)
+
+-- How many parts there are, without traffic and with it.
+pub without-report : (s : Shape) → s .traffic ≡ 0 → 1 + s .vids * s .bridges + s .bridges ≡ partsOfShape s
+without-report s e = rw (le-ltb 0 (s .traffic) (omega arith)) (omega arith)
+
+pub with-report : (s : Shape) → (s .traffic ≡ 0 → ⊥) → 1 + s .vids * s .bridges + s .bridges + 1 ≡ partsOfShape s
+with-report s d = rw (lt-ltb 0 (s .traffic) (omega (arith, d))) refl
+
+pub few-parts : (s : Shape) → s .vids ≤ 16 → s .bridges ≤ 64 → partsOfShape s ≤ 1090
+few-parts s h l = omega (arith, few-pairs (s .vids) (s .bridges) h l, one (ltb 0 (s .traffic)))
+  where
+    one : (b : Bool) → cond b 1 0 ≤ 1
+    one true = omega arith
+    one false = omega arith
 
 module _ (ws : List ℕ) (s : Shape) where
   abbrev plan : Plan
@@ -34,8 +51,12 @@ module _ (ws : List ℕ) (s : Shape) where
   pub pairs-are : pairCount plan ≡ s .vids * s .bridges
   pairs-are = λ i. how-many vidOf 1 (vidsFrom s) ws (s .vids) i * bridges-are i
 
-  pub parts-are : partCount plan ≡ 1 + s .vids * s .bridges + s .bridges
-  parts-are = λ i. 1 + pairs-are i + bridges-are i
+  traffic-are : length (plan .traffic) ≡ s .traffic
+  traffic-are = how-many trafficOf 2 (trafficFrom s) ws (s .traffic)
+
+  -- How many parts there are.
+  pub parts-are : partCount plan ≡ partsOfShape s
+  parts-are = λ i. 1 + pairs-are i + bridges-are i + cond (ltb 0 (traffic-are i)) 1 0
 
   -- The part number 0 is the counts line.
   pub counts-part : {part : ℕ} {c : Counts} {out out′ : List ℕ} {next : ℕ} → part ≡ 0 → c ≡ countsOf plan
@@ -78,16 +99,19 @@ module _ (ws : List ℕ) (s : Shape) where
               (record-at vidOf 1 (vidsFrom s) ws (s .vids) ((part - 1) / s .bridges) (record { vid = 0; index = 0 }) known-vid)
 
     module _ (beyond : s .vids * s .bridges ≤ part - 1) where
-      pub known-bridge : part < partCount plan → part - 1 - s .vids * s .bridges < s .bridges
-      known-bridge l = omega (arith, parts-are)
-
-      pub entry-lines-part : {out out′ : List ℕ} {next : ℕ}
+      pub entry-lines-part : part - 1 - s .vids * s .bridges < s .bridges → {out out′ : List ℕ} {next : ℕ}
           → Appended out 0 (entryLines (part - 1 - s .vids * s .bridges) (planEntries plan (part - 1 - s .vids * s .bridges))) out′ next
           → Appended out 0 (listingPart plan part) out′ next
-      entry-lines-part {out} {out′} {next} W = subst (λ (x : List ℕ). Appended out 0 x out′ next) (sym same) W
+      entry-lines-part known {out} {out′} {next} W = subst (λ (x : List ℕ). Appended out 0 x out′ next) (sym same) W
         where
           same : listingPart plan part ≡ entryLines (part - 1 - s .vids * s .bridges) (planEntries plan (part - 1 - s .vids * s .bridges))
           same =
               ap (listingPart plan) (sym after-counts)
-              ∙ entry-part plan (part - 1) (omega (arith, pairs-are))
+              ∙ entry-part plan (part - 1) (omega (arith, pairs-are)) (omega (arith, pairs-are, bridges-are))
               ∙ ap (λ (k : ℕ). entryLines (part - 1 - k) (planEntries plan (part - 1 - k))) pairs-are
+
+      pub load-report-part : s .bridges ≤ part - 1 - s .vids * s .bridges → {out out′ : List ℕ} {next : ℕ}
+          → Appended out 0 (loadReport plan) out′ next → Appended out 0 (listingPart plan part) out′ next
+      load-report-part last {out} {out′} {next} W =
+          subst (λ (x : List ℕ). Appended out 0 x out′ next)
+          (sym (ap (listingPart plan) (sym after-counts) ∙ report-part plan (part - 1) (omega (arith, pairs-are, bridges-are)))) W

@@ -4,7 +4,7 @@ use Prim.Native.Nat.{_<_}
 use Rattle.rule.specs.Words.{wordsOf}
 use Rattle.verdict.specs.laws.CheckedLaws.{few-bridges}
 use Rattle.entry_rows.specs.laws.NeededLaws.{few-vids}
-use Rattle.listing_parts.specs.laws.TableParts.{few-pairs, counts-part, some-bridge, known-vid, known-from, path-lines-part, known-bridge, entry-lines-part}
+use Rattle.listing_parts.specs.laws.TableParts.{few-pairs, counts-part, some-bridge, known-vid, known-from, path-lines-part, entry-lines-part, load-report-part}
 use borrow.Author.Needs.{needs}
 use Rattle.listing_parts.proofs.part.write_part.Statement.{statement}
 use Rattle.listing_parts.proofs.part.write_part.Tie as tie
@@ -72,26 +72,41 @@ returns-2 c =
 
 write-entry-lines-of-requires : tie.Need-write-entry-lines-of-requires
 write-entry-lines-of-requires c κs =
-    let at-if2 = c .before .before .before .before in
-    let at-if1 = at-if2 .before .before in
-    let at-start = start-of at-if1 in
-    let ((table-network, _, part-bound), (path-ids-room, trees-kept, words-room, out-room)) = at-start .pre in
-    let bridge-bound =
-    known-bridge (wordsOf (at-start .args .table .now)) (at-start .args .s) (at-start .args .part) (at-if1 .if1 .left) (at-if2 .if2 .left)
-    part-bound in
-    ((table-network, bridge-bound, words-room, out-room), (path-ids-room, trees-kept))
+    let at-if3 = c .before .before .before .before in
+    let at-start = at-if3 .before .before .before .before .before .before .before .before .before .before .before in
+    let ((table-network, _, _), (path-ids-room, trees-kept, words-room, out-room)) = at-start .pre in
+    ((table-network, at-if3 .if3 .taken, words-room, out-room), (path-ids-room, trees-kept))
 
 returns-3 : tie.Need-returns-3
 returns-3 c =
     let at-write-entry-lines-of = c .before .before .before .before .before .before .before .before in
-    let at-if2 = at-write-entry-lines-of .before .before .before .before .before in
+    let at-if3 = at-write-entry-lines-of .before .before .before .before .before in
+    let at-if2 = at-if3 .before .before in
     let at-if1 = at-if2 .before .before in
     let (trees-kept, (written, write-entry-lines-of-bound)) = at-write-entry-lines-of .write-entry-lines-of .ensures in
-    (trees-kept, (entry-lines-part _ _ _ (at-if1 .if1 .left) (at-if2 .if2 .left) written, write-entry-lines-of-bound))
+    (trees-kept, (entry-lines-part _ _ _ (at-if1 .if1 .left) (at-if2 .if2 .left) (at-if3 .if3 .taken) written, write-entry-lines-of-bound))
+
+write-load-report-requires : tie.Need-write-load-report-requires
+write-load-report-requires c κs =
+    let at-start = c .before .before .before .before .before .before .before .before .before .before .before .before .before .before in
+    let ((table-network, _, _), (path-ids-room, trees-kept, _, out-room)) = at-start .pre in
+    ((table-network, omega (arith, out-room)), (path-ids-room, trees-kept))
+
+returns-4 : tie.Need-returns-4
+returns-4 c =
+    let at-write-load-report = c .before .before .before .before .before .before in
+    let at-if3 = at-write-load-report .before .before .before .before in
+    let at-if2 = at-if3 .before .before in
+    let at-if1 = at-if2 .before .before in
+    let (trees-kept, (written, write-load-report-bound)) = at-write-load-report .write-load-report .ensures in (
+      trees-kept,
+      (load-report-part _ _ _ (at-if1 .if1 .left) (at-if2 .if2 .left) (at-if3 .if3 .left) written, omega (arith, write-load-report-bound)),
+    )
 
 pub write-part-spec : {M : Type 1} → statement M
 write-part-spec =
     tie.close
     (tie.spec (λ c κs. search needs) (λ c. search needs) returns (λ c. search needs) mul-pairs div-write-path-lines rem-write-path-lines
     write-path-lines-requires (λ c. search needs) (λ c. search needs) (λ c. search needs) returns-2 write-entry-lines-of-requires
-    (λ c. search needs) (λ c. search needs) (λ c. search needs) (λ c. search needs) returns-3)
+    (λ c. search needs) (λ c. search needs) (λ c. search needs) (λ c. search needs) returns-3 write-load-report-requires
+    (λ c. search needs) (λ c. search needs) (λ c. search needs) returns-4)
