@@ -7,7 +7,7 @@ use Rattle.verdict.specs.laws.CheckedLaws.{few-bridges}
 use Rattle.entry_rows.specs.laws.NeededLaws.{few-vids}
 use Rattle.listing_parts.specs.Parts.{partCount}
 use Rattle.listing_progress.specs.Remaining.{PartsReady}
-use Rattle.listing_parts.specs.laws.TableParts.{few-pairs, parts-are}
+use Rattle.listing_parts.specs.laws.TableParts.{few-parts, parts-are}
 use Rattle.listing_progress.specs.laws.RemainingLaws.{accepted-ended, refused-ended, next-accepted, next-refused}
 use borrow.Author.Needs.{needs}
 use Rattle.listing_progress.proofs.progress.next_part.Statement.{statement}
@@ -76,8 +76,7 @@ part-given-requires c κs =
       arith,
       at-if1 .if1 .left,
       at-part-count .part-count .ensures,
-      few-pairs (at-examined .examined .given .0 .0 .vids) (at-examined .examined .given .0 .0 .bridges) vids-few bridges-few,
-      bridges-few,
+      few-parts (at-examined .examined .given .0 .0) vids-few bridges-few,
     )
 
 returns-2 : tie.Need-returns-2
