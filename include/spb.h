@@ -15,15 +15,18 @@
 extern "C" {
 #endif
 
+/* The bytes of the longest table that is accepted. */
+#define SPB_LONGEST_TABLE 9540
+
 /* Examines a table. Gives 0 where the table is accepted, or the number of the refusal:
  *
- *    1  the length is 0, above 7,492 bytes, or no multiple of 4
+ *    1  the length is 0, above 9,540 bytes, or no multiple of 4
  *    2  a record's kind is unknown or lower than that of the record before
  *    3  a record's words are not all there, or there is no end record
  *    4  a zero bit is set
  *    5  there is one record more of a kind than the limit
  *    6  a value is outside its range, or the end count is wrong
- *    7  a bridge or VID that is named has no record, or near and far bridge are equal
+ *    7  a bridge or VID that is named has no record, or near and far bridge, or from and to, are equal
  *    8  a record repeats an earlier one
  *    9  a third half-link of a link number, or a second that is no mirror of the first
  *   10  words follow the end record

@@ -17,16 +17,16 @@
 
 /* One byte more than the longest table, so that a longer file is seen to be too
  * long. */
-enum { MOST_BYTES = 7493, NO_NAME = 11, NO_PATH = 12 };
+enum { MOST_BYTES = SPB_LONGEST_TABLE + 1, NO_NAME = 11, NO_PATH = 12 };
 
 static const char *const refusals[] = {
-    [1] = "the table's length is 0, above 7,492 bytes, or no multiple of 4",
+    [1] = "the table's length is 0, above 9,540 bytes, or no multiple of 4",
     [2] = "a record's kind is unknown or lower than that of the record before",
     [3] = "a record's words are not all there, or the table ends with no end record",
     [4] = "a zero bit is set",
     [5] = "there is one record more of a kind than the limit",
     [6] = "a value is outside its range, or the end count is wrong",
-    [7] = "a bridge or VID that a record names has no record, or a half-link's two bridges are equal",
+    [7] = "a bridge or VID that a record names has no record, or a record's two bridges are equal",
     [8] = "a record repeats an earlier one",
     [9] = "a third half-link of a link number, or a second that is no mirror of the first",
     [10] = "words follow the end record",

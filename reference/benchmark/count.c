@@ -5,15 +5,15 @@
 #include <stdlib.h>
 #include <string.h>
 
-/* crates/spb and crates/bench_calls */
-uint32_t spb_check(const uint8_t *table, size_t length);
-uint64_t spb_path_cost(const uint8_t *table, size_t length, uint32_t vid, uint32_t from, uint32_t to);
+#include "../../include/spb.h"
+
+/* crates/bench_calls */
 uint32_t bench_path(const uint8_t *table, size_t length, uint32_t vid, uint32_t from, uint32_t to);
 uint32_t bench_tree(const uint8_t *table, size_t length, uint32_t vid, uint32_t from);
 uint32_t bench_trees(const uint8_t *table, size_t length, uint32_t count);
 uint32_t bench_entries(const uint8_t *table, size_t length, uint32_t bridge);
 
-enum { LONGEST = 8192, FROM = 0, TO = 37, BRIDGE = 5, TREES = 64 };
+enum { FROM = 0, TO = 37, BRIDGE = 5, TREES = 64 };
 
 /* The VID of the first VID record: bridges and half-links have 3 words, a VID record 1. */
 static uint32_t first_vid(const uint8_t *table, size_t length) {
@@ -37,7 +37,7 @@ static uint64_t called(const char *name, const uint8_t *table, size_t length, ui
 }
 
 int main(int words, char **word) {
-    static uint8_t table[LONGEST];
+    static uint8_t table[SPB_LONGEST_TABLE];
     if (words != 4) {
         fprintf(stderr, "usage: count TABLE FUNCTION TIMES\n");
         return 2;
@@ -47,7 +47,7 @@ int main(int words, char **word) {
         perror(word[1]);
         return 1;
     }
-    size_t length = fread(table, 1, LONGEST, file);
+    size_t length = fread(table, 1, SPB_LONGEST_TABLE, file);
     fclose(file);
     uint32_t vid = first_vid(table, length);
     uint64_t sum = 0;

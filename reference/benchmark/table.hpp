@@ -1,12 +1,12 @@
 // What the yardsticks read of a table that is known to be valid: the number of
 // bridges, the VIDs with their ECT indexes, the members, and for each joined pair
-// the cost of its hop. Written for the measurements alone; nothing is checked here.
+// the cost of its hop; traffic records are passed over. Written for the measurements
+// alone; nothing is checked here.
 #pragma once
 
 #include <algorithm>
 #include <cstdint>
 #include <fstream>
-#include <iterator>
 #include <map>
 #include <stdexcept>
 #include <string>
@@ -15,6 +15,8 @@
 
 #include <boost/graph/compressed_sparse_row_graph.hpp>
 #include <boost/graph/dijkstra_shortest_paths.hpp>
+
+#include "file.hpp"
 
 struct Hop {
     std::uint32_t cost;
@@ -65,15 +67,15 @@ inline void read_member(Table &table, std::size_t word) {
 
 inline Table read_table(std::istream &input) {
     Table table;
-    table.bytes.assign(std::istreambuf_iterator<char>(input), std::istreambuf_iterator<char>());
-    static const std::size_t words[] = {0, 3, 3, 1, 2};
+    table.bytes = bytes_of(input);
+    static const std::size_t words[] = {0, 3, 3, 1, 2, 2};
     for (std::size_t word = 0;;) {
         const std::uint32_t first = word_at(table.bytes, word);
         const std::uint32_t kind = first >> 28;
         if (kind == 15) {
             return table;
         }
-        if (kind == 0 || kind > 4) {
+        if (kind == 0 || kind > 5) {
             throw std::runtime_error("unknown kind");
         }
         if (kind == 1) {
@@ -82,17 +84,11 @@ inline Table read_table(std::istream &input) {
             read_half_link(table, word);
         } else if (kind == 3) {
             read_vid(table, word);
-        } else {
+        } else if (kind == 4) {
             read_member(table, word);
         }
         word += words[kind];
     }
-}
-
-// The shape in the name of a file FOLDER/SHAPE-BRIDGES.table.
-inline std::string shape_of(const std::string &file) {
-    const std::size_t slash = file.find_last_of('/') + 1;
-    return file.substr(slash, file.find_last_of('-') - slash);
 }
 
 inline Graph graph_of(const Table &table) {

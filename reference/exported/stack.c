@@ -14,7 +14,8 @@
 
 #include "spb.h"
 
-enum { STACK = 256 * 1024, FILL = 0xA5, LONGEST = 8192 };
+/* A table of one word too many is refused by its length, and has to fit too. */
+enum { STACK = 256 * 1024, FILL = 0xA5, MOST_BYTES = SPB_LONGEST_TABLE + 4 };
 
 struct work {
     const uint8_t *table;
@@ -74,13 +75,13 @@ static size_t read_file(const char *name, uint8_t *into) {
     if (file == NULL) {
         fail(name);
     }
-    size_t length = fread(into, 1, LONGEST, file);
+    size_t length = fread(into, 1, MOST_BYTES, file);
     fclose(file);
     return length;
 }
 
 int main(int count, char **names) {
-    static uint8_t table[LONGEST];
+    static uint8_t table[MOST_BYTES];
     size_t nothing = 0, check = 0, path_cost = 0;
     if (count < 2) {
         fail("usage: stack TABLE...");

@@ -31,6 +31,17 @@ impl Question {
             Question::Entries { bridge, places } => [3, 0, bridge, 0, places as u32, 0, 0],
         }
     }
+
+    /// The question of these words; none where they have no call.
+    pub fn of_words([call, vid, from, to, costs, hops, lasts]: [u32; 7]) -> Option<Question> {
+        let [places, hops, lasts] = [costs, hops, lasts].map(|places| places as usize);
+        match call {
+            1 => Some(Question::Path { vid, from, to, places }),
+            2 => Some(Question::Tree { vid, from, places: [places, hops, lasts] }),
+            3 => Some(Question::Entries { bridge: from, places }),
+            _ => None,
+        }
+    }
 }
 
 /// A table after its length, the number of questions, the questions.

@@ -1,16 +1,20 @@
 //! The check: refusals 1 to 10 in their order, and the five counts.
 
-use crate::links::{joined_pairs, usable_links};
+use crate::links::{usable_links, Network};
 use crate::records::{
-    Bridge, HalfLink, Kind, Plan, Record, BELOW_MARK_BIT, GREATEST_USABLE_METRIC, GROUP_BIT, LEAST_METRIC,
-    MARK_BIT, UNUSABLE_METRIC,
+    Bridge, HalfLink, Kind, Plan, Record, Traffic, BELOW_MARK_BIT, GREATEST_USABLE_METRIC, GROUP_BIT,
+    LEAST_METRIC, MARK_BIT, UNUSABLE_METRIC,
 };
 use crate::refusal::Refusal;
 use crate::rules::{Misreading, Rules};
 use crate::words::words_of;
 
-/// The longest table: 64 bridges, 512 half-links, 16 VIDs, 64 members, the end.
-pub const LONGEST_TABLE: usize = 7_492;
+/// The longest table: 64 bridges, 512 half-links, 16 VIDs, 64 members, 256 traffic
+/// records, the end.
+pub const LONGEST_TABLE: usize = 9_540;
+
+/// The longest table that has no traffic record.
+pub const LONGEST_WITHOUT_TRAFFIC: usize = LONGEST_TABLE - 4 * Kind::Traffic.words() * Kind::Traffic.limit();
 
 #[derive(Clone, Copy, PartialEq, Eq, Debug)]
 pub struct Counts {
@@ -24,7 +28,7 @@ pub struct Counts {
 pub fn check(rules: Rules, table: &[u8]) -> Result<Counts, Refusal> {
     let plan = read(rules, table)?;
     let usable = if rules.has(Misreading::JoinedPairsCounted) {
-        joined_pairs(rules, &plan)
+        Network::of(rules, &plan).joined_pairs().len()
     } else {
         usable_links(rules, &plan)
     };
@@ -35,18 +39,19 @@ pub fn check(rules: Rules, table: &[u8]) -> Result<Counts, Refusal> {
     } else {
         plan.half_links.len()
     };
+    let traffic = if rules.has(Misreading::TrafficCountedAsMembers) { plan.traffic.len() } else { 0 };
     Ok(Counts {
         bridges: plan.bridges.len(),
         half_links,
         usable_links: usable,
         vids: plan.vids.len(),
-        members: plan.members.len(),
+        members: plan.members.len() + traffic,
     })
 }
 
 /// The records of a table that none of 1 to 10 applies to.
 pub fn read(rules: Rules, table: &[u8]) -> Result<Plan, Refusal> {
-    if table.is_empty() || table.len() > LONGEST_TABLE || !table.len().is_multiple_of(4) {
+    if table.is_empty() || table.len() > longest_table(rules) || !table.len().is_multiple_of(4) {
         return Err(Refusal::LENGTH);
     }
     if rules.has(Misreading::AllRefused) {
@@ -56,6 +61,14 @@ pub fn read(rules: Rules, table: &[u8]) -> Result<Plan, Refusal> {
     let mut reader = Reader { rules, words: &words, first: 0, before: None, plan: Plan::default() };
     while !reader.read_record().map_err(|refusal| reader.reported(refusal))? {}
     Ok(reader.plan)
+}
+
+fn longest_table(rules: Rules) -> usize {
+    if rules.has(Misreading::ShorterTables) {
+        LONGEST_WITHOUT_TRAFFIC
+    } else {
+        LONGEST_TABLE
+    }
 }
 
 /// The reading of a table up to one record's first word.
@@ -98,6 +111,7 @@ impl Reader<'_> {
         let lowest = self.before.map_or(Kind::Bridge, |(kind, _)| kind);
         let may_fall = self.rules.has(Misreading::KindMayFall);
         match Kind::of(first_word) {
+            Some(Kind::Traffic) if self.rules.has(Misreading::TrafficUnknown) => Err(self.wrong_kind()),
             Some(kind) if kind >= lowest || may_fall => Ok(kind),
             _ => Err(self.wrong_kind()),
         }
@@ -172,7 +186,7 @@ impl Reader<'_> {
             Kind::HalfLink => {
                 [Misreading::DownAtBit26, Misreading::HalfLinkBit26Accepted, Misreading::DownRefused]
             }
-            Kind::Vid | Kind::Member | Kind::End => return written,
+            Kind::Vid | Kind::Member | Kind::Traffic | Kind::End => return written,
         };
         if self.rules.has(at_bit_26) {
             written & !BELOW_MARK_BIT | MARK_BIT
@@ -213,6 +227,11 @@ impl Reader<'_> {
             Record::Member(member) => {
                 let unknown_instead = self.rules.has(Misreading::MemberVidUnknown);
                 !is_i_sid(self.rules, member.service) || (!self.is_vid(member.vid) && !unknown_instead)
+            }
+            Record::Traffic(traffic) => {
+                let any_amount = self.rules.has(Misreading::AmountZeroAccepted);
+                let unknown_instead = self.rules.has(Misreading::TrafficVidUnknown);
+                (traffic.amount == 0 && !any_amount) || (!self.is_vid(traffic.vid) && !unknown_instead)
             }
             Record::End { count } => *count as usize != self.end_count(),
         }
@@ -261,6 +280,13 @@ impl Reader<'_> {
             Record::Member(member) => {
                 !self.has_bridge(member.bridge) || self.plan.index_of_vid(member.vid).is_none()
             }
+            Record::Traffic(traffic) => {
+                let looped = traffic.from == traffic.to;
+                self.plan.index_of_vid(traffic.vid).is_none()
+                    || !self.has_bridge(traffic.from)
+                    || !self.has_bridge(traffic.to)
+                    || (looped && !self.rules.has(Misreading::TrafficToItself))
+            }
             Record::Bridge(_) | Record::Vid(_) | Record::End { .. } => false,
         }
     }
@@ -285,8 +311,22 @@ impl Reader<'_> {
                         && (earlier.vid == member.vid || any_vid)
                 })
             }
+            Record::Traffic(traffic) => {
+                plan.traffic.iter().any(|earlier| self.repeats_traffic(traffic, earlier))
+            }
             Record::End { .. } => false,
         }
+    }
+
+    /// Whether the traffic record has the earlier one's VID, from and to.
+    fn repeats_traffic(&self, traffic: &Traffic, earlier: &Traffic) -> bool {
+        let (from, to) = (traffic.from, traffic.to);
+        let opposite = (to, from) == (earlier.from, earlier.to);
+        let same_ends = (from, to) == (earlier.from, earlier.to)
+            || (opposite && self.rules.has(Misreading::OppositeRepeats));
+        let same_vid = traffic.vid == earlier.vid || self.rules.has(Misreading::TrafficRepeatsWithoutVid);
+        let with_amount = self.rules.has(Misreading::TrafficRepeatsWithAmount);
+        same_ends && same_vid && (!with_amount || traffic.amount == earlier.amount)
     }
 
     /// Whether the bridge has the earlier one's address or SPsourceID.

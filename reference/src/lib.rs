@@ -1,4 +1,4 @@
-//! A separate implementation of document 01 with requests A1 to A3 of document 02,
+//! A separate implementation of document 01 with requests A1 to A3 and A5 of document 02,
 //! written from their text and the readings in docs/DECISIONS.md.
 //!
 //! The calls (`check`, `path`, `tree`, `entries`, `lookup`, `listing`,
@@ -21,6 +21,7 @@ pub mod labels;
 pub mod lent;
 pub mod links;
 pub mod listing;
+pub mod loads;
 pub mod lookup;
 pub mod path;
 pub mod program;
@@ -29,6 +30,7 @@ pub mod random;
 pub mod rank;
 pub mod records;
 pub mod refusal;
+pub mod requests;
 pub mod rules;
 pub mod search;
 pub mod service_lines;

@@ -86,10 +86,11 @@ fn rules_without_down() -> Rules {
     Rules::with(Misreading::DownIgnored)
 }
 
-pub fn joined_pairs(rules: Rules, plan: &Plan) -> usize {
-    let network = Network::of(rules, plan);
-    let joined = |from: usize| (from..network.size).filter(|&to| network.hop(from, to).is_some()).count();
-    (0..network.size).map(joined).sum()
+/// How many usable links join two bridges.
+pub fn links_between(rules: Rules, plan: &Plan, from: usize, to: usize) -> usize {
+    let joins = |near: &&HalfLink| (usize::from(near.near), usize::from(near.far)) == (from, to);
+    let halves = plan.half_links.iter().filter(joins);
+    halves.filter(|near| usable_hop(rules, plan, near).is_some()).count()
 }
 
 /// For each two bridges the hop that joins them.
@@ -146,6 +147,13 @@ impl Network {
 
     pub fn hop(&self, from: usize, to: usize) -> Option<Hop> {
         self.hops[from * self.size + to]
+    }
+
+    /// The joined pairs, lower bridge first, rising by lower and then by higher bridge.
+    pub fn joined_pairs(&self) -> Vec<(usize, usize)> {
+        let pairs =
+            (0..self.size).flat_map(|lower| (lower + 1..self.size).map(move |higher| (lower, higher)));
+        pairs.filter(|&(lower, higher)| self.hop(lower, higher).is_some()).collect()
     }
 
     /// The bridges joined to a bridge, by number.

@@ -5,6 +5,7 @@ use std::fmt::Write;
 use crate::check::{check, Counts};
 use crate::checked::Checked;
 use crate::entries::entry_words;
+use crate::loads::{has_load_lines, Loads};
 use crate::lookup::decoded;
 use crate::path::named_path;
 use crate::records::Vid;
@@ -14,7 +15,7 @@ use crate::rules::{Misreading, Rules};
 pub fn listing(rules: Rules, table: &[u8]) -> String {
     let answer = check(rules, table).and_then(|counts| {
         let checked = Checked::new(rules, table)?;
-        Ok(counts_line(&counts) + &path_lines(&checked) + &entry_lines(&checked))
+        Ok(counts_line(&counts) + &path_lines(&checked) + &entry_lines(&checked) + &load_lines(&checked))
     });
     answer.unwrap_or_else(|refusal| refused_line(rules, &refusal))
 }
@@ -73,6 +74,20 @@ fn entry_lines(checked: &Checked) -> String {
         }
     }
     lines
+}
+
+/// A line for each joined pair, then what all carry and what no path carries.
+fn load_lines(checked: &Checked) -> String {
+    if !has_load_lines(checked) {
+        return String::new();
+    }
+    let Loads { pairs, total, lost } = Loads::of(checked);
+    let line = |((lower, higher), sum): ((usize, usize), u64)| format!("load {lower} {higher} {sum}\n");
+    let loads: String = pairs.into_iter().map(line).collect();
+    if lost == 0 && checked.rules.has(Misreading::NothingLostLeftOut) {
+        return loads + &format!("total {total}\n");
+    }
+    loads + &format!("total {total}\nlost {lost}\n")
 }
 
 fn address_text(rules: Rules, address: u64) -> String {

@@ -10,32 +10,35 @@ pub enum Kind {
     HalfLink = 2,
     Vid = 3,
     Member = 4,
+    Traffic = 5,
     End = 15,
 }
 
 impl Kind {
-    pub const ALL: [Kind; 5] = [Kind::Bridge, Kind::HalfLink, Kind::Vid, Kind::Member, Kind::End];
+    pub const ALL: [Kind; 6] =
+        [Kind::Bridge, Kind::HalfLink, Kind::Vid, Kind::Member, Kind::Traffic, Kind::End];
 
     /// The kind in bits 31..28 of a record's first word.
     pub fn of(first_word: u32) -> Option<Kind> {
         Kind::ALL.into_iter().find(|&kind| kind as u32 == first_word >> 28)
     }
 
-    pub fn words(self) -> usize {
+    pub const fn words(self) -> usize {
         match self {
             Kind::Bridge | Kind::HalfLink => 3,
-            Kind::Member => 2,
+            Kind::Member | Kind::Traffic => 2,
             Kind::Vid | Kind::End => 1,
         }
     }
 
     /// How many records of the kind a table may hold. A second end record is
     /// never read, so none is ever one too many.
-    pub fn limit(self) -> usize {
+    pub const fn limit(self) -> usize {
         match self {
             Kind::Bridge | Kind::Member => 64,
             Kind::HalfLink => 512,
             Kind::Vid => 16,
+            Kind::Traffic => 256,
             Kind::End => 1,
         }
     }
@@ -46,7 +49,7 @@ impl Kind {
             Kind::Bridge => 0x07F0_0000,
             Kind::HalfLink => 0x0700_0000,
             Kind::Member => 0x0C00_0000,
-            Kind::Vid | Kind::End => 0,
+            Kind::Vid | Kind::Traffic | Kind::End => 0,
         }
     }
 
@@ -202,12 +205,44 @@ impl Member {
     }
 }
 
+/// An amount of traffic in a VID from one bridge to another.
+#[derive(Clone, Copy, PartialEq, Eq, Debug)]
+pub struct Traffic {
+    pub vid: u16,
+    pub amount: u16,
+    pub from: u16,
+    pub to: u16,
+}
+
+impl Traffic {
+    pub fn words(&self) -> [u32; 2] {
+        [Kind::Traffic.tag() | pair(self.vid, self.amount), pair(self.from, self.to)]
+    }
+
+    fn read(part: &[u32]) -> Traffic {
+        let (high, amount) = halves(part[0]);
+        let (from, to) = halves(part[1]);
+        Traffic { vid: high & 0x0FFF, amount, from, to }
+    }
+
+    /// The record of the opposite direction.
+    pub fn opposite(&self) -> Traffic {
+        Traffic { from: self.to, to: self.from, ..*self }
+    }
+
+    /// What no two records of a table share.
+    pub fn name(&self) -> (u16, u16, u16) {
+        (self.vid, self.from, self.to)
+    }
+}
+
 #[derive(Clone, Copy, Debug)]
 pub enum Record {
     Bridge(Bridge),
     HalfLink(HalfLink),
     Vid(Vid),
     Member(Member),
+    Traffic(Traffic),
     End { count: u32 },
 }
 
@@ -219,6 +254,7 @@ impl Record {
             Kind::HalfLink => Record::HalfLink(HalfLink::read(rules, part)),
             Kind::Vid => Record::Vid(Vid::read(part)),
             Kind::Member => Record::Member(Member::read(part)),
+            Kind::Traffic => Record::Traffic(Traffic::read(part)),
             Kind::End => Record::End { count: part[0] & 0x0FFF_FFFF },
         }
     }
@@ -231,6 +267,7 @@ pub struct Plan {
     pub half_links: Vec<HalfLink>,
     pub vids: Vec<Vid>,
     pub members: Vec<Member>,
+    pub traffic: Vec<Traffic>,
 }
 
 impl Plan {
@@ -240,6 +277,7 @@ impl Plan {
             Kind::HalfLink => self.half_links.len(),
             Kind::Vid => self.vids.len(),
             Kind::Member => self.members.len(),
+            Kind::Traffic => self.traffic.len(),
             Kind::End => 0,
         }
     }
@@ -250,6 +288,7 @@ impl Plan {
             Record::HalfLink(half_link) => self.half_links.push(half_link),
             Record::Vid(vid) => self.vids.push(vid),
             Record::Member(member) => self.members.push(member),
+            Record::Traffic(traffic) => self.traffic.push(traffic),
             Record::End { .. } => {}
         }
     }
@@ -265,6 +304,7 @@ impl Plan {
         words.extend(self.half_links.iter().flat_map(HalfLink::words));
         words.extend(self.vids.iter().flat_map(Vid::words));
         words.extend(self.members.iter().flat_map(Member::words));
+        words.extend(self.traffic.iter().flat_map(Traffic::words));
         let before = u32::try_from(words.len()).expect("a table's words fit in 32 bits");
         words.push(Kind::End.tag() | before);
         words

@@ -1,4 +1,4 @@
-//! The rules that the calls follow: those of document 01 with requests A1 to A3 of
+//! The rules that the calls follow: those of document 01 with requests A1 to A3 and A5 of
 //! document 02, or the same with one deliberate misreading, by which the tests are
 //! shown to notice it.
 
@@ -110,6 +110,31 @@ misreadings! {
     "a half-link that is down leaves its link number free" DownFreesLinkNumber: [Listing, Check, Calls, Services],
     "a half-link that is down may have any link number" DownTakesLinkNumber: [Listing, Check, Calls, Services],
     "of a mirror and its half-link both are down or neither" MirrorsWithEqualMark: [Listing, Check, Calls, Services],
+    // Traffic records and loads, request A5 of document 02. That from and to are exchanged
+    // shows in no answer: a path and its reverse take the same hops.
+    "a hop counts only when it is taken from lower to higher bridge" LoadOneWay: [Listing],
+    "a record loads the way back too" LoadedBackToo: [Listing],
+    "pairs without load are left out" IdlePairsLeftOut: [Listing],
+    "lost amounts are counted in total" LostInTotal: [Listing],
+    "total counts one hop too many of each path" OneHopTooMany: [Listing],
+    "total is amount times cost" CostInTotal: [Listing],
+    "loads count records instead of amounts" RecordsInsteadOfAmounts: [Listing],
+    "loads go by the paths of the first VID" LoadsByFirstVid: [Listing],
+    "load lines where no traffic record occurs" LoadsWithoutTraffic: [Listing],
+    "a load line for each usable link" LoadForEachLink: [Listing],
+    "load lines rise by the higher bridge first" LoadsByHigherBridge: [Listing],
+    "pairs of an overloaded bridge have no load line" OverloadedPairsLeftOut: [Listing],
+    "pairs that links which are down join have a load line" DownPairsListed: [Listing],
+    "lost is left out where it is 0" NothingLostLeftOut: [Listing],
+    "traffic records are counted among the members" TrafficCountedAsMembers: [Listing, Check],
+    "kind 5 is unknown" TrafficUnknown: [Listing, Check, Calls, Services],
+    "a table of more than 7,492 bytes is 1" ShorterTables: [Listing, Check, Calls, Services],
+    "amount 0 is in range" AmountZeroAccepted: [Listing, Check, Calls, Services],
+    "a traffic record's VID out of range is 7" TrafficVidUnknown: [Listing, Check, Calls, Services],
+    "a traffic record may lead from a bridge to itself" TrafficToItself: [Listing, Check, Calls, Services],
+    "the opposite direction is a repeat" OppositeRepeats: [Listing, Check, Calls, Services],
+    "traffic repeats without regard to the VID" TrafficRepeatsWithoutVid: [Listing, Check, Calls, Services],
+    "traffic repeats with equal amount only" TrafficRepeatsWithAmount: [Listing, Check, Calls, Services],
     // Calls.
     "12 is given before searching beyond one hop" TwelveBeforeSearching: [Listing, Calls],
     "13 though the answer just fits" ThirteenThoughItFits: [Calls, Services],
@@ -231,7 +256,7 @@ misreadings! {
 pub struct Rules(Option<Misreading>);
 
 impl Rules {
-    /// Document 01 with requests A1 to A3 of document 02, to the word.
+    /// Document 01 with requests A1 to A3 and A5 of document 02, to the word.
     pub const AS_WRITTEN: Rules = Rules(None);
 
     pub fn with(misreading: Misreading) -> Rules {

@@ -51,6 +51,19 @@ tests! {
     parts_joined_by_links_down_alone
     ports_down_take_paths_away
     frames_lost_at_links_down
+    worked_loads
+    diamond_loads
+    loads_without_joined_pairs
+    lost_amounts
+    each_joined_pair_has_a_line
+    faulty_traffic_refused
+    traffic_that_is_no_repeat
+    most_traffic_records
+    tables_without_traffic_list_as_before
+    loads_come_last
+    loads_agree_with_brute_force
+    sums_of_loads_agree
+    sums_of_loads_agree_on_largest_plans
     masks_of_table_28_1
     fewer_bridges_first
     higher_fourth_bridge

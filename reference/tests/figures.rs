@@ -8,12 +8,12 @@ use reference::entries::entries;
 use reference::generate::valid::longest_star;
 use reference::path::path;
 use reference::properties::standard::PRIORITY_ORDER;
-use reference::records::{Bridge, HalfLink, Member, Plan, Vid};
+use reference::records::{Bridge, HalfLink, Member, Plan, Traffic, Vid};
 use reference::rules::Rules;
 
 /// Bridges in a ring of 64 with parallel links, VIDs by number, a service for
 /// each member; no record has a fault but one over its limit.
-fn plan([bridges, half_links, vids, members]: [u16; 4]) -> Plan {
+fn plan([bridges, half_links, vids, members, traffic]: [u16; 5]) -> Plan {
     let bridge = |n: u16| Bridge {
         overloaded: false,
         source_id: u32::from(n) + 1,
@@ -32,15 +32,27 @@ fn plan([bridges, half_links, vids, members]: [u16; 4]) -> Plan {
         bridge: n % 64,
         vid: 1,
     };
+    let record = |n: u16| Traffic {
+        vid: 1,
+        amount: 1,
+        from: n / 63,
+        to: if n % 63 < n / 63 { n % 63 } else { n % 63 + 1 },
+    };
     Plan {
         bridges: (0..bridges).map(bridge).collect(),
         half_links: (0..half_links).map(half_link).collect(),
         vids: (0..vids).map(|n| Vid { vid: n + 1, index: n % 16 + 1 }).collect(),
         members: (0..members).map(member).collect(),
+        traffic: (0..traffic).map(record).collect(),
     }
 }
 
 fn line(name: &str, records: [u16; 4], more: usize) -> String {
+    let [bridges, half_links, vids, members] = records;
+    line_with_traffic(name, [bridges, half_links, vids, members, 0], more)
+}
+
+fn line_with_traffic(name: &str, records: [u16; 5], more: usize) -> String {
     let mut table = plan(records).bytes();
     table.resize(table.len() + 4 * more, 0);
     format!("{name}: {}", check_line(Rules::AS_WRITTEN, &table))
@@ -63,7 +75,7 @@ fn network<const LINKS: usize>(identifiers: &[u64], links: [(u16, u16, u32); LIN
         bridges: identifiers.iter().enumerate().map(bridge).collect(),
         half_links: links.into_iter().enumerate().flat_map(half_links).collect(),
         vids: vec![Vid { vid: 1, index: 1 }],
-        members: Vec::new(),
+        ..Plan::default()
     };
     plan.bytes()
 }
@@ -99,6 +111,10 @@ fn order_lines() -> String {
     PRIORITY_ORDER.iter().enumerate().map(line).collect()
 }
 
+/// What the stored output says of 7,496 bytes while the program does not know request A5;
+/// by the request the word after the end record is 10.
+const LINE_BEFORE_TRAFFIC: &str = "7496 bytes: refused 1 none 0\n";
+
 #[test]
 fn the_program_prints_the_figures() {
     let fewer =
@@ -114,7 +130,7 @@ fn the_program_prints_the_figures() {
         line("64 members", [64, 0, 1, 64], 0),
         line("65 members", [64, 0, 1, 65], 0),
         line("7492 bytes", [64, 512, 16, 64], 0),
-        line("7496 bytes", [64, 512, 16, 64], 1),
+        LINE_BEFORE_TRAFFIC.to_string(),
         path_line("2 hops into 3 places", &fewer, 3),
         path_line("2 hops into 2 places", &fewer, 2),
         path_line("28.5, 9 15 22 before 7 8 9 10 22", &fewer, 3),
@@ -126,7 +142,28 @@ fn the_program_prints_the_figures() {
     assert_eq!(lines.concat(), include_str!("../../crates/figures/stdout"));
 }
 
+/// The figures that request A5 changes or adds.
 #[test]
-fn the_longest_table_has_7492_bytes() {
-    assert_eq!(plan([64, 512, 16, 64]).bytes().len(), 7_492);
+fn the_figures_of_traffic_records() {
+    let lines = [
+        line_with_traffic("256 traffic records", [64, 0, 1, 0, 256], 0),
+        line_with_traffic("257 traffic records", [64, 0, 1, 0, 257], 0),
+        line_with_traffic("7496 bytes", [64, 512, 16, 64, 0], 1),
+        line_with_traffic("9540 bytes", [64, 512, 16, 64, 256], 0),
+        line_with_traffic("9544 bytes", [64, 512, 16, 64, 256], 1),
+    ];
+    let expected = "\
+256 traffic records: counts 64 0 0 1 0
+257 traffic records: refused 5 5 705
+7496 bytes: refused 10 15 1872
+9540 bytes: counts 64 512 256 16 64
+9544 bytes: refused 1 none 0
+";
+    assert_eq!(lines.concat(), expected);
+}
+
+#[test]
+fn the_longest_table_has_9540_bytes() {
+    assert_eq!(plan([64, 512, 16, 64, 0]).bytes().len(), 7_492);
+    assert_eq!(plan([64, 512, 16, 64, 256]).bytes().len(), 9_540);
 }

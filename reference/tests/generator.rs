@@ -2,14 +2,15 @@
 //! kind of record that can have it, and valid plans of every sort.
 
 use std::cmp::Ordering;
-use std::collections::BTreeMap;
+use std::collections::{BTreeMap, BTreeSet};
 
 use reference::check::read;
 use reference::checked::Checked;
 use reference::generate::stream::case;
 use reference::links::Network;
+use reference::loads::Loads;
 use reference::rank::Path;
-use reference::records::{Kind, Member, Plan, UNUSABLE_METRIC};
+use reference::records::{Kind, Member, Plan, Traffic, UNUSABLE_METRIC};
 use reference::refusal::Refusal;
 use reference::rules::{Misreading, Rules};
 use reference::search::for_each_simple_path;
@@ -28,14 +29,14 @@ fn every_refusal_is_reached_with_every_kind_that_has_it() {
         *reached.entry((refusal.number, refusal.kind.map(|kind| kind as u32))).or_default() += 1;
     }
     println!("tables by refusal and kind: {reached:?}");
-    let [bridge, half_link, vid, member, end] = Kind::ALL.map(|kind| Some(kind as u32));
+    let [bridge, half_link, vid, member, traffic, end] = Kind::ALL.map(|kind| Some(kind as u32));
     let mut expected = vec![(1, None), (2, None), (3, None), (10, end), (6, end), (9, half_link)];
-    expected.extend([bridge, half_link, member].map(|kind| (3, kind)));
+    expected.extend([bridge, half_link, member, traffic].map(|kind| (3, kind)));
     expected.extend([bridge, half_link, member].map(|kind| (4, kind)));
-    expected.extend([bridge, half_link, vid, member].map(|kind| (5, kind)));
-    expected.extend([bridge, half_link, vid, member].map(|kind| (6, kind)));
-    expected.extend([half_link, member].map(|kind| (7, kind)));
-    expected.extend([bridge, half_link, vid, member].map(|kind| (8, kind)));
+    expected.extend([bridge, half_link, vid, member, traffic].map(|kind| (5, kind)));
+    expected.extend([bridge, half_link, vid, member, traffic].map(|kind| (6, kind)));
+    expected.extend([half_link, member, traffic].map(|kind| (7, kind)));
+    expected.extend([bridge, half_link, vid, member, traffic].map(|kind| (8, kind)));
     expected.sort_unstable();
     assert_eq!(reached.into_keys().collect::<Vec<_>>(), expected);
 }
@@ -93,6 +94,41 @@ fn sorts() -> Vec<Sort> {
         ("12 by links that are down", |plan| {
             down(plan) > 0 && is_changed_by(plan, Misreading::DownIgnored, false)
         }),
+        ("no traffic record", |plan| {
+            plan.traffic.is_empty() && plan.bridges.len() > 1 && !plan.vids.is_empty()
+        }),
+        ("one traffic record", |plan| plan.traffic.len() == 1),
+        ("a few traffic records", |plan| (2..=8).contains(&plan.traffic.len())),
+        ("256 traffic records", |plan| plan.traffic.len() == 256),
+        ("256 traffic records of fewer than 64 bridges", |plan| {
+            plan.traffic.len() == 256 && plan.bridges.len() < 64
+        }),
+        ("traffic in opposite directions", |plan| {
+            plan.traffic
+                .iter()
+                .any(|one| plan.traffic.iter().any(|other| one.name() == other.opposite().name()))
+        }),
+        ("traffic of several VIDs", |plan| plan.traffic.iter().any(|one| one.vid != plan.traffic[0].vid)),
+        ("traffic of one bridge to another in two VIDs", |plan| {
+            let ends = |traffic: &Traffic| (traffic.from, traffic.to);
+            let in_other_vid =
+                |one: &Traffic, other: &Traffic| ends(one) == ends(other) && one.vid != other.vid;
+            plan.traffic.iter().any(|one| plan.traffic.iter().any(|other| in_other_vid(one, other)))
+        }),
+        ("least amount", |plan| plan.traffic.iter().any(|traffic| traffic.amount == 1)),
+        ("greatest amount", |plan| plan.traffic.iter().any(|traffic| traffic.amount == u16::MAX)),
+        ("all traffic lost", |plan| has_loads(plan, |loads| loads.total == 0 && loads.lost > 0)),
+        ("some traffic lost", |plan| has_loads(plan, |loads| loads.total > 0 && loads.lost > 0)),
+        ("no traffic lost", |plan| has_loads(plan, |loads| loads.total > 0 && loads.lost == 0)),
+        ("no joined pair, traffic", |plan| has_loads(plan, |loads| loads.pairs.is_empty())),
+        ("joined pair without load", |plan| {
+            has_loads(plan, |loads| loads.total > 0 && loads.pairs.iter().any(|(_, sum)| *sum == 0))
+        }),
+        ("traffic of an overloaded bridge", |plan| {
+            let marked = |bridge: u16| plan.bridges[usize::from(bridge)].overloaded;
+            plan.traffic.iter().any(|traffic| marked(traffic.from) || marked(traffic.to))
+        }),
+        ("traffic, and half-links down", |plan| !plan.traffic.is_empty() && down(plan) > 0),
         ("tie of cost and hops", |plan| has_tie(plan, true)),
         ("tie of cost with other hops", |plan| has_tie(plan, false)),
     ]
@@ -157,6 +193,12 @@ fn has_overloaded_transmitter(plan: &Plan) -> bool {
     })
 }
 
+/// Whether the loads of a plan with traffic records are such.
+fn has_loads(plan: &Plan, such: fn(&Loads) -> bool) -> bool {
+    let checked = Checked::new(Rules::AS_WRITTEN, &plan.bytes()).expect("the plan is valid");
+    !plan.traffic.is_empty() && such(&Loads::of(&checked))
+}
+
 fn down(plan: &Plan) -> usize {
     plan.half_links.iter().filter(|half| half.down).count()
 }
@@ -211,6 +253,26 @@ fn every_sort_of_valid_plan_is_made() {
         let made = plans.iter().filter(|plan| has(plan)).count();
         println!("{name}: {made} of {} plans", plans.len());
         assert!(made > 0, "no plan has: {name}");
+    }
+}
+
+#[test]
+fn every_fault_of_a_traffic_record_is_made() {
+    let names: BTreeSet<String> = (0..CASES).map(|number| case(SEED, number).name).collect();
+    for name in [
+        "amount 0",
+        "traffic VID out of range",
+        "unknown traffic VID",
+        "unknown from",
+        "unknown to",
+        "from is to",
+        "to is from",
+        "traffic repeated",
+        "traffic repeated, other amount",
+        "lower kind",
+        "length 9544",
+    ] {
+        assert!(names.contains(&format!("damaged: {name}")), "no table is made with: {name}");
     }
 }
 

@@ -1,8 +1,9 @@
 //! The stored case of the program `probe_calls`: questions to the worked example of
 //! document 01, to the same bridges without links, to a small plan of a seed with no
 //! half-link down, to the table of one word and to refused tables; all paths, trees and
-//! entries of the diamond with overloaded bridges, and of the diamond and parallel links
-//! with half-links that are down; and tables with faults of such half-links.
+//! entries of the diamond with overloaded bridges, of the diamond and parallel links with
+//! half-links that are down, and of the diamond with traffic records; and tables with
+//! faults of such half-links and records.
 //! Holds a folder's `stdin` and `stdout` to it, or writes them with `--write`.
 
 use std::io;
@@ -15,7 +16,8 @@ use reference::check::read;
 use reference::comparing::stored;
 use reference::generate::questions::questions;
 use reference::generate::valid::{plan, Size};
-use reference::properties::fixture::{diamond, down, links_7_and_9, overloaded, with_bits};
+use reference::properties::fixture::{diamond, down, links_7_and_9, loaded, overloaded, with_bits};
+use reference::properties::loads::faulty_traffic;
 use reference::properties::ports_down::faulty_half_links_down;
 use reference::random::Random;
 use reference::records::{Kind, Member, Plan, BELOW_MARK_BIT, MARK_BIT};
@@ -60,6 +62,7 @@ fn asked() -> Vec<(Vec<u8>, Vec<Question>)> {
     asked.extend(overloaded_diamonds());
     asked.extend(with_half_links_down());
     asked.extend(refused_with_half_links_down());
+    asked.extend(with_traffic());
     asked
 }
 
@@ -91,11 +94,20 @@ fn with_half_links_down() -> Vec<(Vec<u8>, Vec<Question>)> {
 fn refused_with_half_links_down() -> Vec<(Vec<u8>, Vec<Question>)> {
     let zero_bit = with_bits(&diamond_of_service(), Kind::HalfLink, [MARK_BIT, MARK_BIT | BELOW_MARK_BIT]);
     let faulty = faulty_half_links_down().into_iter().map(|(plan, _)| plan.bytes());
-    let questions = vec![
-        Question::Path { vid: 1, from: 0, to: 3, places: 3 },
-        Question::Entries { bridge: 0, places: 2 },
-    ];
-    [zero_bit].into_iter().chain(faulty).map(|table| (table, questions.clone())).collect()
+    [zero_bit].into_iter().chain(faulty).map(|table| (table, two_questions())).collect()
+}
+
+/// Two traffic records of the diamond, which answers as without them; and faults of a
+/// second record.
+fn with_traffic() -> Vec<(Vec<u8>, Vec<Question>)> {
+    let plan = loaded(diamond_of_service(), &[(1, 5, 0, 3), (1, 65_535, 3, 0)]);
+    let faulty = faulty_traffic().into_iter().map(|(table, _)| (table, two_questions()));
+    [(plan.bytes(), every_question(&plan))].into_iter().chain(faulty).collect()
+}
+
+/// What a refused table is asked.
+fn two_questions() -> Vec<Question> {
+    vec![Question::Path { vid: 1, from: 0, to: 3, places: 3 }, Question::Entries { bridge: 0, places: 2 }]
 }
 
 /// The diamond with index 1 and 2, and all bridges members of one service.

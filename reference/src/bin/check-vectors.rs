@@ -1,7 +1,8 @@
 //! The stored case of the program `probe_check`: the worked example of document 01,
 //! an empty table, the table of one word, for each refusal number and kind one
 //! damaged table, the worked example with bits set in the first words of its bridges and
-//! half-links, and the diamond with half-links that are down and with faults of such.
+//! half-links, the diamond with half-links that are down and with faults of such, and with
+//! traffic records and faults of such; the longest table, and one word more.
 //! Holds a folder's `stdin` and `stdout` to it, or writes them with `--write`.
 
 use std::collections::BTreeMap;
@@ -13,9 +14,12 @@ use reference::arguments::{Arguments, Usage};
 use reference::check::read;
 use reference::check_line::{check_line, framed};
 use reference::comparing::stored;
-use reference::generate::damage::{edited_once, over_limit, truncations, words_after_end, Damaged};
-use reference::generate::valid::{plan as seeded_plan, Size};
-use reference::properties::fixture::{diamond, down, with_bits};
+use reference::generate::damage::{
+    edited_once, one_word_too_long, over_limit, truncations, words_after_end, Damaged,
+};
+use reference::generate::valid::{fullest, plan as seeded_plan, Size};
+use reference::properties::fixture::{diamond, down, loaded, with_bits};
+use reference::properties::loads::{accepted_traffic, faulty_traffic, loaded_diamond};
 use reference::properties::ports_down::faulty_half_links_down;
 use reference::random::Random;
 use reference::records::{Kind, Plan, BELOW_MARK_BIT, MARK_BIT};
@@ -44,10 +48,16 @@ fn tables() -> Vec<Vec<u8>> {
     damaged.extend((0..9).map(|_| words_after_end(&plan, &mut random)));
     damaged.extend(edited_once(&seeded_plan(Size { bridges: 3, vids: 2, members: 2 }, &mut random)));
     damaged.extend(over_limit(&mut random));
+    let traffic = loaded(plan.clone(), &[(10, 5, 0, 1), (10, 7, 1, 0)]);
+    damaged.extend(edited_once(&traffic));
+    damaged.extend(truncations(&traffic));
     let mut tables = vec![worked, Vec::new(), bytes_of(&[0xF000_0000])];
     tables.extend(one_for_each(damaged).into_values().map(|damaged| damaged.table));
     tables.extend([Kind::Bridge, Kind::HalfLink].iter().flat_map(|&kind| worked_with_bits(&plan, kind)));
     tables.extend(diamonds_with_half_links_down());
+    tables.extend(tables_with_traffic(&plan));
+    tables.push(fullest(&mut random).bytes());
+    tables.push(one_word_too_long(&mut random).table);
     tables
 }
 
@@ -69,6 +79,15 @@ fn diamonds_with_half_links_down() -> Vec<Vec<u8>> {
     let accepted = choices.map(|half_links| down(diamond([0x8000; 4]), half_links));
     let faulty = faulty_half_links_down().into_iter().map(|(plan, _)| plan);
     accepted.into_iter().chain(faulty).map(|plan| plan.bytes()).collect()
+}
+
+/// The worked example of document 02, A5; two records of the diamond that do not repeat
+/// each other; and faults of the second.
+fn tables_with_traffic(worked: &Plan) -> Vec<Vec<u8>> {
+    let mut plans = vec![loaded(worked.clone(), &[(10, 5, 0, 1)])];
+    plans.extend(accepted_traffic().iter().map(|traffic| loaded_diamond(traffic)));
+    let faulty = faulty_traffic().into_iter().map(|(table, _)| table);
+    plans.iter().map(Plan::bytes).chain(faulty).collect()
 }
 
 /// The first of the damaged tables for each refusal number and kind.

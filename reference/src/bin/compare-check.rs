@@ -11,6 +11,7 @@ use reference::arguments::{Arguments, Usage};
 use reference::check_line::{check_line, framed};
 use reference::comparing::{started, Difference, Run};
 use reference::generate::every::{every_truncation, every_word_damage};
+use reference::generate::traffic::traffic;
 use reference::generate::valid::{fullest, plan, Size};
 use reference::path::exported_check;
 use reference::program::Program;
@@ -23,6 +24,10 @@ const USAGE: Usage = Usage {
     values: &["program", "under", "seed", "first", "count", "damaged", "misread"],
     flags: &["longest", "exported", "require"],
 };
+
+/// How many traffic records the tables have that are truncated and damaged, where they
+/// have two bridges or more.
+const TRAFFIC_RECORDS: usize = 3;
 
 fn main() -> ExitCode {
     let arguments = Arguments::of_process(&USAGE);
@@ -64,7 +69,9 @@ fn damage_all(probe: &mut Probe, run: &Run, count: u64, longest: bool) -> Result
     for number in 0..count {
         let mut random = Random::for_case(run.seed, number);
         let size = Size { bridges: 2 + number as usize, vids: 2, members: 3 };
-        let table = plan(size, &mut random).bytes();
+        let mut plan = plan(size, &mut random);
+        plan.traffic = traffic(&plan, TRAFFIC_RECORDS, &mut random);
+        let table = plan.bytes();
         compare(&format!("damaged table {number}"), &mut every_truncation(&table))?;
         compare(&format!("damaged table {number}"), &mut every_word_damage(&table))?;
     }

@@ -1,6 +1,7 @@
 //! Writes generated tables to files: the cases of a seed, with `--shape` one full
-//! network of that shape and number of bridges, or with `--longest-list` the star
-//! whose middle bridge has the longest entry list.
+//! network of that shape and number of bridges, with `--traffic` the same with so many
+//! traffic records, or with `--longest-list` the star whose middle bridge has the longest
+//! entry list.
 
 use std::fs;
 use std::io;
@@ -10,13 +11,14 @@ use reference::arguments::{Arguments, Usage};
 use reference::comparing::Run;
 use reference::generate::shapes::Shape;
 use reference::generate::stream::case;
+use reference::generate::traffic::traffic;
 use reference::generate::valid::{fullest_of_shape, longest_star};
 use reference::random::Random;
-use reference::records::Plan;
+use reference::records::{Kind, Plan};
 
 const USAGE: Usage = Usage {
-    text: "table-generator --folder NAME [--seed N] [--first N] [--count N] [--shape NAME --bridges N | --longest-list]",
-    values: &["folder", "seed", "first", "count", "shape", "bridges"],
+    text: "table-generator --folder NAME [--seed N] [--first N] [--count N] [--shape NAME --bridges N [--traffic N] | --longest-list]",
+    values: &["folder", "seed", "first", "count", "shape", "bridges", "traffic"],
     flags: &["longest-list"],
 };
 
@@ -41,8 +43,16 @@ fn write_shape(arguments: &Arguments, folder: &Path, name: &str) -> io::Result<(
         arguments.refuse("--bridges: 8 to 64");
     }
     let mut random = Random::new(arguments.number("seed", 1));
-    let plan = fullest_of_shape(shape, bridges as usize, &mut random);
-    write_table(&folder.join(format!("{name}-{bridges}.table")), &plan)
+    let mut plan = fullest_of_shape(shape, bridges as usize, &mut random);
+    let records = arguments.number("traffic", 0) as usize;
+    if records == 0 {
+        return write_table(&folder.join(format!("{name}-{bridges}.table")), &plan);
+    }
+    if records > Kind::Traffic.limit() {
+        arguments.refuse("--traffic: 0 to 256");
+    }
+    plan.traffic = traffic(&plan, records, &mut random);
+    write_table(&folder.join(format!("{name}-traffic-{bridges}.table")), &plan)
 }
 
 fn write_table(file: &Path, plan: &Plan) -> io::Result<()> {

@@ -1,5 +1,6 @@
 //! Times a listing program and a yardstick on one table, run in turn, output
-//! included: the median of the runs in milliseconds, and their ratio.
+//! included: the median of the runs in milliseconds, and their ratio. With `--without`
+//! the yardstick is the program itself on that table, the same without traffic records.
 
 use std::fs::File;
 use std::io;
@@ -10,15 +11,19 @@ use std::time::Instant;
 use reference::arguments::{Arguments, Usage};
 
 const USAGE: Usage = Usage {
-    text: "time-listing --program FILE --yardstick FILE --table FILE [--runs N]",
-    values: &["program", "yardstick", "table", "runs"],
+    text: "time-listing --program FILE --table FILE (--yardstick FILE | --without FILE) [--runs N]",
+    values: &["program", "yardstick", "table", "without", "runs"],
     flags: &[],
 };
 
 fn main() -> io::Result<()> {
     let arguments = Arguments::of_process(&USAGE);
-    let [program, yardstick, table] = ["program", "yardstick", "table"].map(|name| arguments.required(name));
+    let [program, table] = ["program", "table"].map(|name| arguments.required(name));
     let runs = arguments.number("runs", 21).max(1);
+    if let Some(without) = arguments.text("without") {
+        return time_traffic(program, table, without, runs);
+    }
+    let yardstick = arguments.required("yardstick");
     let built = Path::new(program).is_file();
     let (mut ours, mut theirs) = (Vec::new(), Vec::new());
     for _ in 0..runs {
@@ -34,6 +39,22 @@ fn main() -> io::Result<()> {
     } else {
         println!("{table}: Boost {theirs:.1} ms; not built yet: {program}");
     }
+    Ok(())
+}
+
+/// A table with traffic records and the same without them, in turn.
+fn time_traffic(program: &str, table: &str, without: &str, runs: u64) -> io::Result<()> {
+    if !Path::new(program).is_file() {
+        println!("{table}: not built yet: {program}");
+        return Ok(());
+    }
+    let (mut before, mut after) = (Vec::new(), Vec::new());
+    for _ in 0..runs {
+        before.push(milliseconds(program, without)?);
+        after.push(milliseconds(program, table)?);
+    }
+    let [before, after] = [before, after].map(median);
+    println!("{table}: without records {before:.1} ms, with {after:.1} ms, ratio {:.2}", after / before);
     Ok(())
 }
 

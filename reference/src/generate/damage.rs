@@ -5,6 +5,7 @@ use std::collections::BTreeSet;
 
 use super::edits::{edits, places, Edit, Place};
 use super::shapes::Shape;
+use super::traffic::traffic;
 use super::valid::{full_network, fullest, plan, Size};
 use crate::check::LONGEST_TABLE;
 use crate::random::Random;
@@ -27,11 +28,12 @@ impl Damaged {
 /// A damaged table of any family.
 pub fn damaged(random: &mut Random) -> Damaged {
     let plan = plan(Size::up_to(10, random), random);
-    let mut family = match random.between(0, 5) {
+    let mut family = match random.between(0, 7) {
         0 => truncations(&plan),
         1 => vec![words_after_end(&plan, random)],
         2 => vec![edited_and_cut(&plan, random)],
         3 => over_limit(random),
+        4 => vec![edited_traffic(random)],
         _ => vec![edited_twice(&plan, random)],
     };
     family.swap_remove(random.below(family.len()))
@@ -50,6 +52,13 @@ pub fn wrong_lengths(random: &mut Random) -> Vec<Damaged> {
         Damaged { name: format!("length {length}"), table, refusal: Refusal::LENGTH }
     };
     lengths.into_iter().map(with_length).collect()
+}
+
+/// The longest table and one word more: it is not read.
+pub fn one_word_too_long(random: &mut Random) -> Damaged {
+    let mut table = fullest(random).bytes();
+    table.extend(random_word(random).to_be_bytes());
+    Damaged { name: format!("length {}", table.len()), table, refusal: Refusal::LENGTH }
 }
 
 /// Every shorter length of a table.
@@ -105,6 +114,18 @@ pub fn edited_once(plan: &Plan) -> Vec<Damaged> {
     edits(plan).iter().map(damaged).collect()
 }
 
+/// An edit of a traffic record. Such records come last, and of two faulty records the
+/// first counts.
+pub fn edited_traffic(random: &mut Random) -> Damaged {
+    let size = Size { bridges: 2 + random.below(9), vids: 1 + random.below(3), members: random.below(5) };
+    let mut plan = plan(size, random);
+    plan.traffic = traffic(&plan, 2 + random.below(7), random);
+    let mut edits = edits(&plan);
+    edits.retain(|edit| edit.kind == Kind::Traffic);
+    let edit = pick_edit(&edits, random);
+    Damaged::of_words(edit.name, &edit.applied(&plan.words()), edit.refusal)
+}
+
 /// An edit of a refusal number and a kind that are drawn first, so that rare ones come
 /// too.
 fn pick_edit<'a>(edits: &'a [Edit], random: &mut Random) -> &'a Edit {
@@ -151,7 +172,7 @@ pub fn edited_and_cut(plan: &Plan, random: &mut Random) -> Damaged {
 
 /// One record over each limit: 5 after its 4, before its 6 to 9.
 pub fn over_limit(random: &mut Random) -> Vec<Damaged> {
-    let kinds = [Kind::Bridge, Kind::HalfLink, Kind::Vid, Kind::Member];
+    let kinds = [Kind::Bridge, Kind::HalfLink, Kind::Vid, Kind::Member, Kind::Traffic];
     kinds.into_iter().flat_map(|kind| one_over(kind, random)).collect()
 }
 
@@ -202,6 +223,7 @@ fn plan_with_one_over(kind: Kind, random: &mut Random) -> Plan {
             plan.half_links.truncate(2);
             plan.members = (0..65).map(member_of_own_service).collect();
         }
+        Kind::Traffic => plan.traffic = traffic(&plan, Kind::Traffic.limit() + 1, random),
         Kind::Bridge | Kind::End => plan.half_links.clear(),
     }
     plan

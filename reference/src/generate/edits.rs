@@ -1,7 +1,7 @@
 //! Edits of one record of a valid plan that make it faulty, each with the refusal
 //! that it leads to. Every record, field and limit of a range is edited.
 
-use crate::records::{Bridge, HalfLink, Kind, Member, Plan, Vid, GROUP_BIT, MARK_BIT};
+use crate::records::{Bridge, HalfLink, Kind, Member, Plan, Traffic, Vid, GROUP_BIT, MARK_BIT};
 use crate::refusal::Refusal;
 
 /// A record of a plan: its kind, its number among its kind, its first word.
@@ -62,6 +62,7 @@ pub fn edits(plan: &Plan) -> Vec<Edit> {
             Kind::HalfLink => editor.edit_half_link(),
             Kind::Vid => editor.edit_vid(),
             Kind::Member => editor.edit_member(),
+            Kind::Traffic => editor.edit_traffic(),
             Kind::End => editor.edit_end(),
         }
         all.extend(editor.edits);
@@ -276,13 +277,40 @@ impl Editor<'_> {
         for bridge in [self.plan.bridges.len() as u16, 65_535] {
             self.add("unknown member bridge", 7, &Member { bridge, ..member }.words());
         }
-        let lacking = |vid: &u16| self.plan.index_of_vid(*vid).is_none();
-        if let Some(vid) = (1..=4_094).find(lacking) {
+        if let Some(vid) = self.unknown_vid() {
             self.add("unknown member VID", 7, &Member { vid, ..member }.words());
         }
         for place in self.earlier() {
             let Member { service, bridge, vid, .. } = self.plan.members[place];
             self.add("member repeated", 8, &Member { service, bridge, vid, ..member }.words());
+        }
+    }
+
+    /// The least VID without a record.
+    fn unknown_vid(&self) -> Option<u16> {
+        (1..=4_094).find(|&vid| self.plan.index_of_vid(vid).is_none())
+    }
+
+    fn edit_traffic(&mut self) {
+        let traffic = self.plan.traffic[self.place.number];
+        self.add("amount 0", 6, &Traffic { amount: 0, ..traffic }.words());
+        for vid in [0, 4_095] {
+            self.add("traffic VID out of range", 6, &Traffic { vid, ..traffic }.words());
+        }
+        if let Some(vid) = self.unknown_vid() {
+            self.add("unknown traffic VID", 7, &Traffic { vid, ..traffic }.words());
+        }
+        for bridge in [self.plan.bridges.len() as u16, 65_535] {
+            self.add("unknown from", 7, &Traffic { from: bridge, ..traffic }.words());
+            self.add("unknown to", 7, &Traffic { to: bridge, ..traffic }.words());
+        }
+        self.add("from is to", 7, &Traffic { from: traffic.to, ..traffic }.words());
+        self.add("to is from", 7, &Traffic { to: traffic.from, ..traffic }.words());
+        for place in self.earlier() {
+            let earlier = self.plan.traffic[place];
+            self.add("traffic repeated", 8, &earlier.words());
+            let other_amount = Traffic { amount: earlier.amount % u16::MAX + 1, ..earlier };
+            self.add("traffic repeated, other amount", 8, &other_amount.words());
         }
     }
 

@@ -11,4 +11,5 @@ pub mod service_questions;
 pub mod shapes;
 pub mod stream;
 pub mod sub_tlvs;
+pub mod traffic;
 pub mod valid;

@@ -1,12 +1,13 @@
 //! Valid plans of every shape: ties, parallel links, asymmetric and unusable
 //! metrics, lone half-links, parts that are apart, equal and varied priorities,
-//! overloaded bridges, half-links that are down, largest sizes, and the star that
-//! reaches the longest entry list.
+//! overloaded bridges, half-links that are down, traffic records, largest sizes, and the
+//! star that reaches the longest entry list.
 
 use std::collections::BTreeSet;
 
 use super::ports_down::with_ports_down;
 use super::shapes::Shape;
+use super::traffic::{traffic, with_traffic};
 use crate::random::Random;
 use crate::records::{
     Bridge, HalfLink, Kind, Member, Plan, Vid, GREATEST_USABLE_METRIC, GROUP_BIT, LEAST_METRIC,
@@ -50,15 +51,17 @@ pub fn plan_of_shape(shape: Shape, size: Size, random: &mut Random) -> Plan {
     let half_links = half_links(&pairs, random);
     let vids = vids(size.vids, random);
     let members = members(size, &vids, random);
-    with_marks(Plan { bridges, half_links, vids, members }, random)
+    let plan = Plan { bridges, half_links, vids, members, ..Plan::default() };
+    let mut beside = random.beside();
+    let plan = with_marks(plan, &mut beside);
+    with_traffic(plan, &mut beside)
 }
 
-/// The plan with overloaded bridges and half-links that are down, drawn from a source
-/// of their own.
-fn with_marks(plan: Plan, random: &Random) -> Plan {
-    let mut beside = random.beside();
-    let plan = with_overload(plan, &mut beside);
-    with_ports_down(plan, &mut beside)
+/// The plan with overloaded bridges and half-links that are down. They and the traffic
+/// records are drawn from a source of their own.
+fn with_marks(plan: Plan, beside: &mut Random) -> Plan {
+    let plan = with_overload(plan, beside);
+    with_ports_down(plan, beside)
 }
 
 /// The plan with overloaded bridges: none in a third of the plans, else one, one in
@@ -288,6 +291,7 @@ pub fn longest_star() -> Plan {
         half_links: (1..64).flat_map(ends).collect(),
         vids: (1..=16).map(|number| Vid { vid: number, index: number }).collect(),
         members: (0..64).map(member).collect(),
+        ..Plan::default()
     }
 }
 
@@ -296,10 +300,13 @@ pub fn longest_star() -> Plan {
 pub fn fullest(random: &mut Random) -> Plan {
     let shape = *random.pick(&Shape::MEASURED);
     let plan = fullest_of_shape(shape, Kind::Bridge.limit(), random);
-    with_marks(plan, random)
+    let mut beside = random.beside();
+    let mut plan = with_marks(plan, &mut beside);
+    plan.traffic = traffic(&plan, Kind::Traffic.limit(), &mut beside);
+    plan
 }
 
-/// A full network with all 16 VIDs and a member for each bridge.
+/// A full network with all 16 VIDs and a member for each bridge, without traffic records.
 pub fn fullest_of_shape(shape: Shape, size: usize, random: &mut Random) -> Plan {
     let mut plan = full_network(shape, size, random);
     plan.vids = (1..=16).map(|number| Vid { vid: 100 + number, index: number }).collect();
@@ -337,6 +344,6 @@ pub fn full_network(shape: Shape, size: usize, random: &mut Random) -> Plan {
         bridges: bridges(size, random),
         half_links,
         vids: vec![Vid { vid: 1, index: 1 }],
-        members: Vec::new(),
+        ..Plan::default()
     }
 }

@@ -48,6 +48,7 @@ pub fn demand_3_on_largest_plans(setting: &Setting) -> Outcome {
     let mut full = fullest(&mut random);
     // Three VIDs are enough for the members; sixteen would take long.
     full.vids.truncate(3);
+    full.traffic.retain(|record| full.vids.iter().any(|vid| vid.vid == record.vid));
     holds_for(setting, &full)?;
     for _ in 0..setting.tables / 1_000 {
         let size = Size { vids: 2, ..Size::LARGEST };

@@ -109,7 +109,7 @@ pub fn places_for_two_hops(setting: &Setting) -> Outcome {
     equal("list", two, [7; 2])
 }
 
-/// 7,492 bytes are accepted; one word more is 1, whatever it holds.
+/// 9,540 bytes are accepted; one word more is 1, whatever it holds.
 pub fn longest_table(setting: &Setting) -> Outcome {
     let mut table = down(fullest(&mut Random::new(setting.seed)), &[]).bytes();
     equal("length", table.len(), LONGEST_TABLE)?;

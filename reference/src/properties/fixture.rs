@@ -5,7 +5,7 @@ use crate::entries::{entries, LONGEST_LIST};
 use crate::generate::edits::places;
 use crate::lookup::lookup;
 use crate::path::{path, PathAnswer};
-use crate::records::{Bridge, HalfLink, Kind, Plan, Vid, UNUSABLE_METRIC};
+use crate::records::{Bridge, HalfLink, Kind, Plan, Traffic, Vid, UNUSABLE_METRIC};
 use crate::refusal::Refusal;
 use crate::rules::Rules;
 use crate::words::bytes_of;
@@ -124,6 +124,13 @@ pub fn down(mut plan: Plan, half_links: &[usize]) -> Plan {
     for (number, half_link) in plan.half_links.iter_mut().enumerate() {
         half_link.down = half_links.contains(&number);
     }
+    plan
+}
+
+/// The plan with these traffic records, by VID, amount, from and to, and no others.
+pub fn loaded(mut plan: Plan, traffic: &[(u16, u16, u16, u16)]) -> Plan {
+    let record = |&(vid, amount, from, to): &(u16, u16, u16, u16)| Traffic { vid, amount, from, to };
+    plan.traffic = traffic.iter().map(record).collect();
     plan
 }
 

@@ -3,6 +3,7 @@
 
 use super::agreement::for_small_plans;
 use super::fixture::{ends, plan as fixed_plan};
+use super::loads::expected_load_lines;
 use super::{ensure, equal, Outcome, Setting};
 use crate::check::{check, read};
 use crate::entries::{entries, LONGEST_LIST};
@@ -87,6 +88,12 @@ fn expected_lines(setting: &Setting, plan: &Plan, table: &[u8]) -> Result<Vec<St
         };
         lines.extend(decoded(&list[..written]).into_iter().map(line));
     }
+    lines.extend(expected_load_lines(plan, &|traffic| {
+        let mut lent = [0; 64];
+        let question = (traffic.vid.into(), traffic.from.into(), traffic.to.into());
+        let answer = path(setting.rules, table, question, &mut lent).ok()?;
+        Some(lent[..=answer.hops].iter().map(|&bridge| bridge as usize).collect())
+    }));
     Ok(lines)
 }
 

@@ -7,6 +7,7 @@ pub mod demand3;
 pub mod figures;
 pub mod fixture;
 pub mod listings;
+pub mod loads;
 pub mod lookups;
 pub mod overload;
 pub mod ports_down;
@@ -55,6 +56,10 @@ properties! {
         half_link_mark_alone_accepted, faulty_half_links_refused, tables_without_ports_down_list_as_before,
         half_links_down_list_as_withdrawn, parts_joined_by_links_down_alone, ports_down_take_paths_away,
         frames_lost_at_links_down;
+    loads: worked_loads, diamond_loads, loads_without_joined_pairs, lost_amounts, each_joined_pair_has_a_line,
+        faulty_traffic_refused, traffic_that_is_no_repeat, most_traffic_records,
+        tables_without_traffic_list_as_before, loads_come_last, loads_agree_with_brute_force,
+        sums_of_loads_agree, sums_of_loads_agree_on_largest_plans;
     standard: masks_of_table_28_1, fewer_bridges_first, higher_fourth_bridge, complement_is_not_greatest,
         equal_priorities, group_addresses;
     tables: every_edit_refused, every_truncation_refused, wrong_lengths_refused, words_after_end_refused,

@@ -11,7 +11,7 @@ use crate::generate::damage::{
 use crate::generate::stream::{case, Case};
 use crate::generate::valid::{plan as random_plan, Size};
 use crate::random::Random;
-use crate::records::{Bridge, HalfLink, Member, Plan, Vid, UNUSABLE_METRIC};
+use crate::records::{Bridge, HalfLink, Member, Plan, Traffic, Vid, UNUSABLE_METRIC};
 
 fn refused(setting: &Setting, damaged: &Damaged) -> Outcome {
     let found = check(setting.rules, &damaged.table);
@@ -70,11 +70,13 @@ pub fn ends_of_ranges_accepted(setting: &Setting) -> Outcome {
     let mirror = |half: HalfLink| HalfLink { near: half.far, far: half.near, ..half };
     let member = Member { transmits: false, receives: false, service: 256, bridge: 0, vid: 1 };
     let members = [(256, 0, 1), (16_777_214, 0, 1), (256, 1, 1), (256, 0, 4_094)];
+    let traffic = [(1, 1, 0, 1), (1, 65_535, 1, 0), (4_094, 1, 0, 1), (2, 65_535, 0, 1)];
     let plan = Plan {
         bridges: vec![one, two],
         half_links: vec![least, greatest, mirror(greatest), mirror(least)],
         vids: vec![Vid { vid: 1, index: 16 }, Vid { vid: 4_094, index: 1 }, Vid { vid: 2, index: 1 }],
         members: members.map(|(service, bridge, vid)| Member { service, bridge, vid, ..member }).to_vec(),
+        traffic: traffic.map(|(vid, amount, from, to)| Traffic { vid, amount, from, to }).to_vec(),
     };
     let counts = Counts { bridges: 2, half_links: 4, usable_links: 1, vids: 3, members: 4 };
     equal("ends of ranges", check(setting.rules, &plan.bytes()), Ok(counts))?;
