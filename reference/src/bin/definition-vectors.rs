@@ -6,10 +6,12 @@
 
 use reference::arguments::{Arguments, Usage};
 use reference::check::check;
+use reference::checked::Checked;
 use reference::entries::entries;
 use reference::generate::damage::damaged;
 use reference::generate::sub_tlvs::{damaged_sub_tlv, valid_sub_tlv};
 use reference::generate::valid::{plan, Size};
+use reference::loads::Loads;
 use reference::lookup::lookup;
 use reference::path::{exported_path_cost, path};
 use reference::properties::fixture::{diamond, down, links_7_and_9, overloaded};
@@ -52,7 +54,7 @@ const OLD_BYTE: u8 = 7;
 const HEADER: &str = "-- Made by reference/compare-definitions. Assumes nothing.
 use Prim.Native.Nat.{ℕ}
 use mathlib.Core.Path.{_≡_, refl}
-use mathlib.Core.List.{List, [], _∷_, flatMap}
+use mathlib.Core.List.{List, [], _∷_, _++_, flatMap}
 use mathlib.Core.Option.{none, some}
 use Rattle.lists.specs.Lists.{rising, selected, anyPasses, firstPassing, lowestBy}
 use Rattle.graph.specs.Order.{insertUpward, sorted, isLower}
@@ -60,9 +62,12 @@ use Rattle.graph.specs.Graph.{costOnward}
 use Rattle.graph.specs.Chosen.{neighbours, onward, paths, chosen}
 use Rattle.rule.specs.Words.{wordsOf}
 use Rattle.rule.specs.Records.{layoutOf}
-use Rattle.rule.specs.Outcome.{answered, refused}
+use Rattle.graph.specs.Pairs.{joinedPairs, takes}
+use Rattle.rule.specs.Outcome.{Outcome, answered, refused}
+use Rattle.rule.specs.Plan.{Plan}
 use Rattle.rule.specs.Check.{lowestFault, readOn, verdict}
-use Rattle.rule.specs.Links.{linksOf, usableLinks, countUsable, linksBetween, hopLink}
+use Rattle.rule.specs.Links.{linksOf, usableLinks, countUsable, linksBetween, hopLink, graphOf}
+use Rattle.rule.specs.Loads.{ownIndexes, trafficPath, loadOf, totalLoad, lostLoad}
 use Rattle.rule.specs.Identifiers.{maskedBytes, maskedIdentifier}
 use Rattle.rule.specs.Paths.{chosenPath}
 use Rattle.rule.specs.Entries.{entryListOf, entriesOf, individualEntries, groupEntries, listedPorts, receiverPorts, leavingPort}
@@ -70,6 +75,13 @@ use Rattle.rule.specs.Calls.{checkOutcome, pathAnswer, pathOutcome, entriesAnsw
 use Rattle.rule.specs.Lookup.{lookupOutcome, matchingPorts, faultyList, entriesIn}
 use Rattle.rule.specs.Exported.{exportedPathCost}
 use Rattle.rule.specs.Services.{subTlvWords, afterServices, readServicesAnswer, readServicesOutcome, subTlvs, writeServicesAnswer, writeServicesOutcome}
+
+-- Lower bridge, higher bridge and load of each joined pair, then total and lost.
+abbrev loads : Outcome Plan → List ℕ
+loads (answered p) =
+    flatMap (λ q. q .lower ∷ q .higher ∷ loadOf p (ownIndexes p) (p .traffic) q ∷ []) (joinedPairs (graphOf p))
+    ++ (totalLoad p (ownIndexes p) (p .traffic) ∷ lostLoad p (ownIndexes p) (p .traffic) ∷ [])
+loads (refused number kind at) = []
 ";
 
 /// What the checker opens to compute an outcome.
@@ -77,7 +89,7 @@ const UNFOLDING: &str = "unfolding wordsOf layoutOf lowestFault readOn verdict l
   maskedBytes maskedIdentifier chosenPath entryListOf entriesOf individualEntries groupEntries listedPorts receiverPorts leavingPort
   checkOutcome pathAnswer pathOutcome entriesAnswer entriesOutcome treeOutcome treeOf lastButOne lookupOutcome matchingPorts
   faultyList entriesIn exportedPathCost subTlvWords afterServices readServicesAnswer readServicesOutcome subTlvs writeServicesAnswer
-  writeServicesOutcome rising selected anyPasses firstPassing lowestBy insertUpward sorted isLower costOnward neighbours onward paths chosen flatMap";
+  writeServicesOutcome joinedPairs takes trafficPath loadOf totalLoad lostLoad rising selected anyPasses firstPassing lowestBy insertUpward sorted isLower costOnward neighbours onward paths chosen flatMap";
 
 fn main() {
     let arguments = Arguments::of_process(&USAGE);
@@ -191,6 +203,20 @@ impl Vectors {
             self.entries(&table, bridge);
         }
         self.services(plan, &table);
+        self.loads(&table);
+    }
+
+    /// What each joined pair carries, total and lost.
+    fn loads(&mut self, table: &[u8]) {
+        let checked = Checked::new(Rules::AS_WRITTEN, table).expect("a valid plan is accepted");
+        let Loads { pairs, total, lost } = Loads::of(&checked);
+        let numbers = pairs.iter().flat_map(|&((lower, higher), load)| [lower as u64, higher as u64, load]);
+        let expected: String = numbers
+            .chain([total, lost])
+            .map(|number| format!("{number} ∷ "))
+            .chain(["[]".to_string()])
+            .collect();
+        self.equation(&format!("loads (verdict {})", self.name), &expected);
     }
 
     /// For each VID a bridge written, which the table lacks at times, and sub-TLVs read.
