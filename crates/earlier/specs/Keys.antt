@@ -27,9 +27,11 @@ memberKey m = m .isid * 64 + m .bridge
 abbrev pub vidKey : Vid → ℕ
 vidKey v = v .vid
 
--- VID, from and to: with bridge numbers of 16 bits less than is compared.
+-- VID, from and to, less than is compared: with bridge numbers below 64 no two keys are equal, above that they may be. By these factors
+-- the chain of a key goes up by 9 for a VID, by 73 for from and by 1 for to, so that traffic of many VIDs, from many bridges or to many
+-- falls to different chains.
 abbrev pub trafficKey : Traffic → ℕ
-trafficKey t = t .vid * 65536 + t .from * 64 + t .to
+trafficKey t = t .vid * 65537 + t .from * 73 + t .to
 
 -- The first `n` bridges are in the two indexes.
 pub record BridgeIndexes (sources addresses ws : List ℕ) (n : ℕ) : Type 0 where

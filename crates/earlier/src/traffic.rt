@@ -68,12 +68,17 @@ fn repeats_any_traffic(table: &[u8], from: usize, count: usize, t: Traffic) -> b
     false
 }
 
-// The key of a traffic record: its VID, from and to. Bridges of the plan have numbers below 64, so that their keys differ.
+// What a VID and a from count in the key of a traffic record.
+const VID_FACTOR: u32 = 65537;
+
+const FROM_FACTOR: u32 = 73;
+
+// The key of a traffic record: its VID, from and to. Bridges of a plan have numbers below 64, so that their keys differ.
 pub fn traffic_key(vid: u32, from: u32, to: u32) -> u32
     requires { ⌜ (vid < 4096) × (from < 65536) × (to < 65536) ⌝ }
-    ensures { λ r. ⌜ r ≡ vid * 65536 + from * 64 + to ⌝ }
+    ensures { λ r. ⌜ r ≡ vid * 65537 + from * 73 + to ⌝ }
 {
-    vid * 65536 + from * 64 + to
+    vid * VID_FACTOR + from * FROM_FACTOR + to
 }
 
 // Whether one of the `count` traffic records from the word `from` on, which are in the index, is repeated.
