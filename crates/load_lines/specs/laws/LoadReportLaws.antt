@@ -1,7 +1,7 @@
 -- The load report of a table, by its traffic as words, its own indexes, and the loads of its pairs. Assumes nothing.
 use Prim.Native.Nat.{ℕ, _*_, _≤_, _<_}
 use native.Mathlib.Omega.{arith}
-use mathlib.Core.Path.{_≡_, refl, sym, ap, _∙_, subst}
+use mathlib.Core.Path.{_≡_, sym, ap, _∙_, subst}
 use mathlib.Core.List.{List, _++_, flatMap}
 use lib.ListN.{length, getD, length-map}
 use Rattle.lists.specs.Appending.{Appended}
@@ -13,7 +13,7 @@ use Rattle.lists.specs.laws.GivenLaws.{flatMap-same}
 use Rattle.graph.specs.Pairs.{Pair, joinedPairs}
 use Rattle.graph.specs.laws.PairLaws.{pair-joined}
 use Rattle.rule.specs.Words.{wordsOf}
-use Rattle.rule.specs.Records.{Vid, Traffic, vidOf, trafficOf}
+use Rattle.rule.specs.Records.{vidOf, trafficOf}
 use Rattle.rule.specs.Plan.{Plan, hasVid, vidRecord}
 use Rattle.rule.specs.PlanLaws.{TrafficFits}
 use Rattle.rule.specs.Links.{graphOf}

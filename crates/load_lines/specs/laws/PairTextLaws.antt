@@ -1,5 +1,5 @@
 -- The lines written by the ports of hops are those of the joined pairs (02, A5). Assumes nothing.
-use Prim.Native.Nat.{ℕ, _+_, _*_, _≤_, _<_, min, max}
+use Prim.Native.Nat.{ℕ, _+_, _*_, _≤_, _<_}
 use native.Mathlib.Omega.{arith}
 use mathlib.Core.Path.{_≡_, refl, sym, ap, _∙_, subst}
 use mathlib.Core.List.{List, [], _∷_, flatMap}
@@ -13,7 +13,7 @@ use Rattle.lists.specs.Appending.{Appended, eachOf}
 use Rattle.lists.specs.laws.AppendingLaws.{appended-nothing, AppendingFew, few-starts, few-room, few-goes-on, few-ends}
 use Rattle.lists.specs.laws.SelectedLaws.{rising-in}
 use Rattle.lists.specs.laws.GivenLaws.{flatMap-map, flatMap-selected, flatMap-same, flatMap-flatMap}
-use Rattle.graph.specs.Pairs.{Pair, pairsOf, joinedPairs}
+use Rattle.graph.specs.Pairs.{pairsOf, joinedPairs}
 use Rattle.graph.specs.Chosen.{neighbours}
 use Rattle.rule.specs.Plan.{Plan}
 use Rattle.rule.specs.Links.{Link, hopLink, graphOf, costOf}

@@ -4,23 +4,20 @@ use native.Mathlib.Omega.{arith}
 use native.Mathlib.Nat.{mul-le-mul-right}
 use native.Mathlib.Numerals.{add-one}
 use mathlib.Core.Path.{_≡_, refl, sym, ap, _∙_, subst}
-use mathlib.Core.List.{List, [], _∷_}
-use mathlib.Core.Option.{Option, none, some}
+use mathlib.Core.List.{List, _∷_}
 use mathlib.Core.Logic.{inl, inr}
 use mathlib.Core.Bool.{Bool, true, false, cond}
-use lib.Dec.{T}
 use lib.ListN.{length, getD, length-set}
 use borrow.Author.Tests.{eq-eqb, ne-eqb}
 use Rattle.lists.specs.Members.{In, EveryTwo}
 use Rattle.lists.specs.laws.ListNotions.{Distinct}
 use Rattle.lists.specs.laws.DistinctLaws.{every-two-distinct}
-use Rattle.lists.specs.laws.NumberLaws.{either-left, is-true}
+use Rattle.lists.specs.laws.NumberLaws.{is-true}
 use Rattle.graph.specs.Pairs.{Pair, isHopOf, takes}
 use Rattle.graph.specs.laws.PairLaws.{taken-once}
 use Rattle.labels.specs.Labels.{noCost, labelAt}
-use Rattle.path.specs.Followed.{followed, Inside}
+use Rattle.path.specs.Followed.{followed}
 use Rattle.path.specs.laws.FollowedLaws.{followed-length}
-use Rattle.rule.specs.Loads.{hopsOf}
 use Rattle.loads.specs.Places.{Placed, loadAt, hopPlace, hopAdded, Room, PathAdded}
 use Rattle.loads.specs.Sums.{PassesOnce, Passable, labelledOption, RecordAdded}
 use Rattle.loads.specs.laws.PlaceLaws.{pair-of-hop, hop-added}

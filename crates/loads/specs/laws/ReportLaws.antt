@@ -1,24 +1,23 @@
 -- Records of traffic added one after the other are the loads of the plan (02, A5). Assumes nothing.
-use Prim.Native.Nat.{ℕ, suc, _+_, _*_, _≤_, _<_}
+use Prim.Native.Nat.{ℕ, _+_, _*_, _≤_, _<_}
 use native.Mathlib.Omega.{arith}
 use mathlib.Core.Path.{_≡_, refl, sym, ap, _∙_, subst}
 use mathlib.Core.List.{List}
 use mathlib.Core.Option.{Option}
-use mathlib.Core.Bool.{Bool, cond, not}
+use mathlib.Core.Bool.{cond, not}
 use lib.ListN.{length, getD}
 use Rattle.lists.specs.Lists.{rising}
-use Rattle.lists.specs.Members.{In, sumOver}
+use Rattle.lists.specs.Members.{sumOver}
 use Rattle.lists.specs.laws.SelectedLaws.{rising-in}
 use Rattle.lists.specs.laws.SumLaws.{sum-same, sum-places, sum-next}
 use Rattle.graph.specs.Pairs.{Pair}
 use Rattle.rule.specs.Records.{Traffic}
 use Rattle.rule.specs.Plan.{Plan}
-use Rattle.rule.specs.PlanLaws.{PlanLaws}
 use Rattle.rule.specs.Paths.{chosenPath}
-use Rattle.rule.specs.Loads.{noTraffic, trafficPath, hasPath, hopsOf, pathTakes, loadOf, totalLoad, lostLoad}
+use Rattle.rule.specs.Loads.{noTraffic, trafficPath, hasPath, hopsOf, pathTakes}
 use Rattle.rule.specs.laws.LoadLaws.{given, notGiven, carried, load-by-records, lost-by-records, total-by-records}
 use Rattle.network.specs.Layout.{bridgesIn}
-use Rattle.network.specs.Networks.{NetworkOf, IsNetwork, TreeIn}
+use Rattle.network.specs.Networks.{NetworkOf, TreeIn}
 use Rattle.loads.specs.Places.{Placed, loadAt, NoLoads, Room}
 use Rattle.loads.specs.Sums.{Passable, labelledOption, RecordAdded}
 use Rattle.loads.specs.Reports.{vidWord, amountWord, fromWord, toWord, TrafficReady, pathOfWords, TrafficAdded, trafficAt, TrafficWords, LoadsOf, LoadsIn}

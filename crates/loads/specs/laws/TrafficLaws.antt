@@ -1,30 +1,24 @@
 -- The traffic of a table as words, and its own ECT indexes. Assumes nothing.
 use Prim.Native.Nat.{ℕ, _+_, _*_, _≤_, _<_}
 use native.Mathlib.Omega.{arith}
-use mathlib.Core.Path.{_≡_, refl, sym, ap, _∙_}
-use mathlib.Core.List.{List, map}
+use mathlib.Core.Path.{_≡_, sym, ap, _∙_}
+use mathlib.Core.List.{List}
 use mathlib.Core.Logic.{_⊎_, inl, inr}
-use mathlib.Core.Bool.{Bool, true, false}
 use lib.ListN.{length, getD, set, take, length-set, length-map, length-take}
 use lib.Seq.{getD-set-same, getD-set-other, ext-getD, getD-take}
 use borrow.Author.Tests.{eq-eqb, ne-eqb}
 use Rattle.lists.specs.Lists.{rising, firstPassing}
 use Rattle.lists.specs.laws.NumberLaws.{same-or-not}
 use Rattle.lists.specs.laws.MemberLaws.{map-at}
-use Rattle.lists.specs.laws.DistinctLaws.{place-in}
-use Rattle.lists.specs.laws.FirstPassing.{first-within, SeekingFirst, first-starts, first-on, first-found, first-missing, first-of-map, first-selected}
+use Rattle.lists.specs.laws.FirstPassing.{first-within, SeekingFirst, first-starts, first-on, first-found, first-missing, first-of-map}
 use Rattle.rule.specs.Records.{Vid, Traffic, vidOf, trafficOf}
-use Rattle.rule.specs.Plan.{Plan, hasVid, vidRecord}
-use Rattle.rule.specs.PlanLaws.{PlanLaws}
+use Rattle.rule.specs.Plan.{Plan, hasVid}
 use Rattle.rule.specs.Loads.{noTraffic, ownIndexes, vidPlace}
-use Rattle.rule.specs.laws.CallLaws.{vid-found}
 use Rattle.table.specs.declared.shape.Shape.{Shape}
 use Rattle.table.specs.Positions.{recordAt, recordsAt, vidsFrom, trafficFrom, planAt}
 use Rattle.table.specs.Numbered.{vidNumber, trafficNumber}
 use Rattle.table.specs.laws.PositionLaws.{how-many, record-at}
-use Rattle.network.specs.Layout.{bridgesIn}
-use Rattle.network.specs.Networks.{NetworkOf, IsNetwork}
-use Rattle.loads.specs.Reports.{vidWord, amountWord, fromWord, toWord, TrafficReady, trafficAt, TrafficWords, RecordWritten}
+use Rattle.loads.specs.Reports.{vidWord, amountWord, fromWord, toWord, trafficAt, TrafficWords, RecordWritten}
 
 -- The record of a VID is sought.
 module _ (ws : List ℕ) (s : Shape) (number : ℕ) where

@@ -1,9 +1,9 @@
 -- Loads by single records of traffic, and the two sums that a total is (02, A5). Assumes nothing.
-use Prim.Native.Nat.{ℕ, _+_, _*_, _≤_, _<_}
+use Prim.Native.Nat.{ℕ, _*_, _≤_, _<_}
 use native.Mathlib.Omega.{arith}
 use native.Mathlib.Nat.{mul-comm, mul-le-mul-right}
 use mathlib.Core.Path.{_≡_, refl, sym, ap, _∙_}
-use mathlib.Core.List.{List, [], _∷_, _++_}
+use mathlib.Core.List.{List}
 use mathlib.Core.Option.{Option, none, some}
 use mathlib.Core.Bool.{Bool, true, false, cond, not}
 use lib.ListN.{length}
@@ -11,10 +11,10 @@ use Rattle.lists.specs.Lists.{selected}
 use Rattle.lists.specs.Members.{In, sumOver}
 use Rattle.lists.specs.laws.MemberLaws.{map-at}
 use Rattle.lists.specs.laws.FirstPassing.{first-selected}
-use Rattle.lists.specs.laws.SumLaws.{sum-same, sum-nothing, sum-most, sum-bounded, sum-append, sum-selected, sum-exchanged}
+use Rattle.lists.specs.laws.SumLaws.{sum-same, sum-nothing, sum-bounded, sum-selected, sum-exchanged}
 use Rattle.graph.specs.Graph.{hops}
 use Rattle.graph.specs.Chosen.{Chosen}
-use Rattle.graph.specs.Pairs.{Pair, joinedPairs, takes}
+use Rattle.graph.specs.Pairs.{Pair, joinedPairs}
 use Rattle.graph.specs.laws.PairLaws.{pairs-taken}
 use Rattle.graph.specs.laws.Enumeration.{chosen-is}
 use Rattle.graph.specs.laws.ChosenPaths.{chosen-fits}
@@ -25,7 +25,7 @@ use Rattle.rule.specs.Links.{graphOf}
 use Rattle.rule.specs.Identifiers.{keyOf}
 use Rattle.rule.specs.Paths.{chosenPath}
 use Rattle.rule.specs.Loads.{ownIndexes, vidPlace, indexFor, trafficPath, hopsOf, hasPath, pathTakes, loadOf, totalLoad, lostLoad}
-use Rattle.rule.specs.LoadsAddUp.{AddsUp, LoadsAddUp, OwnPaths}
+use Rattle.rule.specs.LoadsAddUp.{LoadsAddUp, OwnPaths}
 use Rattle.rule.specs.laws.Accepted.{accepted-laws}
 use Rattle.rule.specs.laws.CallLaws.{vid-found}
 use Rattle.rule.specs.laws.LinkLaws.{graph-laws}
