@@ -11,7 +11,7 @@ use Rattle.rule.specs.PlanLaws.{PlanLaws}
 use Rattle.table.specs.declared.shape.Shape.{Shape}
 use Rattle.table.specs.Positions.{wordsRead, lastKind, planAt}
 use Rattle.table.specs.Whole.{Whole}
-use Rattle.runs.specs.Runs.{isKind, Numbers}
+use Rattle.runs.specs.Runs.{isKind, Numbers, Before}
 use Rattle.verdict.specs.declared.examine.Examined.{Examined}
 
 -- What the answer stands for.
@@ -26,6 +26,10 @@ LowerOnly ws s = (kind : ℕ) → 1 ≤ kind → kind ≤ 5 → isKind ws kind (
 -- What is accepted are the records of `s`.
 abbrev pub AcceptedAs : Shape → Examined → Type 0
 AcceptedAs s r = (t : Shape) → r ≡ Examined.Accepted t → t ≡ s
+
+-- What is accepted are records after which all kinds are read.
+abbrev pub AcceptedAfterAll : List ℕ → List ℕ → Examined → Type 0
+AcceptedAfterAll ws links r = (t : Shape) → r ≡ Examined.Accepted t → Before ws links 6 t
 
 -- A checked table: its records are those of the shape `s`, and none of the faults 1 to 10 applies to them.
 pub record Checked (t : List ℕ) (s : Shape) : Type 0 where

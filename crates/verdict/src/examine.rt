@@ -5,6 +5,7 @@ use rule::answer::RecordKind;
 use rule::kinds::BRIDGE;
 use rule::kinds::END;
 use rule::kinds::LONGEST_TABLE;
+use rule::kinds::MEMBER;
 use rule::kinds::TRAFFIC;
 use runs::kinds::read_kind;
 use runs::run::is_next;
@@ -17,8 +18,8 @@ ghost use Rattle.rule.specs.Check.{badLength, readOn, start, verdict};
 ghost use lib.ListN.{length};
 ghost use Rattle.table.specs.Whole.{Whole};
 ghost use Rattle.key_index.specs.Index.{Indexed};
-ghost use Rattle.runs.specs.Runs.{Reached};
-ghost use Rattle.verdict.specs.Examination.{examinedValues, LowerOnly, AcceptedAs, Passed};
+ghost use Rattle.runs.specs.Runs.{Reached, Before};
+ghost use Rattle.verdict.specs.Examination.{examinedValues, LowerOnly, AcceptedAs, AcceptedAfterAll, Passed};
 
 pub enum Examined {
     Accepted(Shape),
@@ -76,6 +77,24 @@ fn read_last(table: &[u8], s: Shape) -> Examined
     Examined::Accepted(s)
 }
 
+// The traffic (02, A5), then the end record. It stands apart from the kinds before it, so that reading those has no count of traffic to
+// carry.
+fn read_rest(table: &[u8], s: Shape, link_index: &mut [u32]) -> Examined
+    requires { ⌜ Whole (now table) s × Before (wordsOf (now table)) (now «link_index») 5 s ⌝ }
+    ensures { λ r. ⌜ examinedValues (wordsOf (now (table .entry))) r ≡ readOn (length (wordsOf (now (table .entry)))) (wordsOf (now (table .entry))) start ⌝ }
+    ensures { λ r. ⌜ AcceptedAfterAll (wordsOf (now (table .entry))) (now («link_index» .exit)) r ⌝ }
+{
+    let read = read_kind(table, s, TRAFFIC, link_index);
+    match read {
+        Step::Next(t) => read_last(table, t),
+        Step::Refused { number, kind, word } => Examined::Refused {
+            number: number,
+            kind: kind,
+            word: word,
+        },
+    }
+}
+
 // The lent list is an index of no key, and of the link numbers of an accepted table afterwards.
 pub fn examine(table: &[u8], link_index: &mut [u32]) -> Examined
     requires { ⌜ Indexed (now «link_index») 0 ⌝ }
@@ -97,7 +116,7 @@ pub fn examine(table: &[u8], link_index: &mut [u32]) -> Examined
         traffic: 0,
     };
     let mut next = BRIDGE;
-    while next <= TRAFFIC {
+    while next <= MEMBER {
         let read = read_kind(table, s, next, link_index);
         match read {
             Step::Next(t) => {
@@ -113,5 +132,5 @@ pub fn examine(table: &[u8], link_index: &mut [u32]) -> Examined
         }
         next += 1;
     }
-    read_last(table, s)
+    read_rest(table, s, link_index)
 }

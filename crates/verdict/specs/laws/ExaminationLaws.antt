@@ -25,7 +25,7 @@ use Rattle.earlier.specs.laws.KeyLaws.{keyed-none}
 use Rattle.steps.specs.declared.step.Step.{Step}
 use Rattle.runs.specs.Runs.{Before, KindRead}
 use Rattle.verdict.specs.declared.examine.Examined.{Examined}
-use Rattle.verdict.specs.Examination.{examinedValues, AcceptedAs, Checked, LinkIndex, Passed}
+use Rattle.verdict.specs.Examination.{examinedValues, AcceptedAs, AcceptedAfterAll, Checked, LinkIndex, Passed}
 
 pub refused-passes : {t index : List ℕ} {number at : ℕ} {kind : RecordKind} → Passed t index (Examined.Refused number kind at)
 refused-passes s n = let z : _≡_ {A = ℕ} 0 1 = cc in absurd (omega arith)
@@ -39,7 +39,7 @@ accepted-as-read {s} t n = let z : s ≡ t = cc in sym z
 -- The kinds before `next` are read.
 pub record Examining (ws links : List ℕ) (s : Shape) (next : ℕ) : Type 0 where
   pub first : 1 ≤ next
-  pub last : next ≤ 6
+  pub last : next ≤ 5
   pub before : Before ws links next s
 
 abbrev noneRead : Shape
@@ -93,7 +93,7 @@ examining-starts ws links x =
 pub examining-next :
     {ws links links′ : List ℕ} {s : Shape} {next : ℕ} {r : Step} →
     Examining ws links s next →
-    next ≤ 5 →
+    next ≤ 4 →
     KindRead ws links′ next r →
     (t : Shape) →
     r ≡ Step.Next t →
@@ -122,24 +122,28 @@ length-fits n b e f = go (eqb n 0) (ltb longestTable n) (not (eqb (n % 4) 0)) (l
     go false true z h e = let k : _≡_ {A = ℕ} 0 1 = cc in absurd (omega arith)
     go false false z h e = h refl
 
-pub all-read : {ws links : List ℕ} {s : Shape} {next : ℕ} → Examining ws links s next → 5 < next → Before ws links 6 s
-all-read {ws} {links} {s} {next} x l =
-    subst (λ (k : ℕ). Before ws links k s) (let z : next ≡ 6 = omega (arith, x .last) in z) (x .before)
+pub members-read : {ws links : List ℕ} {s : Shape} {next : ℕ} → Examining ws links s next → 4 < next → Before ws links 5 s
+members-read {ws} {links} {s} {next} x l =
+    subst (λ (k : ℕ). Before ws links k s) (let z : next ≡ 5 = omega (arith, x .last) in z) (x .before)
+
+-- What the end record accepts are the records before it.
+pub accepted-after-all : {ws links : List ℕ} {s : Shape} {r : Examined} → AcceptedAs s r → Before ws links 6 s → AcceptedAfterAll ws links r
+accepted-after-all {ws} {links} a B t n = subst (λ (y : Shape). Before ws links 6 y) (sym (a t n)) B
+
+pub refused-after-all : {ws links : List ℕ} {number at : ℕ} {kind : RecordKind} → AcceptedAfterAll ws links (Examined.Refused number kind at)
+refused-after-all t n = let z : _≡_ {A = ℕ} 0 1 = cc in absurd (omega arith)
 
 -- A table that the verdict accepts is a checked one.
 pub accepted-passes :
-    {t index : List ℕ} {s : Shape} {r : Examined} →
+    {t index : List ℕ} {r : Examined} →
     examinedValues (wordsOf t) r ≡ verdict t →
-    AcceptedAs s r →
-    wordsRead s ≤ length (wordsOf t) →
+    AcceptedAfterAll (wordsOf t) index r →
     length t ≤ longestTable →
-    LinkIndex index t s →
     Passed t index r
-accepted-passes {t} {index} {s} {r} v a w b k u n =
-    subst (λ (y : Shape). Checked t y × LinkIndex index t y) (sym (a u n)) (
-      record {
-        whole = record { within = omega (arith, count-of-words t); bounded = b };
-        laws = accepted-laws t (planAt (wordsOf t) s) (sym v ∙ ap (examinedValues (wordsOf t)) (n ∙ ap Examined.Accepted (a u n)));
-      },
-      k,
-    )
+accepted-passes {t} {index} {r} v a b s n = (
+  record {
+    whole = record { within = omega (arith, a s n .reached .within, count-of-words t); bounded = b };
+    laws = accepted-laws t (planAt (wordsOf t) s) (sym v ∙ ap (examinedValues (wordsOf t)) n);
+  },
+  a s n .numbers,
+)

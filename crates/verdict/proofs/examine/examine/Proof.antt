@@ -3,8 +3,7 @@ use native.Mathlib.Omega.{arith}
 use Prim.Native.Nat.{_-_}
 use Rattle.rule.specs.Words.{wordsOf}
 use Rattle.runs.specs.laws.RunLaws.{whole-at}
-use Rattle.verdict.specs.laws.LastLaws.{lower-only}
-use Rattle.verdict.specs.laws.ExaminationLaws.{Examining, examining-starts, examining-next, all-read, refused-passes, accepted-passes, bad-length, good-length, length-fits}
+use Rattle.verdict.specs.laws.ExaminationLaws.{Examining, examining-starts, examining-next, members-read, refused-passes, accepted-passes, bad-length, good-length, length-fits}
 use borrow.Author.Needs.{needs}
 use Rattle.verdict.proofs.examine.examine.Statement.{statement}
 use Rattle.verdict.proofs.examine.examine.Tie as tie
@@ -13,7 +12,7 @@ abbrev Inv-loop : tie.InvT-loop
 Inv-loop table link-index₀ s₀ next₀ link-index s next = Examining (wordsOf table) link-index s next
 
 abbrev μ-loop : tie.MeasureT-loop
-μ-loop table link-index₀ s₀ next₀ link-index s next = 6 - next
+μ-loop table link-index₀ s₀ next₀ link-index s next = 5 - next
 
 returns : tie.Need-returns Inv-loop μ-loop
 returns c =
@@ -44,8 +43,8 @@ loop-again c =
     let at-read-kind = c .before .before .before .before .before in
     let at-loop-test = at-read-kind .before .before in
     let at-loop = at-loop-test .before in
-    examining-next (at-loop .loop .inv) (omega (arith, at-loop-test .loop-test .taken)) (at-read-kind .read-kind .ensures) (c .before .read .given .0 .0)
-    (c .before .read .given .1)
+    examining-next (at-loop .loop .inv) (omega (arith, at-loop-test .loop-test .taken)) (at-read-kind .read-kind .ensures)
+    (c .before .read .given .0 .0) (c .before .read .given .1)
 
 returns-2 : tie.Need-returns-2 Inv-loop μ-loop
 returns-2 c =
@@ -58,34 +57,30 @@ returns-2 c =
       refused-passes,
     )
 
-read-last-requires : tie.Need-read-last-requires Inv-loop μ-loop
-read-last-requires c κs =
-    let at-loop = c .before in
+read-rest-requires : tie.Need-read-rest-requires Inv-loop μ-loop
+read-rest-requires c κs =
+    let at-loop = c .before .before in
     let at-if1 = at-loop .before in
     let at-has-bad-length = at-if1 .before in
     let inv = at-loop .loop .inv in (
       whole-at (inv .before .reached) (length-fits _ _ (at-has-bad-length .has-bad-length .ensures) (at-if1 .if1 .left)),
-      inv .before .reached,
-      lower-only (all-read inv (omega (arith, c .loop-test .left))),
+      members-read inv (omega (arith, c .before .loop-test .left)),
     )
 
 returns-3 : tie.Need-returns-3 Inv-loop μ-loop
 returns-3 c =
-    let at-loop = c .before .before in
-    let at-if1 = at-loop .before in
+    let at-read-rest = c .before .before in
+    let at-if1 = at-read-rest .before .before .before .before in
     let at-has-bad-length = at-if1 .before in
     let at-start = at-has-bad-length .before .before .before in
-    let (read-last-is, accepted-as) = c .read-last .ensures in
+    let (read-rest-is, accepted-after-all) = at-read-rest .read-rest .ensures in
     let accepts =
     good-length (at-start .args .table .now) (at-has-bad-length .has-bad-length .result) _ (at-has-bad-length .has-bad-length .ensures)
-    (at-if1 .if1 .left) read-last-is in (
-      accepts,
-      accepted-passes accepts accepted-as (at-loop .loop .inv .before .reached .within)
-          (length-fits _ _ (at-has-bad-length .has-bad-length .ensures) (at-if1 .if1 .left)) (at-loop .loop .inv .before .numbers),
-    )
+    (at-if1 .if1 .left) read-rest-is in
+    (accepts, accepted-passes accepts accepted-after-all (length-fits _ _ (at-has-bad-length .has-bad-length .ensures) (at-if1 .if1 .left)))
 
 pub examine-spec : {M : Type 1} → statement M
 examine-spec =
     tie.close
     (tie.spec Inv-loop μ-loop (λ c κs. search needs) returns loop-holds read-kind-requires (λ c. search needs) (λ c. search needs)
-    (λ c. search needs) returns-2 (λ c. search needs) (λ c. search needs) loop-again read-last-requires (λ c. search needs) returns-3)
+    (λ c. search needs) returns-2 (λ c. search needs) (λ c. search needs) loop-again read-rest-requires (λ c. search needs) returns-3)
