@@ -6,9 +6,9 @@ use rule::kinds::BRIDGE;
 use rule::kinds::END;
 use rule::kinds::LONGEST_TABLE;
 use rule::kinds::MEMBER;
-use rule::kinds::TRAFFIC;
 use runs::kinds::read_kind;
 use runs::run::is_next;
+use runs::run::read_traffic_records;
 use steps::step::Step;
 use steps::step::kind_concerned;
 use table::shape::Shape;
@@ -78,13 +78,13 @@ fn read_last(table: &[u8], s: Shape) -> Examined
 }
 
 // The traffic (02, A5), then the end record. It stands apart from the kinds before it, so that reading those has no count of traffic to
-// carry.
-fn read_rest(table: &[u8], s: Shape, link_index: &mut [u32]) -> Examined
+// carry. The index is read by the contract alone.
+fn read_rest(table: &[u8], s: Shape, link_index: &[u32]) -> Examined
     requires { ⌜ Whole (now table) s × Before (wordsOf (now table)) (now «link_index») 5 s ⌝ }
     ensures { λ r. ⌜ examinedValues (wordsOf (now (table .entry))) r ≡ readOn (length (wordsOf (now (table .entry)))) (wordsOf (now (table .entry))) start ⌝ }
-    ensures { λ r. ⌜ AcceptedAfterAll (wordsOf (now (table .entry))) (now («link_index» .exit)) r ⌝ }
+    ensures { λ r. ⌜ AcceptedAfterAll (wordsOf (now (table .entry))) (now («link_index» .entry)) r ⌝ }
 {
-    let read = read_kind(table, s, TRAFFIC, link_index);
+    let read = read_traffic_records(table, s);
     match read {
         Step::Next(t) => read_last(table, t),
         Step::Refused { number, kind, word } => Examined::Refused {
@@ -132,5 +132,5 @@ pub fn examine(table: &[u8], link_index: &mut [u32]) -> Examined
         }
         next += 1;
     }
-    read_rest(table, s, link_index)
+    read_rest(table, s, &link_index[..])
 }

@@ -14,8 +14,8 @@ read-bridges-requires c κs =
 returns : tie.Need-returns
 returns c =
     let at-start = c .before .before .before .before in
-    let (_, kind-least, kind-bound, before) = at-start .pre in
-    kind-read before kind-least kind-bound 1 (c .before .if1 .taken) (c .read-bridges .ensures) (λ z. absurd (omega arith))
+    let (_, kind-least, _, before) = at-start .pre in
+    kind-read before kind-least (omega arith) 1 (c .before .if1 .taken) (c .read-bridges .ensures) (λ z. absurd (omega arith))
 
 read-half-links-requires : tie.Need-read-half-links-requires
 read-half-links-requires c κs =
@@ -28,42 +28,30 @@ returns-2 c =
     let at-read-half-links = c .before .before in
     let at-if2 = at-read-half-links .before .before in
     let at-start = at-if2 .before .before .before .before in
-    let (_, kind-least, kind-bound, before) = at-start .pre in
+    let (_, kind-least, _, before) = at-start .pre in
     let (run, numbers-kept) = at-read-half-links .read-half-links .ensures in
-    half-links-read before kind-least kind-bound 2 (at-if2 .if2 .taken) run numbers-kept
+    half-links-read before kind-least (omega arith) 2 (at-if2 .if2 .taken) run numbers-kept
 
 returns-3 : tie.Need-returns-3
 returns-3 c =
     let at-start = c .before .before .before .before .before .before in
-    let (_, kind-least, kind-bound, before) = at-start .pre in
-    kind-read before kind-least kind-bound 3 (c .before .if3 .taken) (c .read-vids .ensures) (λ z. absurd (omega arith))
+    let (_, kind-least, _, before) = at-start .pre in
+    kind-read before kind-least (omega arith) 3 (c .before .if3 .taken) (c .read-vids .ensures) (λ z. absurd (omega arith))
 
 read-members-requires : tie.Need-read-members-requires
 read-members-requires c κs =
-    let at-start = c .before .before .before .before .before .before in
+    let at-start = c .before .before .before .before .before in
     let (whole, _, _, before) = at-start .pre in
     (whole, before .reached, before .no-members (omega arith))
 
 returns-4 : tie.Need-returns-4
 returns-4 c =
-    let at-start = c .before .before .before .before .before .before .before in
-    let (_, kind-least, kind-bound, before) = at-start .pre in
-    kind-read before kind-least kind-bound 4 (c .before .if4 .taken) (c .read-members .ensures) (λ z. absurd (omega arith))
-
-read-traffic-records-requires : tie.Need-read-traffic-records-requires
-read-traffic-records-requires c κs =
     let at-start = c .before .before .before .before .before .before in
-    let (whole, _, _, before) = at-start .pre in
-    (whole, before .reached, before .no-traffic (omega arith))
-
-returns-5 : tie.Need-returns-5
-returns-5 c =
-    let at-start = c .before .before .before .before .before .before .before in
-    let (_, kind-least, kind-bound, before) = at-start .pre in
-    kind-read before kind-least kind-bound 5 (omega arith) (c .read-traffic-records .ensures) (λ z. absurd (omega arith))
+    let (_, kind-least, _, before) = at-start .pre in
+    kind-read before kind-least (omega arith) 4 (omega arith) (c .read-members .ensures) (λ z. absurd (omega arith))
 
 pub read-kind-spec : {M : Type 1} → statement M
 read-kind-spec =
     tie.close
     (tie.spec read-bridges-requires returns read-half-links-requires (λ c. search needs) returns-2 (λ c κs. search needs) returns-3
-    read-members-requires returns-4 read-traffic-records-requires returns-5)
+    read-members-requires returns-4)

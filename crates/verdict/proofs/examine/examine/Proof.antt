@@ -69,11 +69,10 @@ read-rest-requires c κs =
 
 returns-3 : tie.Need-returns-3 Inv-loop μ-loop
 returns-3 c =
-    let at-read-rest = c .before .before in
-    let at-if1 = at-read-rest .before .before .before .before in
+    let at-if1 = c .before .before .before .before in
     let at-has-bad-length = at-if1 .before in
     let at-start = at-has-bad-length .before .before .before in
-    let (read-rest-is, accepted-after-all) = at-read-rest .read-rest .ensures in
+    let (read-rest-is, accepted-after-all) = c .read-rest .ensures in
     let accepts =
     good-length (at-start .args .table .now) (at-has-bad-length .has-bad-length .result) _ (at-has-bad-length .has-bad-length .ensures)
     (at-if1 .if1 .left) read-rest-is in
