@@ -17,7 +17,7 @@ use Rattle.rule.specs.Check.{longestTable, badLength, Reading, start, readOn, v
 use Rattle.rule.specs.laws.Accepted.{accepted-laws}
 use Rattle.key_index.specs.Index.{Indexed}
 use Rattle.table.specs.declared.shape.Shape.{Shape}
-use Rattle.table.specs.Positions.{halfLinksFrom, vidsFrom, membersFrom, trafficFrom, wordsRead, planAt, readingAt}
+use Rattle.table.specs.Positions.{halfLinksFrom, vidsFrom, membersFrom, trafficFrom, planAt, readingAt}
 use Rattle.table.specs.laws.PositionLaws.{no-records}
 use Rattle.readers.specs.laws.WordLaws.{count-of-words}
 use Rattle.earlier.specs.HalfLinks.{numberKey}
@@ -25,7 +25,7 @@ use Rattle.earlier.specs.laws.KeyLaws.{keyed-none}
 use Rattle.steps.specs.declared.step.Step.{Step}
 use Rattle.runs.specs.Runs.{Before, KindRead}
 use Rattle.verdict.specs.declared.examine.Examined.{Examined}
-use Rattle.verdict.specs.Examination.{examinedValues, AcceptedAs, AcceptedAfterAll, Checked, LinkIndex, Passed}
+use Rattle.verdict.specs.Examination.{examinedValues, AcceptedAs, AcceptedAfterAll, Passed}
 
 pub refused-passes : {t index : List ℕ} {number at : ℕ} {kind : RecordKind} → Passed t index (Examined.Refused number kind at)
 refused-passes s n = let z : _≡_ {A = ℕ} 0 1 = cc in absurd (omega arith)
