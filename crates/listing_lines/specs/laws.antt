@@ -2,3 +2,4 @@
 pub mod ListingLaws
 pub mod PathLineLaws
 pub mod EntryLineLaws
+pub mod ExtensionListing

@@ -1,6 +1,6 @@
 -- The network of a plan as one list of words, by its parts: how many bridges there are; for each hop the bridge at its other end, its cost
--- and its near port; for each bridge, and one more, the place of its first hop; the bridges' marks; and their identifiers, two words each.
--- Assumes nothing.
+-- and its near port; for each bridge, and one more, the place of its first hop; the bridges' marks; and their identifiers
+-- without the extension, two words each. Assumes nothing.
 use Prim.Native.Nat.{ℕ, _+_, _*_}
 use mathlib.Core.List.{List}
 use lib.ListN.{getD, take, drop}

@@ -8,7 +8,7 @@ use Rattle.rule.specs.Words.{wordsOf}
 use Rattle.rule.specs.Plan.{Plan, bridgeAt}
 use Rattle.rule.specs.PlanLaws.{PlanLaws}
 use Rattle.rule.specs.Links.{graphOf}
-use Rattle.rule.specs.Identifiers.{keyOf, maskedBytes}
+use Rattle.rule.specs.Identifiers.{keyOf, maskedBytes, withoutExtension}
 use Rattle.table.specs.declared.shape.Shape.{Shape}
 use Rattle.table.specs.Positions.{planAt}
 use Rattle.verdict.specs.Examination.{Checked}
@@ -20,10 +20,12 @@ use Rattle.network.specs.Neighbours.{NeighboursOf}
 abbrev pub markOf : Bool → ℕ
 markOf overloaded = cond overloaded 1 0
 
--- The words that the records of the first `n` bridges give: their marks, and behind those of 64 bridges their identifiers.
+-- The words that the records of the first `n` bridges give: their marks, and behind those of 64 bridges their identifiers without the
+-- extension (02, A6).
 pub record BridgeWords (p : Plan) (n : ℕ) (words : List ℕ) : Type 0 where
   pub marked : (u : ℕ) → u < n → getD words u 0 ≡ markOf (bridgeAt p u .overloaded)
-  pub identified : (u : ℕ) → u < n → getD words (64 + 2 * u) 0 * 4294967296 + getD words (64 + 2 * u + 1) 0 ≡ bridgeAt p u .identifier
+  pub identified : (u : ℕ) → u < n
+      → getD words (64 + 2 * u) 0 * 4294967296 + getD words (64 + 2 * u + 1) 0 ≡ withoutExtension (bridgeAt p u .identifier)
 
 -- The list is the network of the plan.
 pub record NetworkOf (p : Plan) (net : List ℕ) : Type 0 where
@@ -32,7 +34,7 @@ pub record NetworkOf (p : Plan) (net : List ℕ) : Type 0 where
   pub represents : Represents (graphOf p) (bridgesIn net) (startsIn net) (neighboursIn net) (costsIn net)
   pub hops : NeighboursOf p (bridgesIn net) (startsIn net) (neighboursIn net) (costsIn net) (portsIn net)
   pub marked : (u : ℕ) → u < bridgesIn net → getD (marksIn net) u 0 ≡ markOf (bridgeAt p u .overloaded)
-  pub identified : (u : ℕ) → u < bridgesIn net → identifierIn net u ≡ bridgeAt p u .identifier
+  pub identified : (u : ℕ) → u < bridgesIn net → identifierIn net u ≡ withoutExtension (bridgeAt p u .identifier)
 
 -- It is the network of a checked table.
 pub record TableNetwork (t : List ℕ) (s : Shape) (net : List ℕ) : Type 0 where

@@ -20,7 +20,7 @@ pub const PORTS: usize = COSTS + MOST_HALF_LINKS;
 pub const STARTS: usize = PORTS + MOST_HALF_LINKS;
 // For each bridge its mark.
 pub const MARKS: usize = STARTS + MARKS_AFTER;
-// For each bridge its identifier, two words.
+// For each bridge its identifier without the extension, two words.
 pub const IDENTIFIERS: usize = MARKS + MOST_BRIDGES;
 // The words of a network.
 pub const NETWORK: usize = IDENTIFIERS + 2 * MOST_BRIDGES;

@@ -1,9 +1,10 @@
--- ECT masks and masked identifiers (01, "The chosen path").
+-- ECT masks and masked identifiers (01, "The chosen path"; 02, A6).
 -- Assumes nothing.
-use Prim.Native.Nat.{ℕ, zero, suc, _+_, _*_, _-_, _/_, _%_}
+use Prim.Native.Nat.{ℕ, zero, suc, _+_, _*_, _-_, _/_, _%_, _^_}
 use mathlib.Core.List.{List, [], _∷_}
 use lib.Bits.{bitXor}
 use lib.ListN.{getD}
+use Rattle.rule.specs.Words.{bits}
 use Rattle.rule.specs.Plan.{Plan, bridgeAt}
 
 -- "ECT masks, index 1 to 16, hexadecimal".
@@ -39,6 +40,12 @@ maskedBytes (suc n) mask i = maskedBytes n mask (i / 256) * 256 + bitXor (i % 25
 unfoldable pub maskedIdentifier : ℕ → ℕ → ℕ
 maskedIdentifier index i = maskedBytes 8 (maskOf index) i
 
--- The key of each bridge for an ECT index: what stands for it in the masked PATHID.
+-- "a nonzero 12-bit system id extension inside the 16 priority bits" (02, A6): the bits 59..48 of a Bridge Identifier, whose bits 47..0 are
+-- the address. They are cleared; "16 bits priority, 48 bits address", so 4 bits of priority stay above them.
+abbrev pub withoutExtension : ℕ → ℕ
+withoutExtension i = bits i 63 60 * 2 ^ 60 + bits i 47 0
+
+-- The key of each bridge for an ECT index: what stands for it in the masked PATHID. "Masking begins from the identifier with those 12 bits
+-- cleared." (02, A6)
 abbrev pub keyOf : Plan → ℕ → ℕ → ℕ
-keyOf p index u = maskedIdentifier index (bridgeAt p u .identifier)
+keyOf p index u = maskedIdentifier index (withoutExtension (bridgeAt p u .identifier))

@@ -20,6 +20,7 @@ pub mod ComesBack
 pub mod Frames
 pub mod Demand3
 pub mod PortsDown
+pub mod Extensions
 pub mod PlanLaws
 pub mod laws
 pub mod figures

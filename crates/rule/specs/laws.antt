@@ -20,3 +20,4 @@ pub mod Demand3Proved
 pub mod MemberWords
 pub mod ServiceLaws
 pub mod ComesBackProved
+pub mod ExtensionLaws

@@ -10,7 +10,7 @@ use lib.Seq.{getD-set-same, getD-set-other}
 use Rattle.lists.specs.laws.NumberLaws.{same-or-not}
 use Rattle.rule.specs.Records.{Bridge, bridgeOf}
 use Rattle.rule.specs.Plan.{noBridge, bridgeAt}
-use Rattle.rule.specs.Identifiers.{maskedBytes}
+use Rattle.rule.specs.Identifiers.{maskedBytes, withoutExtension}
 use Rattle.table.specs.declared.shape.Shape.{Shape}
 use Rattle.table.specs.Positions.{planAt}
 use Rattle.table.specs.Numbered.{bridgeNumber}
@@ -32,44 +32,45 @@ writing-starts ws s before = record {
 }
 
 module _ {ws : List ℕ} {s : Shape} {before now : List ℕ} {u : ℕ} (W : Writing ws s before now u) where
-  module _ (b : Bridge) (mark : ℕ) (l : u < s .bridges) (few : s .bridges ≤ 64) (room : 64 + 2 * s .bridges ≤ length before)
-      (e : b ≡ bridgeNumber ws u) (f : mark ≡ markOf (b .overloaded)) where
+  module _ (b : Bridge) (mark identifier : ℕ) (l : u < s .bridges) (few : s .bridges ≤ 64) (room : 64 + 2 * s .bridges ≤ length before)
+      (e : b ≡ bridgeNumber ws u) (f : mark ≡ markOf (b .overloaded))
+      (cleared : identifier ≡ withoutExtension (b .identifier)) where
     -- The mark, then the upper and the lower word of the identifier.
     abbrev marked : List ℕ
     marked = set now u mark
 
     abbrev upper : List ℕ
-    upper = set marked (64 + 2 * u) (b .identifier / 4294967296)
+    upper = set marked (64 + 2 * u) (identifier / 4294967296)
 
     abbrev both : List ℕ
-    both = set upper (64 + 2 * u + 1) (b .identifier % 4294967296)
+    both = set upper (64 + 2 * u + 1) (identifier % 4294967296)
 
     marked-length : length marked ≡ length now
     marked-length = length-set now u mark
 
     upper-length : length upper ≡ length now
-    upper-length = length-set marked (64 + 2 * u) (b .identifier / 4294967296) ∙ marked-length
+    upper-length = length-set marked (64 + 2 * u) (identifier / 4294967296) ∙ marked-length
 
     -- A word before the identifier, other than the mark, is as it was.
     elsewhere : (i : ℕ) → (i ≡ u → ⊥) → (i < 64 + 2 * u) → getD both i 0 ≡ getD now i 0
     elsewhere i n h =
-        getD-set-other upper (64 + 2 * u + 1) i (b .identifier % 4294967296) 0 (λ q. omega arith)
-        ∙ getD-set-other marked (64 + 2 * u) i (b .identifier / 4294967296) 0 (λ q. omega arith)
+        getD-set-other upper (64 + 2 * u + 1) i (identifier % 4294967296) 0 (λ q. omega arith)
+        ∙ getD-set-other marked (64 + 2 * u) i (identifier / 4294967296) 0 (λ q. omega arith)
         ∙ getD-set-other now u i mark 0 n
 
     at-mark : getD both u 0 ≡ mark
     at-mark =
-        getD-set-other upper (64 + 2 * u + 1) u (b .identifier % 4294967296) 0 (λ q. omega arith)
-        ∙ getD-set-other marked (64 + 2 * u) u (b .identifier / 4294967296) 0 (λ q. omega arith)
+        getD-set-other upper (64 + 2 * u + 1) u (identifier % 4294967296) 0 (λ q. omega arith)
+        ∙ getD-set-other marked (64 + 2 * u) u (identifier / 4294967296) 0 (λ q. omega arith)
         ∙ getD-set-same now u mark 0 (omega (arith, W .same-length))
 
-    at-upper : getD both (64 + 2 * u) 0 ≡ b .identifier / 4294967296
+    at-upper : getD both (64 + 2 * u) 0 ≡ identifier / 4294967296
     at-upper =
-        getD-set-other upper (64 + 2 * u + 1) (64 + 2 * u) (b .identifier % 4294967296) 0 (λ q. omega arith)
-        ∙ getD-set-same marked (64 + 2 * u) (b .identifier / 4294967296) 0 (omega (arith, marked-length, W .same-length))
+        getD-set-other upper (64 + 2 * u + 1) (64 + 2 * u) (identifier % 4294967296) 0 (λ q. omega arith)
+        ∙ getD-set-same marked (64 + 2 * u) (identifier / 4294967296) 0 (omega (arith, marked-length, W .same-length))
 
-    at-lower : getD both (64 + 2 * u + 1) 0 ≡ b .identifier % 4294967296
-    at-lower = getD-set-same upper (64 + 2 * u + 1) (b .identifier % 4294967296) 0 (omega (arith, upper-length, W .same-length))
+    at-lower : getD both (64 + 2 * u + 1) 0 ≡ identifier % 4294967296
+    at-lower = getD-set-same upper (64 + 2 * u + 1) (identifier % 4294967296) 0 (omega (arith, upper-length, W .same-length))
 
     bridge-is : b ≡ bridgeAt (planAt ws s) u
     bridge-is = e ∙ sym (record-at bridgeOf 3 0 ws (s .bridges) u noBridge l)
@@ -77,7 +78,7 @@ module _ {ws : List ℕ} {s : Shape} {before now : List ℕ} {u : ℕ} (W : Writ
     pub writing-on : Writing ws s before both (u + 1)
     writing-on = record {
       within = omega arith;
-      same-length = length-set upper (64 + 2 * u + 1) (b .identifier % 4294967296) ∙ upper-length ∙ W .same-length;
+      same-length = length-set upper (64 + 2 * u + 1) (identifier % 4294967296) ∙ upper-length ∙ W .same-length;
       written = record { marked = λ w m. mark-is w m (same-or-not w u); identified = λ w m. identifier-is w m (same-or-not w u) };
     }
       where
@@ -86,8 +87,8 @@ module _ {ws : List ℕ} {s : Shape} {before now : List ℕ} {u : ℕ} (W : Writ
         mark-is w m (inr g) = elsewhere w g (omega arith) ∙ W .written .marked w (omega arith)
 
         identifier-is : (w : ℕ) → w < u + 1 → (w ≡ u) ⊎ (w ≡ u → ⊥)
-            → getD both (64 + 2 * w) 0 * 4294967296 + getD both (64 + 2 * w + 1) 0 ≡ bridgeAt (planAt ws s) w .identifier
-        identifier-is w m (inl g) = rw g (omega (arith, at-upper, at-lower, ap (λ (x : Bridge). x .identifier) bridge-is))
+            → getD both (64 + 2 * w) 0 * 4294967296 + getD both (64 + 2 * w + 1) 0 ≡ withoutExtension (bridgeAt (planAt ws s) w .identifier)
+        identifier-is w m (inl g) = rw g (omega (arith, at-upper, at-lower, cleared ∙ ap (λ (x : Bridge). withoutExtension (x .identifier)) bridge-is))
         identifier-is w m (inr g) = omega (
           arith,
           elsewhere (64 + 2 * w) (λ q. omega arith) (omega arith),

@@ -16,7 +16,7 @@ use Rattle.rule.specs.Plan.{Plan, bridgeAt}
 use Rattle.rule.specs.PlanLaws.{PlanLaws}
 use Rattle.rule.specs.Links.{Link, graphOf, hopLink, costOf}
 use Rattle.rule.specs.laws.LinkLaws.{hop-takes, hop-joined, joined-hop, graph-laws}
-use Rattle.rule.specs.Identifiers.{maskOf, maskedBytes, keyOf}
+use Rattle.rule.specs.Identifiers.{maskOf, maskedBytes, withoutExtension, keyOf}
 use Rattle.rule.specs.laws.IdentifierLaws.{key-laws}
 use Rattle.table.specs.declared.shape.Shape.{Shape}
 use Rattle.table.specs.Positions.{planAt}
@@ -80,7 +80,7 @@ module _ {net : List ℕ} (index mask : ℕ) (keys : List ℕ) (m : mask ≡ mas
         in K .held u h
         ∙ ap (λ (x : ℕ). maskedBytes 8 x (identifierIn net u)) m
         ∙ ap (maskedBytes 8 (maskOf index)) (B .identified u h)
-        ∙ masked-by-index index (bridgeAt p u .identifier);
+        ∙ masked-by-index index (withoutExtension (bridgeAt p u .identifier));
   }
 
   -- The search over the parts of a network finds the tree of its plan.

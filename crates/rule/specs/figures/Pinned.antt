@@ -19,7 +19,7 @@ use Rattle.rule.specs.Outcome.{Outcome, answered, refused}
 use Rattle.rule.specs.Plan.{Plan, withRecord, alike, bridgeAt, vidAt}
 use Rattle.rule.specs.Check.{longestTable, lowestFault, readOn, verdict}
 use Rattle.rule.specs.Links.{Link, number, linksOf, usableLinks, countUsable, linksBetween, joined, hopLink, graphOf}
-use Rattle.rule.specs.Identifiers.{maskOf, maskedBytes, maskedIdentifier}
+use Rattle.rule.specs.Identifiers.{maskOf, maskedBytes, maskedIdentifier, withoutExtension}
 use Rattle.rule.specs.Paths.{chosenPath}
 use Rattle.rule.specs.Entries.{entryWords, listOf, firstPort, leavingPort, entryListOf, entriesOf, individualEntries, groupEntries, listedPorts, receiverPorts}
 use Rattle.rule.specs.Answers.{CostAndHops, kindNumber, checkValues, pathValues, treeValues, entriesValues, lookupValues}
@@ -468,6 +468,18 @@ pins =
     ∷ pin (ofChain λ p. numbers (fiveCounts (countsOf (withRecord p (end 0))))) (numbers (4 ∷ 7 ∷ 2 ∷ 2 ∷ 8 ∷ []))
     -- "Each of the eight bytes of a Bridge Identifier is XORed with the mask of the VID's index."
     ∷ pin (numbers (maskedIdentifier 6 0x8000020000000001 ∷ [])) (numbers (0xb333313333333332 ∷ []))
+    -- "the identifier with those 12 bits cleared": all bits set, and either end of the 12 and its neighbours alone.
+    ∷ pin
+    (numbers
+    (map withoutExtension
+    (0xffffffffffffffff
+    ∷ 0x0fff000000000000
+    ∷ 0x1000000000000000
+    ∷ 0x0800000000000000
+    ∷ 0x0001000000000000
+    ∷ 0x0000800000000000
+    ∷ [])))
+    (numbers (0xf000ffffffffffff ∷ 0 ∷ 0x1000000000000000 ∷ 0 ∷ 0 ∷ 0x0000800000000000 ∷ []))
     -- "A half-link alone isn't used." "A link costs the greater of its two metrics": the cost of each hop, 0 where two bridges are not
     -- joined, and which bridges are joined to 0 and to 1.
     ∷ pin

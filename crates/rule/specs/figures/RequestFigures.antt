@@ -1,6 +1,6 @@
 -- The figures of document 02, request by request: one collection, on tables given as words, and one proof over it. The starred figures of
 -- document 01 are a collection of their own (Figures). Assumes nothing.
-use Prim.Native.Nat.{ℕ, _+_}
+use Prim.Native.Nat.{ℕ, _+_, _*_, _^_}
 use mathlib.Core.Path.{_≡_, refl}
 use mathlib.Core.List.{List, [], _∷_, _++_, map, flatMap}
 use mathlib.Core.Option.{none, some}
@@ -84,6 +84,14 @@ services =
 abbrev subTlvOf : ℕ → ℕ → List ℕ → List ℕ
 subTlvOf type len ws = type ∷ len ∷ table (ws ∷ [])
 
+-- The diamond with another second word of its bridge 1, in which the priority is, and another last one.
+abbrev withBridge1 : ℕ → ℕ → List (List ℕ)
+withBridge1 second third = take 1 diamond ++ ((0x10000002 ∷ second ∷ third ∷ []) ∷ drop 2 diamond)
+
+-- The diamond with bridge 1 at another priority.
+abbrev diamondAt : ℕ → List (List ℕ)
+diamondAt priority = withBridge1 (priority * 2 ^ 16 + 0x0200) 0x00000002
+
 -- VID 10 has index 1 and VID 11 index 2: without the bit 0 to 3 goes by 1 and by 2.
 abbrev figures : List Figure
 figures =
@@ -158,6 +166,18 @@ figures =
     ∷ figure (check (behindDown ((0x2000000a ∷ 0x00000001 ∷ 0x00010008 ∷ []) ∷ []))) (refusal 8)
     ∷ figure (check (behindDown ((0x2000000a ∷ 0x00000001 ∷ 0x00020007 ∷ []) ∷ []))) (refusal 9)
     ∷ figure (check (behindDown ((0x2c00000a ∷ 0x00010000 ∷ 0x00010007 ∷ []) ∷ []))) (refusal 4)
+    -- A6: "In the diamond with bridge 1 at 8001, index 1 now goes by 1." All 12 bits set say no more than one.
+    ∷ figure (path (diamondAt 0x8001) 10 0 3) (pathIs 20 2 (0 ∷ 1 ∷ 3 ∷ []))
+    ∷ figure (path (diamondAt 0x8001) 11 0 3) (pathIs 20 2 (0 ∷ 2 ∷ 3 ∷ []))
+    ∷ figure (path (diamondAt 0x8001) 10 3 0) (pathIs 20 2 (3 ∷ 1 ∷ 0 ∷ []))
+    ∷ figure (path (diamondAt 0x8fff) 10 0 3) (pathIs 20 2 (0 ∷ 1 ∷ 3 ∷ []))
+    ∷ figure (path (diamondAt 0x8fff) 11 0 3) (pathIs 20 2 (0 ∷ 2 ∷ 3 ∷ []))
+    -- The 4 bits above them count as they did.
+    ∷ figure (path (diamondAt 0x9001) 10 0 3) (pathIs 20 2 (0 ∷ 2 ∷ 3 ∷ []))
+    ∷ figure (path (diamondAt 0x9001) 11 0 3) (pathIs 20 2 (0 ∷ 1 ∷ 3 ∷ []))
+    -- Records are read as before: every priority is taken, and 8 goes by the address, here that of bridge 0.
+    ∷ figure (check (diamondAt 0xffff)) (counts 4 8 4 4 0)
+    ∷ figure (check (withBridge1 0x80010200 0x00000001)) (refusal 8)
     ∷ []
 
 -- Every figure shows what document 02 says.

@@ -1,5 +1,5 @@
--- Masked identifiers (01, "The chosen path"): XOR with one mask tells bytes apart, so bridges with different addresses have different
--- masked identifiers under every index. Assumes nothing.
+-- Masked identifiers (01, "The chosen path"; 02, A6): XOR with one mask tells bytes apart, and clearing the extension leaves the address, so
+-- bridges with different addresses have different keys under every index. Assumes nothing.
 use Prim.Native.Nat.{ℕ, zero, suc, _+_, _*_, _-_, _/_, _%_, _^_, _≤_, _<_}
 use native.Mathlib.Omega.{arith}
 use native.Mathlib.Nat.{pow-suc, one-le-pow, div-one, mul-comm, div-div-eq-div-mul}
@@ -17,9 +17,10 @@ use Rattle.graph.specs.Graph.{KeyLaws}
 use Rattle.lists.specs.laws.NumberLaws.{le-or-gt, passes}
 use Rattle.lists.specs.laws.SelectedLaws.{in-any}
 use Rattle.lists.specs.laws.DistinctLaws.{place-in}
+use Rattle.rule.specs.Words.{bits}
 use Rattle.rule.specs.Plan.{Plan, bridgeAt}
 use Rattle.rule.specs.Links.{graphOf}
-use Rattle.rule.specs.Identifiers.{masks, maskOf, maskedBytes, maskedIdentifier, keyOf}
+use Rattle.rule.specs.Identifiers.{masks, maskOf, maskedBytes, maskedIdentifier, withoutExtension, keyOf}
 use Rattle.rule.specs.PlanLaws.{PlanLaws}
 use Rattle.rule.specs.laws.OneRecord.{one-address}
 
@@ -129,10 +130,24 @@ masked-address index i j e =
     let f : i % 2 ^ (16 + 48) ≡ j % 2 ^ (16 + 48) = masked-same 8 (maskOf index) i j (mask-is-byte (index - 1)) e in
     sym (mod-mod-pow i 16 48) ∙ ap (λ (n : ℕ). n % 2 ^ 48) f ∙ mod-mod-pow j 16 48
 
+-- "the identifier with those 12 bits cleared" (02, A6): the address is untouched, and so are the 4 bits above the extension; its 12 bits are
+-- zero.
+pub address-untouched : (i : ℕ) → withoutExtension i % 2 ^ 48 ≡ i % 2 ^ 48
+address-untouched i = omega arith
+
+pub top-bits-untouched : (i : ℕ) → bits (withoutExtension i) 63 60 ≡ bits i 63 60
+top-bits-untouched i = omega arith
+
+pub extension-cleared : (i : ℕ) → bits (withoutExtension i) 59 48 ≡ 0
+extension-cleared i = omega arith
+
 module _ (p : Plan) (L : PlanLaws p) where
   -- Every key of an accepted plan meets what the laws of chosen paths ask.
   pub key-laws : (index : ℕ) → KeyLaws (graphOf p) (keyOf p index)
   key-laws index = record {
-    distinct = λ u v h k e. one-address p L u v h k
-        (masked-address index (bridgeAt p u .identifier) (bridgeAt p v .identifier) e);
+    distinct = λ u v h k e.
+        let i = bridgeAt p u .identifier in
+        let j = bridgeAt p v .identifier in
+        one-address p L u v h k
+        (sym (address-untouched i) ∙ masked-address index (withoutExtension i) (withoutExtension j) e ∙ address-untouched j);
   }

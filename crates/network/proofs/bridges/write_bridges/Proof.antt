@@ -1,4 +1,4 @@
--- `network::bridges::write_bridges` writes the mark of each bridge and the two words of its identifier. Assumes nothing.
+-- `network::bridges::write_bridges` writes the mark of each bridge and the two words of its identifier without the extension. Assumes nothing.
 use lib.ListN.{length-set}
 use native.Mathlib.Omega.{arith}
 use Prim.Native.Nat.{_-_}
@@ -19,7 +19,7 @@ loop-holds c = writing-starts _ _ _
 
 slice-write-words : tie.Need-slice-write-words Inv-loop μ-loop
 slice-write-words c =
-    let at-if1 = c .before .before in
+    let at-if1 = c .before .before .before in
     let at-loop = at-if1 .before .before in
     let at-start = at-loop .before .before .before in
     let (_, bridges-bound, words-room) = at-start .pre in
@@ -35,7 +35,7 @@ slice-write-words-2 c =
 
 slice-write-words-3 : tie.Need-slice-write-words-3 Inv-loop μ-loop
 slice-write-words-3 c =
-    let at-if1 = c .before .before .before .before in
+    let at-if1 = c .before .before .before in
     let at-loop = at-if1 .before .before in
     let at-start = at-loop .before .before .before in
     let (_, _, words-room) = at-start .pre in
@@ -43,14 +43,13 @@ slice-write-words-3 c =
 
 loop-again : tie.Need-loop-again Inv-loop μ-loop
 loop-again c =
-    let at-mark-of = c .before .before in
-    let at-bridge = at-mark-of .before in
+    let at-bridge = c .before .before in
     let at-if1 = at-bridge .before in
     let at-loop = at-if1 .before .before in
     let at-start = at-loop .before .before .before in
     let (_, bridges-bound, words-room) = at-start .pre in
-    writing-on (at-loop .loop .inv) _ _ (at-if1 .if1 .taken) bridges-bound words-room (at-bridge .bridge .ensures)
-    (at-mark-of .mark-of .ensures)
+    writing-on (at-loop .loop .inv) _ _ _ (at-if1 .if1 .taken) bridges-bound words-room (at-bridge .bridge .ensures) (c .mark-of .ensures)
+    (c .before .without-extension .ensures)
 
 returns : tie.Need-returns Inv-loop μ-loop
 returns c =
@@ -60,7 +59,7 @@ returns c =
 pub write-bridges-spec : {M : Type 1} → statement M
 write-bridges-spec =
     tie.close
-    (tie.spec Inv-loop μ-loop loop-holds (λ c κs. search needs) (λ c κs. search needs) (λ c. search needs) slice-write-words
-    (λ c. search needs) (λ c. search needs) (λ c. search needs) (λ c. search needs) slice-write-words-2 (λ c. search needs)
-    (λ c. search needs) (λ c. search needs) (λ c. search needs) (λ c. search needs) slice-write-words-3 (λ c. search needs)
-    (λ c. search needs) loop-again (λ c. search needs) returns)
+    (tie.spec Inv-loop μ-loop loop-holds (λ c κs. search needs) (λ c κs. search needs) (λ c κs. search needs) (λ c. search needs)
+    slice-write-words (λ c. search needs) (λ c. search needs) (λ c. search needs) (λ c. search needs) slice-write-words-2
+    (λ c. search needs) (λ c. search needs) (λ c. search needs) (λ c. search needs) (λ c. search needs) slice-write-words-3
+    (λ c. search needs) (λ c. search needs) loop-again (λ c. search needs) returns)
