@@ -100,22 +100,21 @@ pub fn priorities_without_range(setting: &Setting) -> Outcome {
     Ok(())
 }
 
-/// The worked table whose second bridge has the first one's address, and a priority that
-/// differs in one bit.
-pub fn repeated_addresses() -> Result<Vec<(Plan, Refusal)>, String> {
-    let worked = worked_plan()?;
-    let Bridge { address, priority, .. } = worked.bridges[0];
+/// The diamond whose second bridge has the first one's address, and a priority that
+/// differs in one bit; and the refusal.
+pub fn repeated_addresses() -> Vec<(Plan, Refusal)> {
     let repeated = |bit: u16| {
-        let mut plan = worked.clone();
+        let mut plan = diamond([0x8000; 4]);
+        let Bridge { address, priority, .. } = plan.bridges[0];
         plan.bridges[1] = Bridge { address, priority: priority ^ 1 << bit, ..plan.bridges[1] };
         (plan, Refusal::of_record(8, Kind::Bridge, Kind::Bridge.words()))
     };
-    Ok((0..16).map(repeated).collect())
+    (0..16).map(repeated).collect()
 }
 
 /// 8 goes by the address, whatever the priorities.
 pub fn addresses_repeat_with_any_extension(setting: &Setting) -> Outcome {
-    for (plan, refusal) in repeated_addresses()? {
+    for (plan, refusal) in repeated_addresses() {
         let name = format!("priority {:04X}", plan.bridges[1].priority);
         equal(&name, check(setting.rules, &plan.bytes()), Err(refusal))?;
     }
