@@ -2,8 +2,8 @@
 
 use crate::links::{usable_links, Network};
 use crate::records::{
-    Bridge, HalfLink, Kind, Plan, Record, Traffic, BELOW_MARK_BIT, GREATEST_USABLE_METRIC, GROUP_BIT,
-    LEAST_METRIC, MARK_BIT, UNUSABLE_METRIC,
+    Bridge, HalfLink, Kind, Plan, Record, Traffic, BELOW_MARK_BIT, EXTENSION_BITS, GREATEST_USABLE_METRIC,
+    GROUP_BIT, LEAST_METRIC, MARK_BIT, UNUSABLE_METRIC,
 };
 use crate::refusal::Refusal;
 use crate::rules::{Misreading, Rules};
@@ -162,7 +162,10 @@ impl Reader<'_> {
 
     fn has_fault(&self, number: u32, kind: Kind, record: &Record) -> bool {
         match number {
-            4 => self.words[self.first] & self.zero_bits(kind) != 0,
+            4 => {
+                let refused = self.is_extended_with(record, Misreading::ExtensionRefused);
+                self.words[self.first] & self.zero_bits(kind) != 0 || refused
+            }
             5 => self.is_over_limit(kind, record),
             6 => self.is_out_of_range(record),
             7 => self.names_nothing(record),
@@ -215,8 +218,14 @@ impl Reader<'_> {
         matches!(record, Record::HalfLink(half_link) if half_link.down) && self.rules.has(misreading)
     }
 
+    /// Whether the record is a bridge with extension bits, and the misreading holds.
+    fn is_extended_with(&self, record: &Record, misreading: Misreading) -> bool {
+        matches!(record, Record::Bridge(bridge) if bridge.extension() != 0) && self.rules.has(misreading)
+    }
+
     fn is_out_of_range(&self, record: &Record) -> bool {
         match record {
+            Record::Bridge(_) if self.is_extended_with(record, Misreading::ExtensionOutOfRange) => true,
             Record::Bridge(bridge) => bridge.source_id == 0 || !self.is_individual(bridge.address),
             Record::HalfLink(half_link) => {
                 let any_metric = self.is_down_with(record, Misreading::DownMetricUnasked);
@@ -331,12 +340,14 @@ impl Reader<'_> {
 
     /// Whether the bridge has the earlier one's address or SPsourceID.
     fn repeats_bridge(&self, bridge: &Bridge, earlier: &Bridge) -> bool {
-        let with_priority = self.rules.has(Misreading::RepeatWithPriority);
         let with_overload = self.rules.has(Misreading::RepeatWithOverload);
         let source_id = earlier.source_id == bridge.source_id
             && (!with_overload || earlier.overloaded == bridge.overloaded);
-        let address =
-            earlier.address == bridge.address && (!with_priority || earlier.priority == bridge.priority);
+        let differing = earlier.priority ^ bridge.priority;
+        let other_priority = self.rules.has(Misreading::RepeatWithPriority) && differing != 0;
+        let other_top_bits =
+            self.rules.has(Misreading::RepeatWithTopBits) && differing & !EXTENSION_BITS != 0;
+        let address = earlier.address == bridge.address && !other_priority && !other_top_bits;
         source_id || address
     }
 

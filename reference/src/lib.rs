@@ -1,5 +1,5 @@
-//! A separate implementation of document 01 with requests A1 to A3 and A5 of document 02,
-//! written from their text and the readings in docs/DECISIONS.md.
+//! A separate implementation of document 01 with requests A1 to A3, A5 and A6 of document
+//! 02, written from their text and the readings in docs/DECISIONS.md.
 //!
 //! The calls (`check`, `path`, `tree`, `entries`, `lookup`, `listing`,
 //! `service_reading`, `service_writing`), the frames that move by the words written

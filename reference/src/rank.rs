@@ -1,10 +1,10 @@
-//! ECT masks, masked identifiers, and the order of paths: least cost, then
-//! fewest hops, then lowest masked PATHID.
+//! ECT masks, identifiers without their extension and masked ones, and the order of
+//! paths: least cost, then fewest hops, then lowest masked PATHID.
 
 use std::cmp::Ordering;
 
 use crate::links::Network;
-use crate::records::Plan;
+use crate::records::{Bridge, Plan, EXTENSION_BITS};
 use crate::rules::{Misreading, Rules};
 
 /// The masks of index 1 to 16.
@@ -22,7 +22,29 @@ pub fn mask(rules: Rules, index: u16) -> u8 {
     }
 }
 
-/// Each of the eight bytes of a Bridge Identifier XORed with the mask.
+/// What masking begins from: the Bridge Identifier with its system id extension cleared.
+/// The 4 top bits and the address stay.
+pub fn without_extension(rules: Rules, identifier: u64) -> u64 {
+    identifier & !(u64::from(cleared_priority_bits(rules)) << 48)
+}
+
+fn cleared_priority_bits(rules: Rules) -> u16 {
+    if rules.has(Misreading::ExtensionCounts) {
+        0
+    } else if rules.has(Misreading::LowByteCleared) {
+        0x00FF
+    } else if rules.has(Misreading::PriorityCleared) {
+        0xFFFF
+    } else if rules.has(Misreading::TopBitsCleared) {
+        !EXTENSION_BITS
+    } else if rules.has(Misreading::TwelveTopBitsCleared) {
+        0xFFF0
+    } else {
+        EXTENSION_BITS
+    }
+}
+
+/// Each of the eight bytes of an identifier XORed with the mask.
 pub fn masked(rules: Rules, identifier: u64, index: u16) -> u64 {
     let mask = mask(rules, index);
     let mut bytes = identifier.to_be_bytes().map(|byte| byte ^ mask);
@@ -53,6 +75,7 @@ impl Path {
 pub struct Ranking<'a> {
     pub rules: Rules,
     pub network: &'a Network,
+    /// Without extension, not yet masked.
     identifiers: Vec<u64>,
     overloaded: Vec<bool>,
     index: u16,
@@ -60,7 +83,8 @@ pub struct Ranking<'a> {
 
 impl<'a> Ranking<'a> {
     pub fn new(rules: Rules, plan: &Plan, network: &'a Network, index: u16) -> Ranking<'a> {
-        let identifiers = plan.bridges.iter().map(|bridge| bridge.identifier()).collect();
+        let identifier = |bridge: &Bridge| without_extension(rules, bridge.identifier());
+        let identifiers = plan.bridges.iter().map(identifier).collect();
         let overloaded = plan.bridges.iter().map(|bridge| bridge.overloaded).collect();
         Ranking { rules, network, identifiers, overloaded, index }
     }

@@ -89,6 +89,9 @@ fn is_marked(rules: Rules, at_bit_26: Misreading, first_word: u32) -> bool {
     first_word & bit != 0
 }
 
+/// The system id extension: the 12 low bits of a bridge's 16 priority bits.
+pub const EXTENSION_BITS: u16 = 0x0FFF;
+
 /// The group bit of a 48-bit address: the lowest bit of its first octet.
 pub const GROUP_BIT: u64 = 1 << 40;
 
@@ -105,6 +108,16 @@ impl Bridge {
     /// The 64-bit Bridge Identifier.
     pub fn identifier(&self) -> u64 {
         u64::from(self.priority) << 48 | self.address
+    }
+
+    /// The system id extension that the bridge reports in its priority.
+    pub fn extension(&self) -> u16 {
+        self.priority & EXTENSION_BITS
+    }
+
+    /// The bridge with another system id extension, its top priority bits kept.
+    pub fn with_extension(self, extension: u16) -> Bridge {
+        Bridge { priority: self.priority & !EXTENSION_BITS | extension & EXTENSION_BITS, ..self }
     }
 
     pub fn words(&self) -> [u32; 3] {

@@ -1,5 +1,5 @@
-//! The rules that the calls follow: those of document 01 with requests A1 to A3 and A5 of
-//! document 02, or the same with one deliberate misreading, by which the tests are
+//! The rules that the calls follow: those of document 01 with requests A1 to A3, A5 and A6
+//! of document 02, or the same with one deliberate misreading, by which the tests are
 //! shown to notice it.
 
 /// The comparers that are tried with misreadings.
@@ -135,6 +135,18 @@ misreadings! {
     "the opposite direction is a repeat" OppositeRepeats: [Listing, Check, Calls, Services],
     "traffic repeats without regard to the VID" TrafficRepeatsWithoutVid: [Listing, Check, Calls, Services],
     "traffic repeats with equal amount only" TrafficRepeatsWithAmount: [Listing, Check, Calls, Services],
+    // Extension bits in priorities, request A6 of document 02. That they are cleared after
+    // masking shows in no answer, since what stands in their place is the same for all
+    // bridges; nor does it show that the ends of a path keep theirs, since paths that are
+    // compared have the same ends.
+    "extension bits count" ExtensionCounts: [Listing, Calls],
+    "only the low 8 of the 12 extension bits are cleared" LowByteCleared: [Listing, Calls],
+    "all 16 priority bits are cleared" PriorityCleared: [Listing, Calls],
+    "the 4 top bits are cleared in place of the 12 extension bits" TopBitsCleared: [Listing, Calls],
+    "the 12 top priority bits are cleared" TwelveTopBitsCleared: [Listing, Calls],
+    "extension bits are zero bits" ExtensionRefused: [Listing, Check, Calls, Services],
+    "a priority with extension bits is out of range" ExtensionOutOfRange: [Listing, Check, Calls, Services],
+    "addresses repeat with equal top priority bits only" RepeatWithTopBits: [Listing, Check, Calls, Services],
     // Calls.
     "12 is given before searching beyond one hop" TwelveBeforeSearching: [Listing, Calls],
     "13 though the answer just fits" ThirteenThoughItFits: [Calls, Services],
@@ -252,11 +264,23 @@ misreadings! {
     "a refused table's line gives the kind" RefusedWithKind: [Listing],
 }
 
+impl Misreading {
+    /// Those of request A6 by which PATHIDs have another order, and which change nothing
+    /// else.
+    pub const OF_PATHID_ORDER: [Misreading; 5] = [
+        Misreading::ExtensionCounts,
+        Misreading::LowByteCleared,
+        Misreading::PriorityCleared,
+        Misreading::TopBitsCleared,
+        Misreading::TwelveTopBitsCleared,
+    ];
+}
+
 #[derive(Clone, Copy, Debug)]
 pub struct Rules(Option<Misreading>);
 
 impl Rules {
-    /// Document 01 with requests A1 to A3 and A5 of document 02, to the word.
+    /// Document 01 with requests A1 to A3, A5 and A6 of document 02, to the word.
     pub const AS_WRITTEN: Rules = Rules(None);
 
     pub fn with(misreading: Misreading) -> Rules {

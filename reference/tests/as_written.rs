@@ -64,6 +64,16 @@ tests! {
     loads_agree_with_brute_force
     sums_of_loads_agree
     sums_of_loads_agree_on_largest_plans
+    diamond_with_extensions
+    table_28_1_with_extensions
+    extensions_and_six_bridges
+    priorities_without_range
+    addresses_repeat_with_any_extension
+    tables_without_extensions_list_as_before
+    extensions_list_as_if_cleared
+    extensions_change_no_listing
+    extensions_change_no_answer
+    least_by_top_bits_and_address
     masks_of_table_28_1
     fewer_bridges_first
     higher_fourth_bridge

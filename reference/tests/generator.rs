@@ -10,7 +10,7 @@ use reference::generate::stream::case;
 use reference::links::Network;
 use reference::loads::Loads;
 use reference::rank::Path;
-use reference::records::{Kind, Member, Plan, Traffic, UNUSABLE_METRIC};
+use reference::records::{Bridge, Kind, Member, Plan, Traffic, EXTENSION_BITS, UNUSABLE_METRIC};
 use reference::refusal::Refusal;
 use reference::rules::{Misreading, Rules};
 use reference::search::for_each_simple_path;
@@ -53,6 +53,42 @@ fn sorts() -> Vec<Sort> {
         ("64 members", |plan| plan.members.len() == 64),
         ("equal priorities", |plan| plan.bridges.iter().all(|one| one.priority == plan.bridges[0].priority)),
         ("varied priorities", |plan| plan.bridges.iter().any(|one| one.priority != plan.bridges[0].priority)),
+        ("no extension bits", |plan| plan.bridges.len() > 1 && extended(plan) == 0),
+        ("extension bits of one bridge", |plan| plan.bridges.len() > 1 && extended(plan) == 1),
+        ("extension bits of some bridges", |plan| (2..plan.bridges.len()).contains(&extended(plan))),
+        ("extension bits of all bridges", |plan| {
+            plan.bridges.len() > 1 && extended(plan) == plan.bridges.len()
+        }),
+        ("64 bridges with extension bits", |plan| extended(plan) == 64),
+        ("extensions all different", |plan| {
+            let all: BTreeSet<u16> = plan.bridges.iter().map(Bridge::extension).collect();
+            plan.bridges.len() > 2 && all.len() == plan.bridges.len()
+        }),
+        ("extension bits in the low byte alone", |plan| {
+            extended(plan) > 1 && plan.bridges.iter().all(|bridge| bridge.extension() & 0xF00 == 0)
+        }),
+        ("extension bits above the low byte alone", |plan| {
+            extended(plan) > 1 && plan.bridges.iter().all(|bridge| bridge.extension() & 0xFF == 0)
+        }),
+        ("all extension bits or none", |plan| {
+            extended(plan) > 1
+                && plan.bridges.iter().all(|bridge| [0, EXTENSION_BITS].contains(&bridge.extension()))
+        }),
+        ("each extension bit", |plan| {
+            let all = plan.bridges.iter().fold(0, |bits, bridge| bits | bridge.extension());
+            all == EXTENSION_BITS
+        }),
+        ("extensions fall as addresses rise", have_falling_extensions),
+        ("equal top bits, other extensions", differ_in_extension_alone),
+        ("equal top bits, other extensions, tie of cost and hops", |plan| {
+            differ_in_extension_alone(plan) && has_tie(plan, true)
+        }),
+        ("other top bits and extensions, tie of cost and hops", |plan| {
+            extended(plan) > 0 && !have_equal_top_bits(plan) && has_tie(plan, true)
+        }),
+        ("path that extension bits would change", |plan| {
+            is_changed_by(plan, Misreading::ExtensionCounts, true)
+        }),
         ("half-link alone", |plan| plan.half_links.iter().any(|half| mates(plan, half.link) == 1)),
         ("unusable metric", |plan| plan.half_links.iter().any(|half| half.metric == UNUSABLE_METRIC)),
         ("asymmetric metrics", has_asymmetric_link),
@@ -132,6 +168,25 @@ fn sorts() -> Vec<Sort> {
         ("tie of cost and hops", |plan| has_tie(plan, true)),
         ("tie of cost with other hops", |plan| has_tie(plan, false)),
     ]
+}
+
+fn extended(plan: &Plan) -> usize {
+    plan.bridges.iter().filter(|bridge| bridge.extension() != 0).count()
+}
+
+fn have_equal_top_bits(plan: &Plan) -> bool {
+    plan.bridges.iter().all(|bridge| bridge.priority >> 12 == plan.bridges[0].priority >> 12)
+}
+
+fn differ_in_extension_alone(plan: &Plan) -> bool {
+    have_equal_top_bits(plan)
+        && plan.bridges.iter().any(|bridge| bridge.extension() != plan.bridges[0].extension())
+}
+
+fn have_falling_extensions(plan: &Plan) -> bool {
+    let mut bridges = plan.bridges.clone();
+    bridges.sort_by_key(|bridge| bridge.address);
+    bridges.len() > 2 && bridges.windows(2).all(|two| two[0].extension() > two[1].extension())
 }
 
 fn mates(plan: &Plan, link: u16) -> usize {
@@ -253,6 +308,18 @@ fn every_sort_of_valid_plan_is_made() {
         let made = plans.iter().filter(|plan| has(plan)).count();
         println!("{name}: {made} of {} plans", plans.len());
         assert!(made > 0, "no plan has: {name}");
+    }
+}
+
+/// Plans where priorities decide are frequent, those of few bridges among them.
+#[test]
+fn chosen_paths_often_depend_on_priorities() {
+    let small = (0..CASES).filter(|number| number % 10 < 4).map(|number| case(SEED, number));
+    let plans: Vec<Plan> = small.filter_map(|case| read(Rules::AS_WRITTEN, &case.table).ok()).collect();
+    for misreading in Misreading::OF_PATHID_ORDER {
+        let changed = plans.iter().filter(|plan| is_changed_by(plan, misreading, true)).count();
+        println!("{misreading:?}: {changed} of {} small plans", plans.len());
+        assert!(25 * changed > plans.len(), "{misreading:?} changes {changed} of {}", plans.len());
     }
 }
 

@@ -1,7 +1,9 @@
 //! Every misreading makes at least one property fail, and the list of which; and
-//! names every comparer that can notice it.
+//! names every comparer that can notice it. What another order of PATHIDs changes.
 
-use reference::call_lines::answer_lines;
+use std::collections::{BTreeMap, BTreeSet};
+
+use reference::call_lines::{answer_lines, Question};
 use reference::check_line::check_line;
 use reference::generate::questions::questions;
 use reference::generate::service_plans::service_case;
@@ -100,5 +102,45 @@ fn every_comparer_that_can_notice_a_misreading_is_named() {
                 );
             }
         }
+    }
+}
+
+/// The lines about a table by the call that answers them, and by their first word where
+/// the listing has them.
+fn lines_by_name(rules: Rules, Case { number, table, .. }: &Case) -> BTreeMap<String, Vec<String>> {
+    let call = |question: &Question| match question {
+        Question::Path { .. } => "called path",
+        Question::Tree { .. } => "called tree",
+        Question::Entries { .. } => "called entries",
+    };
+    let questions = questions(table, &mut Random::for_case(!1, *number));
+    let mut by_name: BTreeMap<String, Vec<String>> = BTreeMap::new();
+    for (question, line) in questions.iter().zip(answer_lines(rules, table, &questions)) {
+        by_name.entry(call(question).to_string()).or_default().push(line);
+    }
+    for line in listing(rules, table).lines() {
+        let word = line.split(' ').next().expect("a line has a first word");
+        by_name.entry(format!("listed {word}")).or_default().push(line.to_string());
+    }
+    by_name
+}
+
+/// Another order of PATHIDs shows in every call that finds paths, in path, entry and load
+/// lines, and nowhere else.
+#[test]
+fn another_order_of_pathids_shows_in_every_call_that_finds_paths() {
+    let wanted =
+        ["called entries", "called path", "called tree", "listed entry", "listed load", "listed path"];
+    let cases: Vec<Case> = (0..COMPARED_TABLES).map(|number| case(1, number)).collect();
+    for misreading in Misreading::OF_PATHID_ORDER {
+        let mut shown = BTreeSet::new();
+        for case in &cases {
+            let [as_written, misread] =
+                [Rules::AS_WRITTEN, Rules::with(misreading)].map(|rules| lines_by_name(rules, case));
+            let names: BTreeSet<&String> = as_written.keys().chain(misread.keys()).collect();
+            let differ = names.into_iter().filter(|name| as_written.get(*name) != misread.get(*name));
+            shown.extend(differ.cloned());
+        }
+        assert_eq!(shown.into_iter().collect::<Vec<_>>(), wanted, "{misreading:?}");
     }
 }

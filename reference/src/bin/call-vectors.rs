@@ -2,8 +2,8 @@
 //! document 01, to the same bridges without links, to a small plan of a seed with no
 //! half-link down, to the table of one word and to refused tables; all paths, trees and
 //! entries of the diamond with overloaded bridges, of the diamond and parallel links with
-//! half-links that are down, and of the diamond with traffic records; and tables with
-//! faults of such half-links and records.
+//! half-links that are down, of the diamond with traffic records and with extension bits;
+//! and tables with faults of such half-links and records, or a repeated address.
 //! Holds a folder's `stdin` and `stdout` to it, or writes them with `--write`.
 
 use std::io;
@@ -16,6 +16,7 @@ use reference::check::read;
 use reference::comparing::stored;
 use reference::generate::questions::questions;
 use reference::generate::valid::{plan, Size};
+use reference::properties::extensions::{repeated_addresses, EXTENDED_DIAMONDS};
 use reference::properties::fixture::{diamond, down, links_7_and_9, loaded, overloaded, with_bits};
 use reference::properties::loads::faulty_traffic;
 use reference::properties::ports_down::faulty_half_links_down;
@@ -29,6 +30,9 @@ const USAGE: Usage =
 
 /// The words of a list that holds the entries of any bridge of the diamond.
 const MOST_WORDS: usize = 60;
+
+/// How many of the diamonds with extension bits are asked about.
+const EXTENDED: usize = 4;
 
 fn main() -> io::Result<ExitCode> {
     let arguments = Arguments::of_process(&USAGE);
@@ -63,6 +67,7 @@ fn asked() -> Vec<(Vec<u8>, Vec<Question>)> {
     asked.extend(with_half_links_down());
     asked.extend(refused_with_half_links_down());
     asked.extend(with_traffic());
+    asked.extend(with_extensions());
     asked
 }
 
@@ -70,7 +75,7 @@ fn asked() -> Vec<(Vec<u8>, Vec<Question>)> {
 /// that are not joined, and all; and one with a zero bit set, which is refused.
 fn overloaded_diamonds() -> Vec<(Vec<u8>, Vec<Question>)> {
     let choices: [&[usize]; 6] = [&[], &[1], &[0, 1], &[1, 2], &[0, 3], &[0, 1, 2, 3]];
-    let plans = choices.map(|bridges| overloaded(diamond_of_service(), bridges));
+    let plans = choices.map(|bridges| overloaded(diamond_of_service([0x8000; 4]), bridges));
     let mut faulty = plans[1].words();
     faulty[0] |= BELOW_MARK_BIT;
     let questions = every_question(&plans[0]);
@@ -85,14 +90,15 @@ fn with_half_links_down() -> Vec<(Vec<u8>, Vec<Question>)> {
     let pairs: [&[usize]; 3] = [&[0], &[1], &[0, 3]];
     let mut parallel = links_7_and_9([10, 12]);
     parallel.vids.truncate(2);
-    let diamonds = diamonds.map(|half_links| down(diamond_of_service(), half_links));
+    let diamonds = diamonds.map(|half_links| down(diamond_of_service([0x8000; 4]), half_links));
     let pairs = pairs.map(|half_links| down(parallel.clone(), half_links));
     diamonds.iter().chain(&pairs).map(|plan| (plan.bytes(), every_question(plan))).collect()
 }
 
 /// Faults that a half-link has whether it is down or not, and a zero bit beside the mark.
 fn refused_with_half_links_down() -> Vec<(Vec<u8>, Vec<Question>)> {
-    let zero_bit = with_bits(&diamond_of_service(), Kind::HalfLink, [MARK_BIT, MARK_BIT | BELOW_MARK_BIT]);
+    let zero_bit =
+        with_bits(&diamond_of_service([0x8000; 4]), Kind::HalfLink, [MARK_BIT, MARK_BIT | BELOW_MARK_BIT]);
     let faulty = faulty_half_links_down().into_iter().map(|(plan, _)| plan.bytes());
     [zero_bit].into_iter().chain(faulty).map(|table| (table, two_questions())).collect()
 }
@@ -100,9 +106,18 @@ fn refused_with_half_links_down() -> Vec<(Vec<u8>, Vec<Question>)> {
 /// Two traffic records of the diamond, which answers as without them; and faults of a
 /// second record.
 fn with_traffic() -> Vec<(Vec<u8>, Vec<Question>)> {
-    let plan = loaded(diamond_of_service(), &[(1, 5, 0, 3), (1, 65_535, 3, 0)]);
+    let plan = loaded(diamond_of_service([0x8000; 4]), &[(1, 5, 0, 3), (1, 65_535, 3, 0)]);
     let faulty = faulty_traffic().into_iter().map(|(table, _)| (table, two_questions()));
     [(plan.bytes(), every_question(&plan))].into_iter().chain(faulty).collect()
+}
+
+/// The diamond with extension bits, and an address that stands twice beside another
+/// priority.
+fn with_extensions() -> Vec<(Vec<u8>, Vec<Question>)> {
+    let plans =
+        EXTENDED_DIAMONDS.iter().take(EXTENDED).map(|&(priorities, _)| diamond_of_service(priorities));
+    let refused = repeated_addresses().into_iter().map(|(plan, _)| (plan.bytes(), two_questions()));
+    plans.map(|plan| (plan.bytes(), every_question(&plan))).chain(refused).collect()
 }
 
 /// What a refused table is asked.
@@ -111,8 +126,8 @@ fn two_questions() -> Vec<Question> {
 }
 
 /// The diamond with index 1 and 2, and all bridges members of one service.
-fn diamond_of_service() -> Plan {
-    let mut plan = diamond([0x8000; 4]);
+fn diamond_of_service(priorities: [u16; 4]) -> Plan {
+    let mut plan = diamond(priorities);
     plan.vids.truncate(2);
     let member = |bridge: u16| Member { transmits: true, receives: true, service: 256, bridge, vid: 1 };
     plan.members = (0..4).map(member).collect();

@@ -2,7 +2,8 @@
 //! an empty table, the table of one word, for each refusal number and kind one
 //! damaged table, the worked example with bits set in the first words of its bridges and
 //! half-links, the diamond with half-links that are down and with faults of such, and with
-//! traffic records and faults of such; the longest table, and one word more.
+//! traffic records and faults of such; the diamond with extension bits, and an address that
+//! stands twice beside another priority; the longest table, and one word more.
 //! Holds a folder's `stdin` and `stdout` to it, or writes them with `--write`.
 
 use std::collections::BTreeMap;
@@ -18,6 +19,7 @@ use reference::generate::damage::{
     edited_once, one_word_too_long, over_limit, truncations, words_after_end, Damaged,
 };
 use reference::generate::valid::{fullest, plan as seeded_plan, Size};
+use reference::properties::extensions::{repeated_addresses, EXTENDED_DIAMONDS};
 use reference::properties::fixture::{diamond, down, loaded, with_bits};
 use reference::properties::loads::{accepted_traffic, faulty_traffic, loaded_diamond};
 use reference::properties::ports_down::faulty_half_links_down;
@@ -56,6 +58,8 @@ fn tables() -> Vec<Vec<u8>> {
     tables.extend([Kind::Bridge, Kind::HalfLink].iter().flat_map(|&kind| worked_with_bits(&plan, kind)));
     tables.extend(diamonds_with_half_links_down());
     tables.extend(tables_with_traffic(&plan));
+    tables.extend(EXTENDED_DIAMONDS.iter().map(|&(priorities, _)| diamond(priorities).bytes()));
+    tables.extend(repeated_addresses().into_iter().map(|(plan, _)| plan.bytes()));
     tables.push(fullest(&mut random).bytes());
     tables.push(one_word_too_long(&mut random).table);
     tables

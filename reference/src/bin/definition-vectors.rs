@@ -1,8 +1,9 @@
 //! Writes a module of the proof checker's language that holds the definitions of
 //! documents 01 and 02 in `crates/rule` to the reference: for seeded tables, the diamond
-//! with overloaded bridges and with half-links that are down, parallel links of which one
-//! is down, and a bridge with 61 services, what each call gives, as equations that the
-//! checker computes. The script `compare-definitions` has it checked.
+//! with overloaded bridges, with half-links that are down and with extension bits, parallel
+//! links of which one is down, and a bridge with 61 services, what each call gives, and for
+//! seeded identifiers what masking makes of them, as equations that the checker computes.
+//! The script `compare-definitions` has it checked.
 
 use reference::arguments::{Arguments, Usage};
 use reference::check::check;
@@ -14,9 +15,11 @@ use reference::generate::valid::{plan, Size};
 use reference::loads::Loads;
 use reference::lookup::lookup;
 use reference::path::{exported_path_cost, path};
+use reference::properties::extensions::EXTENDED_DIAMONDS;
 use reference::properties::fixture::{diamond, down, links_7_and_9, overloaded};
 use reference::random::Random;
-use reference::records::{Kind, Member, Plan};
+use reference::rank::{masked, without_extension};
+use reference::records::{Kind, Member, Plan, EXTENSION_BITS};
 use reference::refusal::Refusal;
 use reference::rules::Rules;
 use reference::service_reading::read_services;
@@ -47,6 +50,12 @@ const OVERLOADED: [&[usize]; 3] = [&[1], &[1, 2], &[0, 3]];
 /// near half of link 0-2.
 const DOWN: [&[usize]; 2] = [&[1], &[1, 4]];
 
+/// How many of the diamonds with extension bits are compared.
+const EXTENDED: usize = 4;
+
+/// Seeded identifiers for each ECT index.
+const IDENTIFIERS: usize = 2;
+
 /// What the lent lists hold before a call.
 const OLD: u32 = 7;
 const OLD_BYTE: u8 = 7;
@@ -68,7 +77,7 @@ use Rattle.rule.specs.Plan.{Plan}
 use Rattle.rule.specs.Check.{lowestFault, readOn, verdict}
 use Rattle.rule.specs.Links.{linksOf, usableLinks, countUsable, linksBetween, hopLink, graphOf}
 use Rattle.rule.specs.Loads.{ownIndexes, trafficPath, loadOf, totalLoad, lostLoad}
-use Rattle.rule.specs.Identifiers.{maskedBytes, maskedIdentifier}
+use Rattle.rule.specs.Identifiers.{withoutExtension, maskedBytes, maskedIdentifier, keyOf}
 use Rattle.rule.specs.Paths.{chosenPath}
 use Rattle.rule.specs.Entries.{entryListOf, entriesOf, individualEntries, groupEntries, listedPorts, receiverPorts, leavingPort}
 use Rattle.rule.specs.Calls.{checkOutcome, pathAnswer, pathOutcome, entriesAnswer, entriesOutcome, treeOutcome, treeOf, lastButOne}
@@ -82,6 +91,11 @@ loads (answered p) =
     flatMap (λ q. q .lower ∷ q .higher ∷ loadOf p (ownIndexes p) (p .traffic) q ∷ []) (joinedPairs (graphOf p))
     ++ (totalLoad p (ownIndexes p) (p .traffic) ∷ lostLoad p (ownIndexes p) (p .traffic) ∷ [])
 loads (refused number kind at) = []
+
+-- The masked identifier of a bridge by an ECT index.
+abbrev keyAt : Outcome Plan → ℕ → ℕ → ℕ
+keyAt (answered p) index u = keyOf p index u
+keyAt (refused number kind at) index u = 0
 ";
 
 /// What the checker opens to compute an outcome.
@@ -100,8 +114,12 @@ fn main() {
     let marked_bridges = OVERLOADED.map(|bridges| overloaded(diamond([0x8000; 4]), bridges));
     let marked_half_links = DOWN.map(|half_links| down(diamond([0x8000; 4]), half_links));
     for (number, plan) in marked_bridges.into_iter().chain(marked_half_links).enumerate() {
-        Vectors::new(format!("diamond{number}"), Random::new(seed)).of_diamond(plan);
+        Vectors::new(format!("diamond{number}"), Random::new(seed)).of_diamond(plan, 1);
     }
+    for (number, (priorities, _)) in (0..).zip(&EXTENDED_DIAMONDS[..EXTENDED]) {
+        Vectors::new(format!("extended{number}"), Random::for_case(seed, number)).of_extensions(*priorities);
+    }
+    Vectors::new("identifiers".to_string(), Random::new(seed)).of_identifiers();
     Vectors::new("parallel".to_string(), Random::new(seed)).of_parallel_links();
     Vectors::new("members".to_string(), Random::new(seed)).of_members();
     for number in first..first + arguments.number("count", 50) {
@@ -129,19 +147,50 @@ impl Vectors {
         Vectors { random, name, written: 0 }
     }
 
-    /// The diamond with marks, which few seeded tables have on their paths: paths from
-    /// end to end and across, a tree, and the entries of an end.
-    fn of_diamond(&mut self, mut plan: Plan) {
-        plan.vids.truncate(1);
+    /// The diamond with marks or extension bits, which few seeded tables have on their
+    /// paths: by the first indexes paths from end to end and across, and a tree; the
+    /// entries of an end.
+    fn of_diamond(&mut self, mut plan: Plan, indexes: usize) {
+        plan.vids.truncate(indexes);
         let member = |bridge: u16| Member { transmits: true, receives: true, service: 256, bridge, vid: 1 };
         plan.members = [0, 3].map(member).to_vec();
         let table = plan.bytes();
         self.table(&table);
-        for (from, to) in [(0, 3), (1, 2)] {
-            self.path(&table, (1, from, to), plan.bridges.len());
+        for vid in plan.vids.iter().map(|record| record.vid.into()) {
+            for (from, to) in [(0, 3), (1, 2)] {
+                self.path(&table, (vid, from, to), plan.bridges.len());
+            }
+            self.tree(&table, vid, 0, plan.bridges.len());
         }
-        self.tree(&table, 1, 0, plan.bridges.len());
         self.entries(&table, 0);
+    }
+
+    /// The diamond with these priorities by index 1 and 2, and the masked identifiers of
+    /// its bridges by these and one more.
+    fn of_extensions(&mut self, priorities: [u16; 4]) {
+        let plan = diamond(priorities);
+        self.of_diamond(plan.clone(), 2);
+        for index in [1, 2, self.random.between(3, 16) as u16] {
+            for (number, bridge) in plan.bridges.iter().enumerate() {
+                let cleared = without_extension(Rules::AS_WRITTEN, bridge.identifier());
+                let call = format!("keyAt (verdict {}) {index} {number}", self.name);
+                self.equation(&call, &masked(Rules::AS_WRITTEN, cleared, index).to_string());
+            }
+        }
+    }
+
+    /// Identifiers with extension bits for every index: without them, masked, and both.
+    fn of_identifiers(&mut self) {
+        for index in (1..=16).flat_map(|index| [index; IDENTIFIERS]) {
+            let extension = self.random.between(1, EXTENSION_BITS.into()) << 48;
+            let identifier = self.random.number() | extension;
+            let cleared = without_extension(Rules::AS_WRITTEN, identifier);
+            let masked = |identifier: u64| masked(Rules::AS_WRITTEN, identifier, index).to_string();
+            self.equation(&format!("withoutExtension {identifier}"), &cleared.to_string());
+            self.equation(&format!("maskedIdentifier {index} {identifier}"), &masked(identifier));
+            let both = format!("maskedIdentifier {index} (withoutExtension {identifier})");
+            self.equation(&both, &masked(cleared));
+        }
     }
 
     /// Links 7 of cost 10 and 9 of cost 12, one half of link 7 down.

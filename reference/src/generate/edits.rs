@@ -1,7 +1,9 @@
 //! Edits of one record of a valid plan that make it faulty, each with the refusal
 //! that it leads to. Every record, field and limit of a range is edited.
 
-use crate::records::{Bridge, HalfLink, Kind, Member, Plan, Traffic, Vid, GROUP_BIT, MARK_BIT};
+use crate::records::{
+    Bridge, HalfLink, Kind, Member, Plan, Traffic, Vid, EXTENSION_BITS, GROUP_BIT, MARK_BIT,
+};
 use crate::refusal::Refusal;
 
 /// A record of a plan: its kind, its number among its kind, its first word.
@@ -151,12 +153,10 @@ impl Editor<'_> {
             let Bridge { address, source_id, priority, .. } = self.plan.bridges[place];
             self.add("address repeated", 8, &Bridge { address, ..bridge }.words());
             self.add("identifier repeated", 8, &Bridge { address, priority, ..bridge }.words());
-            let other_priority = !priority;
-            self.add(
-                "address repeated, other priority",
-                8,
-                &Bridge { address, priority: other_priority, ..bridge }.words(),
-            );
+            let other_priority = Bridge { address, priority: !priority, ..bridge };
+            self.add("address repeated, other priority", 8, &other_priority.words());
+            let other_extension = Bridge { address, priority: priority ^ EXTENSION_BITS, ..bridge };
+            self.add("address repeated, other extension", 8, &other_extension.words());
             self.add("SPsourceID repeated", 8, &Bridge { source_id, ..bridge }.words());
             self.repeat_with_other_overload(bridge, self.plan.bridges[place]);
         }

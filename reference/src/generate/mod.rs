@@ -4,6 +4,8 @@
 pub mod damage;
 pub mod edits;
 pub mod every;
+mod extensions;
+mod many_ways;
 mod ports_down;
 pub mod questions;
 pub mod service_plans;

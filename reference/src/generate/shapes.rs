@@ -17,9 +17,12 @@ pub enum Shape {
     Tree,
     Random,
     TwoParts,
+    Diamonds,
+    Middles,
 }
 
 impl Shape {
+    /// Those of plans with any links.
     pub const ALL: [Shape; 13] = [
         Shape::Apart,
         Shape::Line,
@@ -40,6 +43,19 @@ impl Shape {
     pub const MEASURED: [Shape; 5] =
         [Shape::RingWithChords, Shape::Torus, Shape::Hypercube, Shape::Layers, Shape::Random];
 
+    /// Those of so many bridges in which, by hops of equal cost, many bridges have several
+    /// ways to each other.
+    pub fn with_many_ways(size: usize) -> Vec<Shape> {
+        let mut shapes = vec![Shape::Diamonds, Shape::Middles];
+        if size.is_multiple_of(2) {
+            shapes.extend([Shape::Ring, Shape::Grid]);
+        }
+        if size >= 8 {
+            shapes.push(Shape::Layers);
+        }
+        shapes
+    }
+
     pub fn name(self) -> &'static str {
         match self {
             Shape::Apart => "apart",
@@ -55,6 +71,8 @@ impl Shape {
             Shape::Tree => "tree",
             Shape::Random => "random",
             Shape::TwoParts => "two-parts",
+            Shape::Diamonds => "diamonds",
+            Shape::Middles => "middles",
         }
     }
 
@@ -79,6 +97,8 @@ impl Shape {
             Shape::Tree => (1..size).map(|leaf| (random.below(leaf), leaf)).collect(),
             Shape::Random => random_pairs(size, wanted, random),
             Shape::TwoParts => [all_pairs(0..size / 2), all_pairs(size / 2..size)].concat(),
+            Shape::Diamonds => diamonds(size),
+            Shape::Middles => (2..size).flat_map(|middle| [(0, middle), (middle, 1)]).collect(),
         };
         each_once(drawn)
     }
@@ -150,6 +170,13 @@ fn layers(size: usize) -> Vec<(usize, usize)> {
     let count = size / 4;
     let joins = (0..count).flat_map(|layer| (0..16).map(move |pair| (layer, pair / 4, pair % 4)));
     joins.map(|(layer, near, far)| (layer * 4 + near, (layer + 1) % count * 4 + far)).collect()
+}
+
+/// A row of diamonds, each with its last bridge the next one's first.
+fn diamonds(size: usize) -> Vec<(usize, usize)> {
+    let around =
+        |first: usize| [(0, 1), (0, 2), (1, 3), (2, 3)].map(|(one, other)| (first + one, first + other));
+    (0..size).step_by(3).flat_map(around).filter(|&(_, other)| other < size).collect()
 }
 
 fn random_pairs(size: usize, wanted: usize, random: &mut Random) -> Vec<(usize, usize)> {

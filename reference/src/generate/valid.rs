@@ -1,10 +1,12 @@
 //! Valid plans of every shape: ties, parallel links, asymmetric and unusable
-//! metrics, lone half-links, parts that are apart, equal and varied priorities,
-//! overloaded bridges, half-links that are down, traffic records, largest sizes, and the
-//! star that reaches the longest entry list.
+//! metrics, lone half-links, parts that are apart, equal and varied priorities with and
+//! without extension bits, overloaded bridges, half-links that are down, traffic records,
+//! largest sizes, and the star that reaches the longest entry list.
 
 use std::collections::BTreeSet;
 
+use super::extensions::with_extensions;
+use super::many_ways::with_many_ways;
 use super::ports_down::with_ports_down;
 use super::shapes::Shape;
 use super::traffic::{traffic, with_traffic};
@@ -54,11 +56,13 @@ pub fn plan_of_shape(shape: Shape, size: Size, random: &mut Random) -> Plan {
     let plan = Plan { bridges, half_links, vids, members, ..Plan::default() };
     let mut beside = random.beside();
     let plan = with_marks(plan, &mut beside);
-    with_traffic(plan, &mut beside)
+    let plan = with_traffic(plan, &mut beside);
+    let plan = with_many_ways(plan, &mut beside);
+    with_extensions(plan, &mut beside)
 }
 
-/// The plan with overloaded bridges and half-links that are down. They and the traffic
-/// records are drawn from a source of their own.
+/// The plan with overloaded bridges and half-links that are down. They and what is drawn
+/// after them come from a source of their own.
 fn with_marks(plan: Plan, beside: &mut Random) -> Plan {
     let plan = with_overload(plan, beside);
     with_ports_down(plan, beside)
@@ -296,14 +300,15 @@ pub fn longest_star() -> Plan {
 }
 
 /// A table of the greatest length, full in every kind. It may have overloaded bridges
-/// and half-links that are down, which the tables that the benchmark measures have not.
+/// and half-links that are down, which the tables that the benchmark measures have not;
+/// its extension bits are drawn as those of any plan.
 pub fn fullest(random: &mut Random) -> Plan {
     let shape = *random.pick(&Shape::MEASURED);
     let plan = fullest_of_shape(shape, Kind::Bridge.limit(), random);
     let mut beside = random.beside();
     let mut plan = with_marks(plan, &mut beside);
     plan.traffic = traffic(&plan, Kind::Traffic.limit(), &mut beside);
-    plan
+    with_extensions(plan, &mut beside)
 }
 
 /// A full network with all 16 VIDs and a member for each bridge, without traffic records.
@@ -331,19 +336,30 @@ pub fn full_network(shape: Shape, size: usize, random: &mut Random) -> Plan {
         pairs.push(pairs[place - distinct]);
     }
     pairs.truncate(4 * size);
-    let mut ports = Ports { counted: true, taken: BTreeSet::new() };
-    let mut half_links = Vec::new();
-    for (place, &(from, to)) in pairs.iter().enumerate() {
-        let (near, far, link) = (from as u16, to as u16, place as u16 + 1);
-        let metric = random.between(1, 3) as u32;
-        let outward = HalfLink { down: false, metric, near, far, port: ports.next(from, random), link };
-        half_links.push(outward);
-        half_links.push(HalfLink { near: far, far: near, port: ports.next(to, random), ..outward });
-    }
+    let half_links = whole_links(&pairs, 3, random);
     Plan {
         bridges: bridges(size, random),
         half_links,
         vids: vec![Vid { vid: 1, index: 1 }],
         ..Plan::default()
     }
+}
+
+/// Links with both half-links and equal metrics from 1 to the greatest given, numbered
+/// from 1, ports counted up.
+pub(super) fn whole_links(
+    pairs: &[(usize, usize)],
+    greatest_metric: u64,
+    random: &mut Random,
+) -> Vec<HalfLink> {
+    let mut ports = Ports { counted: true, taken: BTreeSet::new() };
+    let mut half_links = Vec::new();
+    for (place, &(from, to)) in pairs.iter().enumerate() {
+        let (near, far, link) = (from as u16, to as u16, place as u16 + 1);
+        let metric = random.between(1, greatest_metric) as u32;
+        let outward = HalfLink { down: false, metric, near, far, port: ports.next(from, random), link };
+        half_links.push(outward);
+        half_links.push(HalfLink { near: far, far: near, port: ports.next(to, random), ..outward });
+    }
+    half_links
 }

@@ -127,6 +127,14 @@ pub fn down(mut plan: Plan, half_links: &[usize]) -> Plan {
     plan
 }
 
+/// The plan with the extension bits given for each bridge in place of its own.
+pub fn extended(mut plan: Plan, extension: impl Fn(usize) -> u16) -> Plan {
+    for (number, bridge) in plan.bridges.iter_mut().enumerate() {
+        *bridge = bridge.with_extension(extension(number));
+    }
+    plan
+}
+
 /// The plan with these traffic records, by VID, amount, from and to, and no others.
 pub fn loaded(mut plan: Plan, traffic: &[(u16, u16, u16, u16)]) -> Plan {
     let record = |&(vid, amount, from, to): &(u16, u16, u16, u16)| Traffic { vid, amount, from, to };

@@ -4,6 +4,7 @@
 pub mod agreement;
 pub mod buffers;
 pub mod demand3;
+pub mod extensions;
 pub mod figures;
 pub mod fixture;
 pub mod listings;
@@ -60,6 +61,10 @@ properties! {
         faulty_traffic_refused, traffic_that_is_no_repeat, most_traffic_records,
         tables_without_traffic_list_as_before, loads_come_last, loads_agree_with_brute_force,
         sums_of_loads_agree, sums_of_loads_agree_on_largest_plans;
+    extensions: diamond_with_extensions, table_28_1_with_extensions, extensions_and_six_bridges,
+        priorities_without_range, addresses_repeat_with_any_extension,
+        tables_without_extensions_list_as_before, extensions_list_as_if_cleared, extensions_change_no_listing,
+        extensions_change_no_answer, least_by_top_bits_and_address;
     standard: masks_of_table_28_1, fewer_bridges_first, higher_fourth_bridge, complement_is_not_greatest,
         equal_priorities, group_addresses;
     tables: every_edit_refused, every_truncation_refused, wrong_lengths_refused, words_after_end_refused,

@@ -29,7 +29,7 @@ pub const PRIORITY_ORDER: [[u16; 16]; 16] = [
 ];
 
 /// The second bridge of the chosen path for each of the sixteen indexes.
-fn second_bridges(setting: &Setting, plan: &Plan, from: u32, to: u32) -> Result<Vec<u32>, String> {
+pub(super) fn second_bridges(setting: &Setting, plan: &Plan, from: u32, to: u32) -> Result<Vec<u32>, String> {
     let second = |index| route(setting.rules, plan, index, from, to).map(|(bridges, _)| bridges[1]);
     (1..=16).map(second).collect::<Result<_, _>>().map_err(|refusal| format!("refused: {refusal:?}"))
 }
