@@ -18,9 +18,9 @@ ghost use Rattle.network.specs.Networks.{markOf, BridgeWords, KeysOf};
 
 // Where the identifiers begin in the words below: behind the marks.
 const IDENTIFIERS_AFTER: usize = MOST_BRIDGES;
-// The lowest bits above the address, which has 48 bits, and above the extension, which has the next 12.
+// The lowest bit above the address, which has 48 bits.
 const ABOVE_ADDRESS: u64 = 281474976710656;
-
+// The lowest bit above the extension, which has the next 12.
 const ABOVE_EXTENSION: u64 = 1152921504606846976;
 
 fn mark_of(overloaded: bool) -> u32

@@ -40,8 +40,8 @@ maskedBytes (suc n) mask i = maskedBytes n mask (i / 256) * 256 + bitXor (i % 25
 unfoldable pub maskedIdentifier : ℕ → ℕ → ℕ
 maskedIdentifier index i = maskedBytes 8 (maskOf index) i
 
--- "a nonzero 12-bit system id extension inside the 16 priority bits" (02, A6): the bits 59..48 of a Bridge Identifier, whose bits 47..0 are
--- the address. They are cleared; "16 bits priority, 48 bits address", so 4 bits of priority stay above them.
+-- A Bridge Identifier with its "12-bit system id extension inside the 16 priority bits" cleared (02, A6): bits 59..48, with 4 bits of priority
+-- above them and the 48 bits of address below.
 abbrev pub withoutExtension : ℕ → ℕ
 withoutExtension i = bits i 63 60 * 2 ^ 60 + bits i 47 0
 
