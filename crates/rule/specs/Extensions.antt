@@ -28,7 +28,8 @@ withoutExtensions p =
 abbrev pub keyBefore : Plan → ℕ → ℕ → ℕ
 keyBefore p index u = maskedIdentifier index (bridgeAt p u .identifier)
 
--- "Chosen paths are least under the new order": they are those that document 01 alone chooses in the plan without extensions.
+-- "Chosen paths are least under the new order": they are those that the keys of document 01 alone choose in the plan without
+-- extensions.
 abbrev pub LeastUnderNewOrder : Type 0
 LeastUnderNewOrder =
     (p : Plan) (index a b : ℕ) →
@@ -46,7 +47,7 @@ ExtensionsIgnored =
     × ((vid a : ℕ) (costs hopCounts lasts : List ℕ) → treeOutcome t vid a costs hopCounts lasts ≡ treeOutcome u vid a costs hopCounts lasts)
     × ((b : ℕ) (lent : List ℕ) → entriesOutcome t b lent ≡ entriesOutcome u b lent)
 
--- Where the 12 bits of no bridge record are set, bits 27..16 of its second word, the paths are those of document 01 alone.
+-- Where the 12 bits of no bridge record are set, bits 27..16 of its second word, the keys of document 01 alone choose the same paths.
 abbrev pub PlainAsBefore : Type 0
 PlainAsBefore =
     (t : List ℕ) (p : Plan) →

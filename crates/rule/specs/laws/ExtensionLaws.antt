@@ -1,4 +1,4 @@
--- The statements of request A6 proved: chosen paths are those of document 01 alone in the plan without extensions, tables that differ in
+-- The statements of request A6 proved: chosen paths are those of document 01's keys in the plan without extensions, tables that differ in
 -- extensions alone are answered alike, and tables without them as before. Assumes nothing.
 use Prim.Native.Nat.{ℕ, zero, suc, _+_, _*_, _^_, _≤_, _<_}
 use native.Mathlib.Omega.{arith}
