@@ -17,7 +17,7 @@ use rule::answer::{EntriesAnswer, PathAnswer, TreeAnswer};
 use rule::kinds::MOST_BRIDGES;
 use spb::entry_lists::entries;
 use spb::paths::path;
-use spb::trees::tree;
+use spb::tree_lists::tree;
 use table::shape::Shape;
 use tree::search::PATH_IDS;
 use trees::plan_tree::tree_in_network;

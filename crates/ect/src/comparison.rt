@@ -3,7 +3,7 @@ ghost use Rattle.std.specs.Prelude.{◌≡◌, length};
 ghost use Rattle.ect.specs.Comparisons.{says_lower, comparison_of, decided_by};
 
 // Whether the first list is lower than the second, equal to it, or higher.
-#[derive(Drop)]
+#[derive(Clone, Copy)]
 pub enum Order {
     Lower,
     Equal,
@@ -24,7 +24,7 @@ impl Order {
 }
 
 // "It answers with the order and the number of places looked at".
-#[derive(Drop)]
+#[derive(Clone, Copy)]
 pub struct Comparison {
     pub order: Order,
     pub places: usize,

@@ -2,7 +2,7 @@
 use rule::answer::RecordKind;
 
 // "A half-link is named by near bridge and port."
-#[derive(Drop)]
+#[derive(Clone, Copy)]
 pub struct HalfLinkName {
     pub near: u32,
     pub port: u32,
@@ -10,7 +10,7 @@ pub struct HalfLinkName {
 
 // The numbers of a running plan: the bytes of its table, "one watched bridge and VID", and "a count of changes made". The table itself and
 // the watched tree are in lists that the caller lends.
-#[derive(Drop)]
+#[derive(Clone, Copy)]
 pub struct Running {
     pub length: u32,
     pub bridge: u32,
@@ -19,7 +19,7 @@ pub struct Running {
 }
 
 // What a load or a change comes to: the numbers afterwards. A refusal alters nothing, so the caller's numbers stand.
-#[derive(Drop)]
+#[derive(Clone, Copy)]
 pub enum RunningAnswer {
     Kept(Running),
     Refused {

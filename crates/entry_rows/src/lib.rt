@@ -1,2 +1,4 @@
 // The rows of egress ports that the entries of a bridge need.
+#![tactic(auto)]
+
 pub mod needed;

@@ -2,6 +2,8 @@
 // hops into 3 places fits, into 2 gives 13"), the longest entry list and vectors of the standard, each through the real call on a table
 // that is made here. A line: what is tried, and what the call says of it.
 // Only writing assumes anything: that C's write keeps its contract.
+#![tactic(auto)]
+
 mod entry_lists;
 mod orders;
 mod paths;

@@ -4,6 +4,8 @@
 // be. What cannot be written is reported on standard error. The program reads the table, asks the library for the next part of its listing
 // and writes it, until none is left; the parts are proved to be together the listing (crates/listing_parts). Only reading and writing assume
 // anything: that C's read and write keep their contracts.
+#![tactic(auto)]
+
 ghost use Rattle.std.specs.Prelude.{◌≤◌, length};
 ghost use Rattle.listing_progress.specs.Remaining.{Underway};
 

@@ -1,2 +1,4 @@
 // A listing given part by part (01, "Listing program").
+#![tactic(auto)]
+
 pub mod progress;

@@ -15,7 +15,7 @@ use rule::answer::Counts;
 use verdict::examine::{Examined, examine};
 
 // How far a listing is given: the verdict on its table, the table's counts where it was accepted, and how many parts were given.
-#[derive(Drop)]
+#[derive(Clone, Copy)]
 pub struct Progress {
     pub examined: Examined,
     pub counts: Counts,
@@ -23,7 +23,7 @@ pub struct Progress {
 }
 
 // The next part: how many bytes it has, and how far the listing is given after it; or none where nothing is left.
-#[derive(Drop)]
+#[derive(Clone, Copy)]
 pub enum NextPart {
     Part { written: usize, after: Progress },
     None,

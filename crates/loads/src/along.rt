@@ -8,7 +8,7 @@ use crate::pair::add_hop;
 use labels::label::{cost_at, hops_at, next_at};
 
 // What one record of traffic, or all of them, add to total and to lost.
-#[derive(Drop)]
+#[derive(Clone, Copy)]
 pub struct Sums {
     pub total: u32,
     pub lost: u32,

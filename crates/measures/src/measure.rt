@@ -3,10 +3,10 @@
 ghost use Rattle.std.specs.Prelude.{◌≡◌, not, eqb, ltb, ◌+◌, ◌<◌};
 ghost use Rattle.measures.specs.Measures.{no_path_cost};
 
-#[derive(Drop)]
+#[derive(Clone, Copy)]
 pub struct Cost(pub u32);
 
-#[derive(Drop)]
+#[derive(Clone, Copy)]
 pub struct Hops(pub u32);
 
 impl Cost {

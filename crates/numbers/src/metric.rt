@@ -3,7 +3,7 @@ ghost use Rattle.std.specs.Prelude.{◌≡◌};
 ghost use Rattle.rule.specs.Records.{in_limits, metric_limits};
 ghost use Rattle.rule.specs.Links.{combined_metric, usable_metric};
 
-#[derive(Drop)]
+#[derive(Clone, Copy)]
 pub struct Metric(pub u32);
 
 impl Metric {

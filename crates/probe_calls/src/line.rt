@@ -11,7 +11,7 @@ use measures::measure::{Cost, Hops};
 use rule::answer::{EntriesAnswer, PathAnswer, TreeAnswer};
 use spb::entry_lists::entries;
 use spb::paths::path;
-use spb::trees::tree;
+use spb::tree_lists::tree;
 use text::fields::{write_byte, write_field, write_fields, write_word};
 
 // `path` with cost and hops.

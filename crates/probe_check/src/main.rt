@@ -4,6 +4,8 @@
 //
 // A length above 10,240 and an input that ends inside a table are reported on standard error and end the run. Only reading and
 // writing assume anything: that C's read and write keep their contracts.
+#![tactic(auto)]
+
 mod answer;
 
 use crate::answer::{LONGEST_LINE, write_answer};

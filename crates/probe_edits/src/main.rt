@@ -9,6 +9,8 @@
 // A table of more than 10,240 bytes, a list of more than 80 places, another step, and an input that ends inside a table or a step are
 // reported on standard error and end the run. The lines are proved to be the text of what they are told; of the rest only safety is proved.
 // Only reading and writing assume anything: that C's read and write keep their contracts.
+#![tactic(auto)]
+
 mod line;
 
 ghost use Rattle.std.specs.Prelude.{◌≤◌, length as List·length};
@@ -43,7 +45,7 @@ const STATE_LINE: usize = 85 + 33 * MOST_PLACES;
 const TABLE_LINE: usize = 11 * LONGEST + 1;
 
 // Whether the steps go on, and with which state.
-#[derive(Drop)]
+#[derive(Clone, Copy)]
 enum Stepped {
     Next(Running),
     End,

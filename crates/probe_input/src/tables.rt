@@ -12,7 +12,7 @@ pub const LONGEST: usize = 10240;
 pub const TURNS: u64 = u64::MAX;
 
 // What the input has next.
-#[derive(Drop)]
+#[derive(Clone, Copy)]
 pub enum NextTable {
     // A table of so many bytes, which are the first of the lent ones.
     Bytes(usize),

@@ -8,6 +8,8 @@
 // A length above 10,240, a sub-TLV of more than 1,024 bytes, a list of more than 160 words or 320 bytes, another question, and an input that
 // ends inside a table or a question are reported on standard error and end the run. The line is proved to be the text of the call's
 // outcome; of the rest only safety is proved. Only reading and writing assume anything: that C's read and write keep their contracts.
+#![tactic(auto)]
+
 mod line;
 mod question;
 

@@ -10,14 +10,14 @@ use numbers::number::{two_words, within};
 // What the first word's bit 27 counts: the bridge is overloaded (02, A1).
 const OVERLOAD: u32 = 134217728;
 
-#[derive(Drop)]
+#[derive(Clone, Copy)]
 pub struct Bridge {
     pub overloaded: bool,
     pub sp_source_id: u32,
     pub identifier: u64,
 }
 
-#[derive(Drop)]
+#[derive(Clone, Copy)]
 pub enum BridgeRead {
     Cut,
     ZeroBit,

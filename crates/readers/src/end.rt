@@ -6,7 +6,7 @@ ghost use Rattle.readers.specs.Readers.{end_read, read_of};
 
 use crate::words::word_at;
 
-#[derive(Drop)]
+#[derive(Clone, Copy)]
 pub enum EndRead {
     Cut,
     Record { count: u32 },

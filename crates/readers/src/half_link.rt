@@ -11,7 +11,7 @@ use numbers::number::within;
 // What the first word's bit 27 counts: the port is down (02, A3).
 const DOWN: u32 = 134217728;
 
-#[derive(Drop)]
+#[derive(Clone, Copy)]
 pub struct HalfLink {
     pub down: bool,
     pub metric: Metric,
@@ -21,7 +21,7 @@ pub struct HalfLink {
     pub link: u32,
 }
 
-#[derive(Drop)]
+#[derive(Clone, Copy)]
 pub enum HalfLinkRead {
     Cut,
     ZeroBit,

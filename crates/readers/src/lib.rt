@@ -1,4 +1,6 @@
 // One record of each kind, read from a part of the table that starts at its first word.
+#![tactic(auto)]
+
 pub mod bridge;
 pub mod end;
 pub mod half_link;

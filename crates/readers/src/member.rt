@@ -12,7 +12,7 @@ pub const LEAST_ISID: u64 = 256;
 
 pub const GREATEST_ISID: u64 = 16777214;
 
-#[derive(Drop)]
+#[derive(Clone, Copy)]
 pub struct Member {
     pub transmits: bool,
     pub receives: bool,
@@ -21,7 +21,7 @@ pub struct Member {
     pub vid: u32,
 }
 
-#[derive(Drop)]
+#[derive(Clone, Copy)]
 pub enum MemberRead {
     Cut,
     ZeroBit,

@@ -12,7 +12,7 @@ const LEAST_AMOUNT: u64 = 1;
 
 const GREATEST_AMOUNT: u64 = 65535;
 
-#[derive(Drop)]
+#[derive(Clone, Copy)]
 pub struct Traffic {
     pub vid: u32,
     pub amount: u32,
@@ -20,7 +20,7 @@ pub struct Traffic {
     pub to: u32,
 }
 
-#[derive(Drop)]
+#[derive(Clone, Copy)]
 pub enum TrafficRead {
     Cut,
     OutOfRange,

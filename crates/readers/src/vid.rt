@@ -8,13 +8,13 @@ ghost use Rattle.readers.specs.Readers.{vid_values, vid_read, read_of};
 use crate::words::word_at;
 use numbers::number::within;
 
-#[derive(Drop)]
+#[derive(Clone, Copy)]
 pub struct Vid {
     pub vid: u32,
     pub index: u32,
 }
 
-#[derive(Drop)]
+#[derive(Clone, Copy)]
 pub enum VidRead {
     Cut,
     OutOfRange,

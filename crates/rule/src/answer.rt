@@ -4,7 +4,7 @@
 use measures::measure::{Cost, Hops};
 
 // The kind of the record that a refusal concerns, or none.
-#[derive(Drop)]
+#[derive(Clone, Copy)]
 pub enum RecordKind {
     None,
     Bridge,
@@ -16,7 +16,7 @@ pub enum RecordKind {
 }
 
 // "counts of bridges, half-links, usable links, VIDs, members".
-#[derive(Drop)]
+#[derive(Clone, Copy)]
 pub struct Counts {
     pub bridges: u32,
     pub half_links: u32,
@@ -26,7 +26,7 @@ pub struct Counts {
 }
 
 // Check.
-#[derive(Drop)]
+#[derive(Clone, Copy)]
 pub enum CheckAnswer {
     Accepted(Counts),
     Refused {
@@ -37,7 +37,7 @@ pub enum CheckAnswer {
 }
 
 // Path: the bridges are in the lent list.
-#[derive(Drop)]
+#[derive(Clone, Copy)]
 pub enum PathAnswer {
     Given {
         cost: Cost,
@@ -51,7 +51,7 @@ pub enum PathAnswer {
 }
 
 // Tree: the number of bridges, each of which has its place in the lent lists.
-#[derive(Drop)]
+#[derive(Clone, Copy)]
 pub enum TreeAnswer {
     Given {
         bridges: u32,
@@ -64,7 +64,7 @@ pub enum TreeAnswer {
 }
 
 // Entries: the number of words written to the lent list.
-#[derive(Drop)]
+#[derive(Clone, Copy)]
 pub enum EntriesAnswer {
     Written {
         words: u32,
@@ -77,7 +77,7 @@ pub enum EntriesAnswer {
 }
 
 // Lookup: the port of the matching entry, or none.
-#[derive(Drop)]
+#[derive(Clone, Copy)]
 pub enum LookupAnswer {
     Port(u32),
     None,
@@ -89,7 +89,7 @@ pub enum LookupAnswer {
 }
 
 // Services read from a sub-TLV: the number of words written to the lent list, two for each member record (02, A2).
-#[derive(Drop)]
+#[derive(Clone, Copy)]
 pub enum ReadServicesAnswer {
     Read {
         words: u32,
@@ -102,7 +102,7 @@ pub enum ReadServicesAnswer {
 }
 
 // Services written as sub-TLVs: the number of bytes written to the lent list (02, A2).
-#[derive(Drop)]
+#[derive(Clone, Copy)]
 pub enum WriteServicesAnswer {
     Written {
         bytes: u32,

@@ -9,7 +9,7 @@ use editing::replace::{withdraw_words, write_metric};
 use edits::change::{HalfLinkName, Running, RunningAnswer};
 use numbers::metric::Metric;
 use rule::answer::TreeAnswer;
-use spb::trees::tree;
+use spb::tree_lists::tree;
 
 // The bytes of a half-link's three words.
 const HALF_LINK: usize = 12;

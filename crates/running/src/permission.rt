@@ -17,7 +17,7 @@ use verdict::examine::{Examined, examine};
 // "65,535 changes already made".
 const MOST_CHANGES: u32 = 65535;
 
-#[derive(Drop)]
+#[derive(Clone, Copy)]
 pub enum Permitted {
     // The first word of the half-link named.
     At(usize),

@@ -1,4 +1,4 @@
-// The functions for the C screens, over numbers and byte slices (01, "Calls"). include/spb.h declares them.
+// The functions for the C screens, over numbers and byte slices (01, "Calls"). The crate `spb_c` exports them.
 ghost use Rattle.std.specs.Prelude.{◌≡◌};
 ghost use Rattle.rule.specs.Exported.{exported_check, exported_path_cost};
 
@@ -8,8 +8,7 @@ use path::path::path_cost_in_table;
 use verdict::examine::{Examined, examine};
 
 // "Exported check gives 0 or the refusal number."
-#[unsafe(no_mangle)]
-pub extern "C" fn spb_check(table: &[u8]) -> u32
+pub fn spb_check(table: &[u8]) -> u32
     ensures { result ≡ exported_check table.now }
 {
     let mut link_index = [0u32; INDEX];
@@ -25,8 +24,7 @@ pub extern "C" fn spb_check(table: &[u8]) -> u32
 }
 
 // "Exported path cost gives the cost as a 64-bit number, or 4,294,967,296 plus the refusal number; it takes no list and never gives 13."
-#[unsafe(no_mangle)]
-pub extern "C" fn spb_path_cost(table: &[u8], vid: u32, from: u32, to: u32) -> u64
+pub fn spb_path_cost(table: &[u8], vid: u32, from: u32, to: u32) -> u64
     ensures { result ≡ exported_path_cost table.now vid from to }
 {
     let mut link_index = [0u32; INDEX];

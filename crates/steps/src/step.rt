@@ -20,7 +20,7 @@ use readers::traffic::traffic_at;
 use rule::answer::RecordKind;
 use table::shape::Shape;
 
-#[derive(Drop)]
+#[derive(Clone, Copy)]
 pub enum Step {
     Next(Shape),
     Refused {

@@ -5,7 +5,7 @@ ghost use Rattle.table.specs.Positions.{half_links_from, vids_from, members_from
 
 use rule::kinds::{BRIDGE, HALF_LINK, MEMBER, TRAFFIC, VID};
 
-#[derive(Drop)]
+#[derive(Clone, Copy)]
 pub struct Shape {
     pub bridges: usize,
     pub half_links: usize,

@@ -2,7 +2,7 @@
 // given.
 ghost use Rattle.std.specs.Prelude.{◌≡◌, ◌+◌, ◌≤◌, ◌<◌, length};
 ghost use Rattle.lists.specs.Lists.{spliced};
-ghost use Rattle.text.specs.Text.{digit, digits_of, places, decimal, address, WrittenAt};
+ghost use Rattle.text.specs.Text.{digit, digits_of, places, decimal_of, address, WrittenAt};
 
 fn decimal_digit(d: u32) -> u8
     requires { d < 10 }
@@ -44,7 +44,7 @@ fn write_last_digits(n: u32, count: usize, out: &mut [u8], at: usize)
 // "Fields are decimal".
 pub fn write_decimal(n: u32, out: &mut [u8], at: usize) -> usize
     requires { at + 10 ≤ length out.old }
-    ensures { WrittenAt at out.old out.new (decimal n) result }
+    ensures { WrittenAt at out.old out.new (decimal_of n) result }
 {
     let count = decimal_places(n);
     write_last_digits(n, count, out, at);

@@ -16,7 +16,7 @@ use runs::run::{is_next, read_traffic_records};
 use steps::step::{Step, kind_concerned};
 use table::shape::Shape;
 
-#[derive(Drop)]
+#[derive(Clone, Copy)]
 pub enum Examined {
     Accepted(Shape),
     Refused {
