@@ -1,3 +1,2 @@
 -- What the functions for the benchmark give, and the laws behind it.
 pub mod BenchCalls
-pub mod laws

@@ -1,3 +1,2 @@
 -- What the labels of a tree say of every bridge.
 pub mod Branches
-pub mod laws

@@ -1,3 +1,2 @@
 -- The check's outcome as a line of text.
 pub mod CheckText
-pub mod figures

@@ -1,4 +1,3 @@
 -- A half-link against the half-links before it.
 pub mod Keys
 pub mod HalfLinks
-pub mod laws

@@ -2,5 +2,3 @@
 pub mod Masks
 pub mod Rows
 pub mod Comparisons
-pub mod laws
-pub mod figures

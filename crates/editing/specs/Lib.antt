@@ -1,2 +1,1 @@
 -- Half-links of a table found by name, and its bytes after a change.
-pub mod laws

@@ -2,4 +2,3 @@
 pub mod Hops
 pub mod Leaving
 pub mod Rows
-pub mod laws

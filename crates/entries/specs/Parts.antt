@@ -1,6 +1,6 @@
 -- The parts of a bridge's list by the rows kept: the group entries for one transmitter, the part of a VID, and the whole.
 -- Assumes nothing.
-use Rattle.std.specs.Prelude.{ℕ, ◌+◌, ◌-◌, List, [], ◌++◌, cond, ◌&&◌, eqb, drop}
+use Rattle.std.specs.Prelude.{ℕ, List, [], ◌++◌, cond, ◌&&◌, eqb, drop}
 use Rattle.lists.specs.Appending.{each_of}
 use Rattle.rule.specs.Records.{Vid, Member}
 use Rattle.rule.specs.Entries.{group_address}

@@ -1,3 +1,2 @@
 -- What the entries of a bridge need before they are written.
 pub mod Needed
-pub mod laws

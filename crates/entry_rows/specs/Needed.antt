@@ -15,7 +15,7 @@ use Rattle.table.specs.Numbered.{vid_number, member_number, index_of}
 -- What the entries of the bridge `b` are made from: the network of the table, and the ports of the bridge's hops.
 pub record HopsReady (t : List ℕ) (s : Shape) (net hops : List ℕ) (b : ℕ) : Type 0 where
   pub table_network : TableNetwork t s net
-  pub hop_ports_lem : PlanHops (plan_at (words_of t) s) (bridges_in net) b hops
+  pub hop_ports : PlanHops (plan_at (words_of t) s) (bridges_in net) b hops
   pub has_hops : 64 ≤ length hops
   pub known : b < s.bridges
 

@@ -1,6 +1,6 @@
 -- The words of a bridge's entries by the ports of its rows (01, "Entries"): a row has for each bridge the port by which the path there
 -- leaves the bridge whose entries are written, 0 where none does. Assumes nothing.
-use Rattle.std.specs.Prelude.{ℕ, ◌*◌, ◌≤◌, List, [], ◌∷◌, cond, eqb, length, get_or}
+use Rattle.std.specs.Prelude.{ℕ, List, [], ◌∷◌, cond, eqb, length, get_or}
 use Rattle.lists.specs.Lists.{any_passes}
 use Rattle.lists.specs.Appending.{each_of}
 use Rattle.rule.specs.Records.{Member, address}

@@ -2,7 +2,7 @@
 use Rattle.std.specs.Prelude.{ℕ, zero, suc, List, cond, eqb, leb, ltb, drop}
 use Rattle.std.proofs.Math.Option.{Option, none, some}
 use Rattle.rule.specs.Records.{Layout}
-use Rattle.rule.specs.Check.{fault, faults, lowest_fault}
+use Rattle.rule.specs.Check.{faults, lowest_fault}
 use Rattle.table.specs.declared.shape.Shape.{Shape}
 use Rattle.table.specs.Positions.{words_read, reading_at}
 

@@ -4,5 +4,3 @@ pub mod Graph
 pub mod Chosen
 pub mod Pairs
 pub mod Lookups
-pub mod laws
-pub mod figures

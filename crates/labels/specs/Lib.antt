@@ -2,4 +2,3 @@
 pub mod Labels
 pub mod Nearest
 pub mod Relaxing
-pub mod laws

@@ -25,7 +25,7 @@ pub record Relaxable (starts neighbours costs path-ids labels : List ℕ) (via :
   pub in_order : get_or starts via 0 ≤ get_or starts (via + 1) 0
   pub hops_in : (label_at labels via).hops < 64
   pub neighbour_in : (i : ℕ) → get_or starts via 0 ≤ i → i < get_or starts (via + 1) 0 → get_or neighbours i 0 < 64
-  pub cost_in_lem : (i : ℕ) → get_or starts via 0 ≤ i → i < get_or starts (via + 1) 0 → (label_at labels via).cost + get_or costs i 0 < no_cost
+  pub cost_in : (i : ℕ) → get_or starts via 0 ≤ i → i < get_or starts (via + 1) 0 → (label_at labels via).cost + get_or costs i 0 < no_cost
   pub one_cost : (i j : ℕ) → get_or starts via 0 ≤ i → i < get_or starts (via + 1) 0 → get_or starts via 0 ≤ j → j < get_or starts (via + 1) 0
       → get_or neighbours i 0 ≡ get_or neighbours j 0 → get_or costs i 0 ≡ get_or costs j 0
   pub next_in : (i : ℕ) → get_or starts via 0 ≤ i → i < get_or starts (via + 1) 0 → (label_at labels (get_or neighbours i 0)).cost < no_cost

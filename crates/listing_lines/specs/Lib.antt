@@ -1,5 +1,3 @@
 -- The listing of a table, and the laws of writing its lines.
 pub mod Listing
 pub mod PathAnswers
-pub mod laws
-pub mod figures

@@ -1,3 +1,2 @@
 -- What is left to give of a listing.
 pub mod Remaining
-pub mod laws

@@ -61,7 +61,7 @@ pub record PartsReady (t : List ℕ) (b : Progress) (s : Shape) (net store : Lis
 
 -- A listing underway: the verdict is that on the table, and where it accepts the table its parts can be made.
 pub record Underway (t : List ℕ) (b : Progress) (net store : List ℕ) : Type 0 where
-  pub of_table_lem : examined_values (words_of t) b.examined ≡ verdict t
+  pub of_table : examined_values (words_of t) b.examined ≡ verdict t
   pub accepted : (s : Shape) → b.examined ≡ Examined.Accepted s → PartsReady t b s net store
 
 -- After a part was given the listing is underway still, with fewer parts left.

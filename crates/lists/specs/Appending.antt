@@ -1,5 +1,5 @@
 -- Numbers appended to a lent list: what a function that appends has written. Assumes nothing.
-use Rattle.std.specs.Prelude.{ℕ, ◌+◌, ◌-◌, ◌≤◌, ◌≡◌, length}
+use Rattle.std.specs.Prelude.{ℕ, ◌+◌, ◌≤◌, ◌≡◌, length}
 use mathlib.Core.List.{List, flat_map}
 use Rattle.lists.specs.Lists.{rising, spliced}
 

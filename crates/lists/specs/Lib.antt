@@ -2,4 +2,3 @@
 pub mod Lists
 pub mod Members
 pub mod Appending
-pub mod laws

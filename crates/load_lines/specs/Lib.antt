@@ -1,3 +1,2 @@
 -- The lines of the load report, pair by pair.
 pub mod PairTexts
-pub mod laws

@@ -2,4 +2,3 @@
 pub mod Places
 pub mod Sums
 pub mod Reports
-pub mod laws

@@ -1,3 +1,2 @@
 -- What costs and hop counts are as numbers.
 pub mod Measures
-pub mod laws

@@ -3,4 +3,3 @@ pub mod Layout
 pub mod Neighbours
 pub mod Rows
 pub mod Networks
-pub mod laws

@@ -1,6 +1,5 @@
 -- What the labels of a tree answer to the path call (01, "Calls"). Assumes nothing.
-use Rattle.std.specs.Prelude.{ℕ, ◌+◌, ◌-◌, ◌<◌, ◌≡◌, List, cond, eqb}
-use Rattle.graph.specs.Graph.{cost, hops}
+use Rattle.std.specs.Prelude.{ℕ, ◌+◌, ◌<◌, ◌≡◌, List, cond, eqb}
 use Rattle.rule.specs.Outcome.{Outcome, answered, refused_as, Written}
 use Rattle.rule.specs.Answers.{CostAndHops}
 use Rattle.labels.specs.Labels.{no_cost, label_at}

@@ -2,4 +2,3 @@
 pub mod Followed
 pub mod Labelled
 pub mod Named
-pub mod laws

@@ -1,4 +1,3 @@
 -- What the next table of an input and a lent list before a call are on paper.
 pub mod Lengths
 pub mod Lent
-pub mod laws

@@ -1,3 +1,2 @@
 -- What a reader finds in the words of one record.
 pub mod Readers
-pub mod laws

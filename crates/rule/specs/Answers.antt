@@ -7,7 +7,6 @@ use Rattle.rule.specs.declared.answer.RecordKind.{RecordKind}
 use Rattle.rule.specs.declared.answer.RecordKind.TheVariants.{None as NoKind, Bridge, HalfLink, Vid, Member, Traffic, End}
 use Rattle.rule.specs.declared.answer.Counts.{Counts}
 use Rattle.rule.specs.declared.answer.CheckAnswer.{CheckAnswer}
-use Rattle.rule.specs.declared.answer.CheckAnswer.TheVariants
 use Rattle.rule.specs.declared.answer.PathAnswer.{PathAnswer}
 use Rattle.rule.specs.declared.answer.TreeAnswer.{TreeAnswer}
 use Rattle.rule.specs.declared.answer.EntriesAnswer.{EntriesAnswer}

@@ -22,5 +22,3 @@ pub mod Demand3
 pub mod PortsDown
 pub mod Extensions
 pub mod PlanLaws
-pub mod laws
-pub mod figures

@@ -1,3 +1,2 @@
 -- What the calls of a running plan work out before they write.
 pub mod Permission
-pub mod laws

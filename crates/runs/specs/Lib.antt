@@ -1,3 +1,2 @@
 -- What reading all records of a kind comes to.
 pub mod Runs
-pub mod laws

@@ -59,7 +59,7 @@ pub record Before (ws links : List ℕ) (kind : ℕ) (s : Shape) : Type 0 where
   pub no_half_links : kind ≤ 2 → s.half_links ≡ 0
   pub no_vids : kind ≤ 3 → s.vids ≡ 0
   pub no_members : kind ≤ 4 → s.members ≡ 0
-  pub no_traffic_lem : kind ≤ 5 → s.traffic ≡ 0
+  pub no_traffic : kind ≤ 5 → s.traffic ≡ 0
   pub bridges_end : 1 < kind → is_kind ws 1 (half_links_from s) ≡ false
   pub half_links_end : 2 < kind → is_kind ws 2 (vids_from s) ≡ false
   pub vids_end : 3 < kind → is_kind ws 3 (members_from s) ≡ false

@@ -1,4 +1,3 @@
 -- What the writers of services write part by part, and the laws that link their loops to the definitions of rule.
 pub mod Heads
 pub mod Gathered
-pub mod laws

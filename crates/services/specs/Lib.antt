@@ -1,2 +1,1 @@
 -- The answers of the calls of services, from the examination of the table.
-pub mod laws

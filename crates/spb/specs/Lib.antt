@@ -1,2 +1,1 @@
 -- The answers of the calls, from the examination of the table.
-pub mod laws

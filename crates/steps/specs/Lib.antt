@@ -1,3 +1,2 @@
 -- What reading one record comes to.
 pub mod Steps
-pub mod laws

@@ -84,7 +84,7 @@ pub record Stepped (ws : List ℕ) (next : Shape) (rule : ReadingStep) (r : Step
 
 -- The half-links read are in the two indexes.
 pub record HalfLinkIndexes (ports links ws : List ℕ) (s : Shape) : Type 0 where
-  pub by_port_lem : Keyed port_key ports ws (half_links_from s) s.half_links
+  pub by_port : Keyed port_key ports ws (half_links_from s) s.half_links
   pub by_number : Keyed number_key links ws (half_links_from s) s.half_links
 
 -- After a record taken the records of its kind are in their indexes.

@@ -2,4 +2,3 @@
 pub mod Positions
 pub mod Whole
 pub mod Numbered
-pub mod laws

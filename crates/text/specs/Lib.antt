@@ -1,4 +1,2 @@
 -- Numbers, fields and lines as text, and the laws of writing them.
 pub mod Text
-pub mod laws
-pub mod figures

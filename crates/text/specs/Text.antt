@@ -25,15 +25,15 @@ places zero n = 1
 places (suc more) n = cond (ltb n 10) 1 (suc (places more (n / 10)))
 
 -- "Fields are decimal": a number of 32 bits has 10 digits at most.
-unfoldable pub decimal : ℕ → List ℕ
-decimal n = digits_of 10 (places 9 n) n
+unfoldable pub decimal_of : ℕ → List ℕ
+decimal_of n = digits_of 10 (places 9 n) n
 
 -- "addresses, which have 12 lower-case digits".
 abbrev pub address : ℕ → List ℕ
 address a = digits_of 16 12 a
 
 abbrev pub field_text : ℕ → List ℕ
-field_text n = space ∷ decimal n
+field_text n = space ∷ decimal_of n
 
 -- Fields are separated by single spaces.
 abbrev pub fields : List ℕ → List ℕ

@@ -2,5 +2,3 @@
 pub mod Settling
 pub mod Trees
 pub mod Tracked
-pub mod laws
-pub mod figures

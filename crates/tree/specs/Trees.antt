@@ -69,7 +69,7 @@ pub record Ordered (n root : ℕ) (labels : List ℕ) : Type 0 where
   pub root_first : get_or labels 0 0 ≡ root
   pub root_hops : (label_at labels root).hops ≡ 0
   pub inside : (k : ℕ) → k < count → get_or labels k 0 < n
-  pub has_path_lem : (k : ℕ) → k < count → (label_at labels (get_or labels k 0)).cost ≡ no_cost → ⊥
+  pub has_path : (k : ℕ) → k < count → (label_at labels (get_or labels k 0)).cost ≡ no_cost → ⊥
   pub has_hops : (k : ℕ) → 0 < k → k < count → 0 < (label_at labels (get_or labels k 0)).hops
   pub after_next : (k : ℕ) → 0 < k → k < count → (j : ℕ) × (j < k) × (get_or labels j 0 ≡ (label_at labels (get_or labels k 0)).next)
   pub listed : (u : ℕ) → u < n → ((label_at labels u).cost ≡ no_cost → ⊥) → (k : ℕ) × (k < count) × (get_or labels k 0 ≡ u)

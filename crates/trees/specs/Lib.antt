@@ -1,3 +1,2 @@
 -- A store that keeps trees.
 pub mod Store
-pub mod laws

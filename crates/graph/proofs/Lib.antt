@@ -1,0 +1,3 @@
+-- Theorems, apart from what contracts cite.
+pub mod laws
+pub mod figures

@@ -1,0 +1,2 @@
+-- Theorems, apart from what contracts cite.
+pub mod laws

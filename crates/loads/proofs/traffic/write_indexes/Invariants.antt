@@ -1,0 +1,13 @@
+-- What the loops of `loads::traffic::write_indexes` keep true.
+use mathlib.Core.Path.{◌≡◌}
+use Prim.Native.Nat.{◌-◌}
+use lib.ListN.{length}
+use Rattle.rule.specs.Words.{words_of}
+use Rattle.loads.proofs.laws.TrafficLaws.{IndexesSoFar}
+use Rattle.loads.proofs.traffic.write_indexes.Given as goal
+
+abbrev pub invariant-loop-k : goal.invariant-loop-k
+invariant-loop-k l = IndexesSoFar (words_of l.table) l.s l.k l.indexes × (length l.indexes ≡ length l.initial.indexes)
+
+abbrev pub decreases-loop-k : goal.decreases-loop-k
+decreases-loop-k l = l.s.vids - l.k

@@ -1,0 +1,9 @@
+-- `network::parts::port` reads a word of its part. Assumes nothing.
+use native.Mathlib.Omega.{arith}
+use mathlib.Core.Path.{sym}
+use Rattle.network.specs.Layout.{ports_at}
+use Rattle.network.proofs.laws.LayoutLaws.{part_at}
+use Rattle.network.proofs.parts.port.Goals as goal
+
+pub returns : goal.returns
+returns c = sym (part_at c.args.network.now ports_at 512 c.args.i (omega arith))

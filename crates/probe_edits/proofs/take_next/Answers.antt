@@ -1,0 +1,15 @@
+-- `probe_edits::take_next` lends a part that lies within its array. Assumes nothing.
+use lib.ListN.{length-take}
+use native.Mathlib.Omega.{arith}
+use mathlib.Core.Path.{ap}
+use Rattle.probe_input.specs.Lengths.{length_of}
+use Rattle.probe_edits.proofs.take_next.Goals as goal
+
+pub slice_bounds-table-end : goal.slice_bounds-table-end
+slice_bounds-table-end c = omega (arith, ap length_of c.in-Bytes.is, c.next_table-next.ensures)
+
+pub slice_bounds-take_table-end : goal.slice_bounds-take_table-end
+slice_bounds-take_table-end c = simp length-take (omega (arith, ap length_of c.in-Bytes.is, c.next_table-next.ensures))
+
+pub take_table-requires : goal.take_table-requires
+take_table-requires c = simp length-take (omega (arith, ap length_of c.in-Bytes.is, c.next_table-next.ensures))

@@ -1,0 +1,12 @@
+-- What the loops of `probe_input::lent::set_untouched_bytes` keep true.
+use Prim.Native.Nat.{◌-◌}
+use lib.ListN.{length}
+use Rattle.probe_input.specs.Lent.{untouched_byte}
+use Rattle.probe_input.proofs.laws.LentLaws.{Setting}
+use Rattle.probe_input.proofs.lent.set_untouched_bytes.Given as goal
+
+abbrev pub invariant-loop-i : goal.invariant-loop-i
+invariant-loop-i l = Setting untouched_byte l.initial.list l.list l.i
+
+abbrev pub decreases-loop-i : goal.decreases-loop-i
+decreases-loop-i l = length l.initial.list - l.i

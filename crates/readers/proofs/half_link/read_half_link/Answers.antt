@@ -1,0 +1,68 @@
+-- `readers::half_link::read_half_link` finds what the row of kind 2 lays down: each test of the code is one of `read_of`, in its order. Assumes nothing.
+use mathlib.Core.Path.{sym, ap, ◌∙◌}
+use native.Mathlib.Omega.{arith}
+use Rattle.rule.specs.Words.{words_of}
+use Rattle.rule.specs.Records.{HalfLink, half_link, half_link_layout}
+use Rattle.readers.proofs.laws.WordLaws.{count_of_words}
+use Rattle.readers.proofs.laws.ReaderLaws.{read-cut, read-zero-bit, read_outside, read_whole, outside_here, inside-here, inside-all}
+use Rattle.readers.specs.Readers.{whole}
+use Rattle.readers.proofs.half_link.read_half_link.Goals as goal
+
+pub returns-then-part-lt12 : goal.returns-then-part-lt12
+returns-then-part-lt12 c =
+    sym (read-cut half_link_layout (words_of c.args.part.now) (omega (arith, count_of_words c.args.part.now)))
+
+pub returns-then-word_at-ne0 : goal.returns-then-word_at-ne0
+returns-then-word_at-ne0 c =
+    sym
+    (read-zero-bit half_link_layout (words_of c.args.part.now) (omega (arith, count_of_words c.args.part.now))
+    (λ e. c.if-word_at-ne0.true (omega arith)))
+
+pub returns-then-not-is_in_range : goal.returns-then-not-is_in_range
+returns-then-not-is_in_range c =
+    let part = c.args.part.now in
+    sym
+    (read_outside half_link_layout (words_of part) (omega (arith, count_of_words part)) (omega arith)
+    (outside_here _ _ (words_of part) c.is_in_range.result _ c.is_in_range.ensures
+    (ap (λ (x : HalfLink). x.metric) c.half_link_of-h.ensures) c.if-not-is_in_range.true))
+
+pub returns-then-not-within : goal.returns-then-not-within
+returns-then-not-within c =
+    let part = c.args.part.now in
+    let words = words_of part in
+    sym
+    (read_outside half_link_layout words (omega (arith, count_of_words part)) (omega arith)
+    (inside-here _ _ words c.is_in_range.result _ c.is_in_range.ensures
+    (ap (λ (x : HalfLink). x.metric) c.half_link_of-h.ensures) c.if-not-is_in_range.false
+    ∙ outside_here _ _ words c.within.result _ c.within.ensures
+    (ap (λ (x : HalfLink). x.port) c.half_link_of-h.ensures) c.if-not-within.true))
+
+pub returns-then-not-within-2 : goal.returns-then-not-within-2
+returns-then-not-within-2 c =
+    let half-link-of-ensures = c.half_link_of-h.ensures in
+    let part = c.args.part.now in
+    let words = words_of part in
+    sym
+    (read_outside half_link_layout words (omega (arith, count_of_words part)) (omega arith)
+    (inside-here _ _ words c.is_in_range.result _ c.is_in_range.ensures
+    (ap (λ (x : HalfLink). x.metric) half-link-of-ensures) c.if-not-is_in_range.false
+    ∙ inside-here _ _ words c.within.result _ c.within.ensures
+    (ap (λ (x : HalfLink). x.port) half-link-of-ensures) c.if-not-within.false
+    ∙ outside_here _ _ words c.within-2.result _ c.within-2.ensures
+    (ap (λ (x : HalfLink). x.link) half-link-of-ensures) c.if-not-within-2.true))
+
+pub returns : goal.returns
+returns c =
+    let half-link-of-ensures = c.half_link_of-h.ensures in
+    let part = c.args.part.now in
+    let words = words_of part in
+    ap (λ (x : HalfLink). whole (half_link x)) half-link-of-ensures
+    ∙ sym
+    (read_whole half_link_layout words (omega (arith, count_of_words part)) (omega arith)
+    (inside-here _ _ words c.is_in_range.result _ c.is_in_range.ensures
+    (ap (λ (x : HalfLink). x.metric) half-link-of-ensures) c.if-not-is_in_range.false
+    ∙ inside-here _ _ words c.within.result _ c.within.ensures
+    (ap (λ (x : HalfLink). x.port) half-link-of-ensures) c.if-not-within.false
+    ∙ inside-here _ _ words c.within-2.result _ c.within-2.ensures
+    (ap (λ (x : HalfLink). x.link) half-link-of-ensures) c.if-not-within-2.false
+    ∙ inside-all words))

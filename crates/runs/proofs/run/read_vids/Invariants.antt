@@ -1,0 +1,13 @@
+-- What the loops of `runs::run::read_vids` keep true.
+use Prim.Native.Nat.{◌-◌}
+use lib.ListN.{length}
+use Rattle.rule.specs.Words.{words_of}
+use Rattle.table.specs.Positions.{words_read}
+use Rattle.runs.proofs.laws.RunLaws.{Running}
+use Rattle.runs.proofs.run.read_vids.Given as goal
+
+abbrev pub invariant-loop-step : goal.invariant-loop-step
+invariant-loop-step l = Running (words_of l.table) 3 l.initial.t l.t
+
+abbrev pub decreases-loop-step : goal.decreases-loop-step
+decreases-loop-step l = length (words_of l.table) - words_read l.t

@@ -1,0 +1,25 @@
+-- `spb::paths::path` asks the path of an accepted table, or passes the refusal of the verdict on. Assumes nothing.
+use Rattle.key_index.proofs.laws.IndexLaws.{no_keys_yet}
+use Rattle.spb.proofs.laws.CallLaws.{path-accepted, path-refused}
+use Rattle.spb.proofs.paths.path.Goals as goal
+
+pub examine-examined-requires : goal.examine-examined-requires
+examine-examined-requires c = no_keys_yet
+
+pub path_in_table-requires : goal.path_in_table-requires
+path_in_table-requires c =
+    let passed = c.examine-examined.ensures.passed in
+    passed _ c.in-Accepted.is
+
+pub returns-in-Accepted : goal.returns-in-Accepted
+returns-in-Accepted c =
+    let examine-is = c.examine-examined.ensures.result_value in
+    path-accepted c.args.table.now c.examine-examined.result examine-is _ c.in-Accepted.is
+    c.args.vid c.args.from c.args.to c.args.list.now _
+    c.path_in_table.ensures
+
+pub returns-in-Refused : goal.returns-in-Refused
+returns-in-Refused c =
+    let examine-is = c.examine-examined.ensures.result_value in
+    path-refused c.args.table.now c.examine-examined.result examine-is _ _ _ c.in-Refused.is
+    c.args.vid c.args.from c.args.to c.args.list.now

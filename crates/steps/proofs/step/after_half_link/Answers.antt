@@ -1,0 +1,64 @@
+-- `steps::step::after_half_link` refuses the record by its lowest fault, or takes it and enters its keys. Assumes nothing.
+use native.Mathlib.Omega.{arith}
+use mathlib.Core.Path.{refl, sym, ap, ◌∙◌}
+use lib.ListN.{drop}
+use Rattle.rule.specs.declared.answer.RecordKind.{RecordKind}
+use Rattle.rule.specs.Words.{words_of}
+use Rattle.rule.specs.Records.{half_link_layout}
+use Rattle.readers.specs.Readers.{half_link_values}
+use Rattle.faults.specs.Faults.{numbered}
+use Rattle.faults.proofs.laws.FaultLaws.{of_16_bits}
+use Rattle.steps.specs.Steps.{with_half_link, HalfLinkIndexes}
+use Rattle.steps.proofs.laws.StepLaws.{refused-step, refused_keeps, record-there, half_link-room, half_link-taken, half_links_kept}
+use Rattle.steps.proofs.step.after_half_link.Goals as goal
+
+pub returns-then-fault-ne0 : goal.returns-then-fault-ne0
+returns-then-fault-ne0 c =
+    record {
+      stepped = refused-step (words_of c.args.table.now) c.args.s half_link_layout (with_half_link c.args.s)
+          c.half_link_fault-fault.result RecordKind.HalfLink _ c.half_link_fault-fault.ensures
+          c.if-fault-ne0.true refl c.words_read-at.result c.words_read-at.ensures c.refusal.ensures;
+      half_links_kept = refused_keeps (λ t. HalfLinkIndexes _ _ (words_of c.args.table.now) t) c.refusal.ensures;
+    }
+
+pub half_link_at-h-requires : goal.half_link_at-h-requires
+half_link_at-h-requires c =
+    omega (
+      arith,
+      c.words_read-at.ensures,
+      record-there c.args.table.now c.args.s half_link_layout (omega arith)
+          (ap numbered (sym c.if-fault-ne0.false) ∙ c.half_link_fault-fault.ensures),
+    )
+
+pub port_key-requires : goal.port_key-requires
+port_key-requires c =
+    of_16_bits (half_link_values c.half_link_at-h.result)
+    (drop c.words_read-at.result (words_of c.args.table.now)) c.half_link_at-h.ensures
+
+pub enter-requires : goal.enter-requires
+enter-requires c =
+    let half-link-indexes = c.requires.half_link_indexes in (
+      half-link-indexes.by_port.indexed,
+      half_link-room (words_of c.args.table.now) c.args.s
+          (ap numbered (sym c.if-fault-ne0.false) ∙ c.half_link_fault-fault.ensures),
+    )
+
+pub enter-requires-2 : goal.enter-requires-2
+enter-requires-2 c =
+    let half-link-indexes = c.requires.half_link_indexes in (
+      half-link-indexes.by_number.indexed,
+      half_link-room (words_of c.args.table.now) c.args.s
+          (ap numbered (sym c.if-fault-ne0.false) ∙ c.half_link_fault-fault.ensures),
+    )
+
+pub returns : goal.returns
+returns c =
+    let half-link-indexes = c.requires.half_link_indexes in record {
+      stepped = half_link-taken (words_of c.args.table.now) c.args.s _
+          (ap numbered (sym c.if-fault-ne0.false) ∙ c.half_link_fault-fault.ensures) refl;
+      half_links_kept = half_links_kept (words_of c.args.table.now) c.args.s half-link-indexes
+          (half_link_values c.half_link_at-h.result) c.words_read-at.result c.port_key.result
+          c.words_read-at.ensures c.half_link_at-h.ensures
+          (ap numbered (sym c.if-fault-ne0.false) ∙ c.half_link_fault-fault.ensures) c.port_key.ensures
+          c.enter.ensures c.enter-2.ensures refl;
+    }
