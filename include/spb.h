@@ -1,6 +1,6 @@
 /* The functions that the library libspb.a exports to C. Numbers and byte slices go in, a number comes out; nothing is kept between
  * two calls, no memory is allocated and none is written. The contracts, equations with the written rule, are proved:
- * crates/spb/src/exported.rt.
+ * crates/spb_c/src/lib.rt.
  *
  * `table` points to `len` bytes that can be read. With `len` 0 it may be a null pointer: nothing is read then.
  *

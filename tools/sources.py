@@ -8,11 +8,14 @@ ROOT = pathlib.Path(__file__).resolve().parent.parent
 CRATES = ROOT / "crates"
 
 # A word of antt: what stands between spaces and brackets. `.name` takes a field.
-WORD = re.compile(r"\.?[^\s(){}\[\].,;⌜⌝]+")
+WORD = re.compile(r"\.?[^\s(){}\[\].,;]+")
 DECLARATION = re.compile(r"^ *((?:(?:abbrev|unfoldable|pub) )*)(?:(record|data) )?([^\s:(){}=]+)(.*)$")
 USE = re.compile(r"^(?:ghost )?use (\S+?)\.\{(.*)\};?$")
-# A module of a crate's specs: `Rattle·rule.specs.Plan`, or `Rattle·rule·specs.specs.Plan` within the crate itself.
-OUR_MODULE = re.compile(r"^Rattle·([a-z_]+)(?:·specs)?\.specs\.(.+)$")
+# A module of a crate's specs or of its theorems: `Rattle.rule.specs.Plan`, `Rattle.rule.proofs.laws.Accepted`. The toolchain's own have
+# such names too, as `Rattle.std.specs.Prelude`.
+OUR_MODULE = re.compile(r"^Rattle\.([a-z_]+)\.(?:specs|proofs)\.(.+)$")
+# A clause of a contract, which may have a name, up to its closing brace.
+CLAUSE = re.compile(r"^ *(requires|ensures)(?: (\w+))? \{ ?(.*?) ?\}$", re.M | re.S)
 
 
 def words(text):
@@ -22,7 +25,7 @@ def words(text):
 def crate_order():
     """The crates as crates.txt lists them: none uses a later one."""
     lines = (ROOT / "crates.txt").read_text().splitlines()
-    return [line.split(":")[0] for line in lines if ":" in line and not line.startswith("#")]
+    return [line.split(":")[0].split()[0] for line in lines if ":" in line and not line.startswith("#")]
 
 
 class Declaration:
@@ -47,7 +50,7 @@ class Declaration:
 
 
 class Module:
-    """An antt file of a crate's specs: what it imports and what it declares."""
+    """An antt file of a crate's specs or of its theorems (proofs/laws, proofs/figures): what it imports and what it declares."""
 
     def __init__(self, path):
         self.path = path
@@ -121,6 +124,13 @@ def imports_of(line):
     return names
 
 
+def rust_imports(text):
+    """What a Rattle file brings in of code: crate, module and name, also of names in braces."""
+    for crate, module, names in re.findall(r"^use (\w+)::(\w+)::(\w+|\{[^}]*\});", text, re.M):
+        for name in re.findall(r"\w+", names):
+            yield crate, module, name
+
+
 class Function:
     """A Rattle function: its contract, and the types that it takes and gives."""
 
@@ -142,15 +152,14 @@ def functions_of(path):
     for line in text.splitlines():
         if line.startswith("ghost use "):
             imports.update(imports_of(line))
-        match = re.match(r"^use (?:crate|\w+)::(?:\w+::)*(\w+);$", line)
-        if match:
-            imports.setdefault(match.group(1), ("rust", line))
+    for _, _, name in rust_imports(text):
+        imports.setdefault(name, ("rust", name))
     found = {}
     for match in FUNCTION.finditer(text):
         whole = match.group(0)
         cut = re.search(r"\n *(?:requires|ensures)\b", whole)
         signature = whole[: cut.start()] if cut else whole
-        contract = " ".join(re.findall(r"⌜(.*?)⌝", whole, re.S))
+        contract = " ".join(text for _, _, text in CLAUSE.findall(whole))
         function = Function(path, match.group(2), signature, contract, imports)
         function.public = bool(match.group(1))
         found[match.group(2)] = function
@@ -158,12 +167,13 @@ def functions_of(path):
 
 
 class Sources:
-    """All modules of specs and all functions, and what each declaration cites."""
+    """All modules of specs and of theorems and all functions, and what each declaration cites."""
 
     def __init__(self):
         self.order = crate_order()
         self.modules = {}
-        for path in sorted(CRATES.glob("*/specs/**/*.antt")):
+        files = [path for part in ("specs", "proofs/laws", "proofs/figures") for path in CRATES.glob(f"*/{part}/**/*.antt")]
+        for path in sorted(files):
             module = Module(path)
             self.modules[(module.crate, module.name)] = module
         self.types = {}
@@ -191,8 +201,8 @@ class Sources:
             return None
         crate, inner = match.groups()
         if inner.startswith("declared."):
-            file, kind = inner.split(".")[1:3]
-            return ("type", crate, file, kind)
+            item = ("type", crate, *inner.split(".")[1:3])
+            return item if item[1:] in self.types else None
         return self.owner((crate, inner), name)
 
     def cited_in(self, key, text, but=None):
@@ -228,10 +238,10 @@ class Sources:
         for name in named:
             if (crate, file, name) in self.types:
                 found.add(("type", crate, file, name))
-        for match in re.finditer(r"^use (crate|\w+)::(\w+)::(\w+);$", text, re.M):
-            where = crate if match.group(1) == "crate" else match.group(1)
-            if match.group(3) in named and (where, match.group(2), match.group(3)) in self.types:
-                found.add(("type", where, match.group(2), match.group(3)))
+        for other, module, name in rust_imports(text):
+            where = crate if other == "crate" else other
+            if name in named and (where, module, name) in self.types:
+                found.add(("type", where, module, name))
         return found
 
     def contract_cites(self, function):

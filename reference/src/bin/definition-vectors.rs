@@ -61,49 +61,48 @@ const OLD: u32 = 7;
 const OLD_BYTE: u8 = 7;
 
 const HEADER: &str = "-- Made by reference/compare-definitions. Assumes nothing.
-use Prim.Native.Nat.{ℕ}
-use mathlib.Core.Path.{_≡_, refl}
-use mathlib.Core.List.{List, [], _∷_, _++_, flatMap}
-use mathlib.Core.Option.{none, some}
-use Rattle·lists.specs.Lists.{rising, selected, anyPasses, firstPassing, lowestBy}
-use Rattle·graph.specs.Order.{insertUpward, sorted, isLower}
-use Rattle·graph.specs.Graph.{costOnward}
-use Rattle·graph.specs.Chosen.{neighbours, onward, paths, chosen}
-use Rattle·rule.specs.Words.{wordsOf}
-use Rattle·rule.specs.Records.{layoutOf}
-use Rattle·graph.specs.Pairs.{joinedPairs, takes}
-use Rattle·rule.specs.Outcome.{Outcome, answered, refused}
-use Rattle·rule.specs.Plan.{Plan}
-use Rattle·rule.specs.Check.{lowestFault, readOn, verdict}
-use Rattle·rule.specs.Links.{linksOf, usableLinks, countUsable, linksBetween, hopLink, graphOf}
-use Rattle·rule.specs.Loads.{ownIndexes, trafficPath, loadOf, totalLoad, lostLoad}
-use Rattle·rule.specs.Identifiers.{withoutExtension, maskedBytes, maskedIdentifier, keyOf}
-use Rattle·rule.specs.Paths.{chosenPath}
-use Rattle·rule.specs.Entries.{entryListOf, entriesOf, individualEntries, groupEntries, listedPorts, receiverPorts, leavingPort}
-use Rattle·rule.specs.Calls.{checkOutcome, pathAnswer, pathOutcome, entriesAnswer, entriesOutcome, treeOutcome, treeOf, lastButOne}
-use Rattle·rule.specs.Lookup.{lookupOutcome, matchingPorts, faultyList, entriesIn}
-use Rattle·rule.specs.Exported.{exportedPathCost}
-use Rattle·rule.specs.Services.{subTlvWords, afterServices, readServicesAnswer, readServicesOutcome, subTlvs, writeServicesAnswer, writeServicesOutcome}
+use Rattle.std.specs.Prelude.{ℕ, ◌≡◌, refl}
+use mathlib.Core.List.{List, [], ◌∷◌, ◌++◌, flat_map}
+use Rattle.std.proofs.Math.Option.{none, some}
+use Rattle.lists.specs.Lists.{rising, selected, any_passes, first_passing, lowest_by}
+use Rattle.graph.specs.Order.{insert_upward, sorted, is_lower}
+use Rattle.graph.specs.Graph.{cost_onward}
+use Rattle.graph.specs.Chosen.{neighbours, onward, paths, chosen}
+use Rattle.rule.specs.Words.{words_of}
+use Rattle.rule.specs.Records.{layout_of}
+use Rattle.graph.specs.Pairs.{joined_pairs, takes}
+use Rattle.rule.specs.Outcome.{Outcome, answered, refused}
+use Rattle.rule.specs.Plan.{Plan}
+use Rattle.rule.specs.Check.{lowest_fault, read_on, verdict}
+use Rattle.rule.specs.Links.{links_of, usable_links, count_usable, links_between, hop_link, graph_of}
+use Rattle.rule.specs.Loads.{own_indexes, traffic_path, load_of, total_load, lost_load}
+use Rattle.rule.specs.Identifiers.{without_extension, masked_bytes, masked_identifier, key_of}
+use Rattle.rule.specs.Paths.{chosen_path}
+use Rattle.rule.specs.Entries.{entry_list_of, entries_of, individual_entries, group_entries, listed_ports, receiver_ports, leaving_port}
+use Rattle.rule.specs.Calls.{check_outcome, path_answer, path_outcome, entries_answer, entries_outcome, tree_outcome, tree_of, last_but_one}
+use Rattle.rule.specs.Lookup.{lookup_outcome, matching_ports, faulty_list, entries_in}
+use Rattle.rule.specs.Exported.{exported_path_cost}
+use Rattle.rule.specs.Services.{sub_tlv_words, after_services, read_services_answer, read_services_outcome, sub_tlvs, write_services_answer, write_services_outcome}
 
 -- Lower bridge, higher bridge and load of each joined pair, then total and lost.
 abbrev loads : Outcome Plan → List ℕ
 loads (answered p) =
-    flatMap (λ q. q .lower ∷ q .higher ∷ loadOf p (ownIndexes p) (p .traffic) q ∷ []) (joinedPairs (graphOf p))
-    ++ (totalLoad p (ownIndexes p) (p .traffic) ∷ lostLoad p (ownIndexes p) (p .traffic) ∷ [])
+    flat_map (λ q. q.lower ∷ q.higher ∷ load_of p (own_indexes p) (p.traffic) q ∷ []) (joined_pairs (graph_of p))
+    ++ (total_load p (own_indexes p) (p.traffic) ∷ lost_load p (own_indexes p) (p.traffic) ∷ [])
 loads (refused number kind at) = []
 
 -- The masked identifier of a bridge by an ECT index.
-abbrev keyAt : Outcome Plan → ℕ → ℕ → ℕ
-keyAt (answered p) index u = keyOf p index u
-keyAt (refused number kind at) index u = 0
+abbrev key_at : Outcome Plan → ℕ → ℕ → ℕ
+key_at (answered p) index u = key_of p index u
+key_at (refused number kind at) index u = 0
 ";
 
 /// What the checker opens to compute an outcome.
-const UNFOLDING: &str = "unfolding wordsOf layoutOf lowestFault readOn verdict linksOf usableLinks countUsable linksBetween hopLink
-  maskedBytes maskedIdentifier chosenPath entryListOf entriesOf individualEntries groupEntries listedPorts receiverPorts leavingPort
-  checkOutcome pathAnswer pathOutcome entriesAnswer entriesOutcome treeOutcome treeOf lastButOne lookupOutcome matchingPorts
-  faultyList entriesIn exportedPathCost subTlvWords afterServices readServicesAnswer readServicesOutcome subTlvs writeServicesAnswer
-  writeServicesOutcome joinedPairs takes trafficPath loadOf totalLoad lostLoad rising selected anyPasses firstPassing lowestBy insertUpward sorted isLower costOnward neighbours onward paths chosen flatMap";
+const UNFOLDING: &str = "unfolding words_of layout_of lowest_fault read_on verdict links_of usable_links count_usable links_between hop_link
+  masked_bytes masked_identifier chosen_path entry_list_of entries_of individual_entries group_entries listed_ports receiver_ports leaving_port
+  check_outcome path_answer path_outcome entries_answer entries_outcome tree_outcome tree_of last_but_one lookup_outcome matching_ports
+  faulty_list entries_in exported_path_cost sub_tlv_words after_services read_services_answer read_services_outcome sub_tlvs write_services_answer
+  write_services_outcome joined_pairs takes traffic_path load_of total_load lost_load rising selected any_passes first_passing lowest_by insert_upward sorted is_lower cost_onward neighbours onward paths chosen flat_map";
 
 fn main() {
     let arguments = Arguments::of_process(&USAGE);
@@ -173,7 +172,7 @@ impl Vectors {
         for index in [1, 2, self.random.between(3, 16) as u16] {
             for (number, bridge) in plan.bridges.iter().enumerate() {
                 let cleared = without_extension(Rules::AS_WRITTEN, bridge.identifier());
-                let call = format!("keyAt (verdict {}) {index} {number}", self.name);
+                let call = format!("key_at (verdict {}) {index} {number}", self.name);
                 self.equation(&call, &masked(Rules::AS_WRITTEN, cleared, index).to_string());
             }
         }
@@ -186,9 +185,9 @@ impl Vectors {
             let identifier = self.random.number() | extension;
             let cleared = without_extension(Rules::AS_WRITTEN, identifier);
             let masked = |identifier: u64| masked(Rules::AS_WRITTEN, identifier, index).to_string();
-            self.equation(&format!("withoutExtension {identifier}"), &cleared.to_string());
-            self.equation(&format!("maskedIdentifier {index} {identifier}"), &masked(identifier));
-            let both = format!("maskedIdentifier {index} (withoutExtension {identifier})");
+            self.equation(&format!("without_extension {identifier}"), &cleared.to_string());
+            self.equation(&format!("masked_identifier {index} {identifier}"), &masked(identifier));
+            let both = format!("masked_identifier {index} (without_extension {identifier})");
             self.equation(&both, &masked(cleared));
         }
     }
@@ -289,7 +288,7 @@ impl Vectors {
         let mut lent = vec![OLD; places];
         let before = list(&lent);
         let given = read_services(Rules::AS_WRITTEN, table, sub_tlv, &mut lent);
-        let call = format!("readServicesOutcome {} ({}) ({before})", self.name, byte_list(sub_tlv));
+        let call = format!("read_services_outcome {} ({}) ({before})", self.name, byte_list(sub_tlv));
         let values = outcome(given.map(|words| words.to_string()));
         self.equation(&call, &format!("({values}, {})", list(&lent)));
     }
@@ -302,7 +301,7 @@ impl Vectors {
         let mut lent = vec![OLD_BYTE; (needed + 2).saturating_sub(self.random.below(4))];
         let before = byte_list(&lent);
         let given = write_services(Rules::AS_WRITTEN, table, bridge, vid, &mut lent);
-        let call = format!("writeServicesOutcome {} {bridge} {vid} ({before})", self.name);
+        let call = format!("write_services_outcome {} {bridge} {vid} ({before})", self.name);
         let values = outcome(given.map(|bytes| bytes.to_string()));
         self.equation(&call, &format!("({values}, {})", byte_list(&lent)));
         whole
@@ -317,7 +316,7 @@ impl Vectors {
                 counts.bridges, counts.half_links, counts.usable_links, counts.vids, counts.members
             )
         });
-        self.equation(&format!("checkOutcome {}", self.name), &outcome(counts));
+        self.equation(&format!("check_outcome {}", self.name), &outcome(counts));
     }
 
     fn path(&mut self, table: &[u8], question: (u32, u32, u32), places: usize) {
@@ -327,10 +326,10 @@ impl Vectors {
         let answer = path(Rules::AS_WRITTEN, table, question, &mut lent);
         let values =
             answer.map(|given| format!("(record {{ cost = {}; hops = {} }})", given.cost, given.hops));
-        let call = format!("pathOutcome {} {vid} {from} {to} ({before})", self.name);
+        let call = format!("path_outcome {} {vid} {from} {to} ({before})", self.name);
         self.equation(&call, &format!("({}, {})", outcome(values), list(&lent)));
         let exported = exported_path_cost(Rules::AS_WRITTEN, table, vid, from, to);
-        self.equation(&format!("exportedPathCost {} {vid} {from} {to}", self.name), &exported.to_string());
+        self.equation(&format!("exported_path_cost {} {vid} {from} {to}", self.name), &exported.to_string());
     }
 
     fn tree(&mut self, table: &[u8], vid: u32, from: u32, bridges: usize) {
@@ -341,7 +340,7 @@ impl Vectors {
         let [costs, hops, before_last] = &mut lists;
         let given = tree(Rules::AS_WRITTEN, table, vid, from, TreeLists { costs, hops, before_last });
         let after = lists.map(|lent| list(&lent)).join(", ");
-        let call = format!("treeOutcome {} {vid} {from} {before}", self.name);
+        let call = format!("tree_outcome {} {vid} {from} {before}", self.name);
         self.equation(&call, &format!("({}, {after})", outcome(given.map(|size| size.to_string()))));
     }
 
@@ -352,7 +351,7 @@ impl Vectors {
         let mut lent = vec![OLD; (needed + 2).saturating_sub(self.random.below(4))];
         let before = list(&lent);
         let given = entries(Rules::AS_WRITTEN, table, bridge, &mut lent);
-        let call = format!("entriesOutcome {} {bridge} ({before})", self.name);
+        let call = format!("entries_outcome {} {bridge} ({before})", self.name);
         self.equation(
             &call,
             &format!("({}, {})", outcome(given.map(|words| words.to_string())), list(&lent)),
@@ -370,7 +369,7 @@ impl Vectors {
             let n = self.random.below(3) as u32;
             let port = lookup(Rules::AS_WRITTEN, &words, vid, address, n);
             let values = port.map(|port| port.map_or("none".to_string(), |port| format!("(some {port})")));
-            let call = format!("lookupOutcome ({}) {vid} {address} {n}", list(&words));
+            let call = format!("lookup_outcome ({}) {vid} {address} {n}", list(&words));
             self.equation(&call, &outcome(values));
             if !words.is_empty() {
                 let place = self.random.below(words.len());
