@@ -10,6 +10,7 @@ pub mod Identifiers
 pub mod Paths
 pub mod Entries
 pub mod Answers
+pub mod Refusals
 pub mod Calls
 pub mod Loads
 pub mod LoadsAddUp

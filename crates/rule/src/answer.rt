@@ -1,6 +1,11 @@
 // What the calls answer (01, "Calls" and "Refusals in checking order"; 02). The refusal case of each answer holds the refusal's
 // number, the kind of the record concerned and the number of that record's first word. The values that a case stands for on
 // paper are given in specs/Answers.
+ghost use Rattle.std.specs.Prelude.{◌≡◌};
+ghost use Rattle.rule.specs.Answers.{check_values, path_values, tree_values, entries_values, lookup_values, read_services_values, write_services_values};
+ghost use Rattle.rule.specs.Refusals.{refused_by};
+
+use crate::refusal::Refusal;
 use measures::measure::{Cost, Hops};
 
 // The kind of the record that a refusal concerns, or none.
@@ -36,6 +41,18 @@ pub enum CheckAnswer {
     },
 }
 
+impl From<Refusal> for CheckAnswer {
+    ghost from_gives = { λ refusal answer. check_values answer ≡ refused_by refusal };
+
+    fn from(refusal: Refusal) -> CheckAnswer {
+        CheckAnswer::Refused {
+            number: refusal.fault.number(),
+            kind: refusal.kind,
+            word: refusal.word,
+        }
+    }
+}
+
 // Path: the bridges are in the lent list.
 #[derive(Clone, Copy)]
 pub enum PathAnswer {
@@ -48,6 +65,18 @@ pub enum PathAnswer {
         kind: RecordKind,
         word: u32,
     },
+}
+
+impl From<Refusal> for PathAnswer {
+    ghost from_gives = { λ refusal answer. path_values answer ≡ refused_by refusal };
+
+    fn from(refusal: Refusal) -> PathAnswer {
+        PathAnswer::Refused {
+            number: refusal.fault.number(),
+            kind: refusal.kind,
+            word: refusal.word,
+        }
+    }
 }
 
 // Tree: the number of bridges, each of which has its place in the lent lists.
@@ -63,6 +92,18 @@ pub enum TreeAnswer {
     },
 }
 
+impl From<Refusal> for TreeAnswer {
+    ghost from_gives = { λ refusal answer. tree_values answer ≡ refused_by refusal };
+
+    fn from(refusal: Refusal) -> TreeAnswer {
+        TreeAnswer::Refused {
+            number: refusal.fault.number(),
+            kind: refusal.kind,
+            word: refusal.word,
+        }
+    }
+}
+
 // Entries: the number of words written to the lent list.
 #[derive(Clone, Copy)]
 pub enum EntriesAnswer {
@@ -76,6 +117,18 @@ pub enum EntriesAnswer {
     },
 }
 
+impl From<Refusal> for EntriesAnswer {
+    ghost from_gives = { λ refusal answer. entries_values answer ≡ refused_by refusal };
+
+    fn from(refusal: Refusal) -> EntriesAnswer {
+        EntriesAnswer::Refused {
+            number: refusal.fault.number(),
+            kind: refusal.kind,
+            word: refusal.word,
+        }
+    }
+}
+
 // Lookup: the port of the matching entry, or none.
 #[derive(Clone, Copy)]
 pub enum LookupAnswer {
@@ -86,6 +139,18 @@ pub enum LookupAnswer {
         kind: RecordKind,
         word: u32,
     },
+}
+
+impl From<Refusal> for LookupAnswer {
+    ghost from_gives = { λ refusal answer. lookup_values answer ≡ refused_by refusal };
+
+    fn from(refusal: Refusal) -> LookupAnswer {
+        LookupAnswer::Refused {
+            number: refusal.fault.number(),
+            kind: refusal.kind,
+            word: refusal.word,
+        }
+    }
 }
 
 // Services read from a sub-TLV: the number of words written to the lent list, two for each member record (02, A2).
@@ -101,6 +166,18 @@ pub enum ReadServicesAnswer {
     },
 }
 
+impl From<Refusal> for ReadServicesAnswer {
+    ghost from_gives = { λ refusal answer. read_services_values answer ≡ refused_by refusal };
+
+    fn from(refusal: Refusal) -> ReadServicesAnswer {
+        ReadServicesAnswer::Refused {
+            number: refusal.fault.number(),
+            kind: refusal.kind,
+            word: refusal.word,
+        }
+    }
+}
+
 // Services written as sub-TLVs: the number of bytes written to the lent list (02, A2).
 #[derive(Clone, Copy)]
 pub enum WriteServicesAnswer {
@@ -112,4 +189,16 @@ pub enum WriteServicesAnswer {
         kind: RecordKind,
         word: u32,
     },
+}
+
+impl From<Refusal> for WriteServicesAnswer {
+    ghost from_gives = { λ refusal answer. write_services_values answer ≡ refused_by refusal };
+
+    fn from(refusal: Refusal) -> WriteServicesAnswer {
+        WriteServicesAnswer::Refused {
+            number: refusal.fault.number(),
+            kind: refusal.kind,
+            word: refusal.word,
+        }
+    }
 }

@@ -55,13 +55,11 @@ pub fn index_of(table: &[u8], s: Shape, vid: u32) -> u32
     ensures { result ≡ index_of (vid_record (plan_at (words_of table.now) s) vid) }
 {
     let from = s.vids_from();
-    let mut k = 0;
-    while k < s.vids {
+    for k in 0..s.vids {
         let v = vid_at(table, from + k);
         if v.vid == vid {
             return v.index;
         }
-        k += 1;
     }
     0
 }

@@ -1,11 +1,7 @@
 -- What the loops of `table::records::index_of` keep true.
-use Prim.Native.Nat.{◌-◌}
 use Rattle.rule.specs.Words.{words_of}
 use Rattle.table.proofs.laws.NumberedLaws.{SeekingVid}
 use Rattle.table.proofs.records.index_of.Given as goal
 
 abbrev pub invariant-loop-k : goal.invariant-loop-k
-invariant-loop-k l = SeekingVid (words_of l.table) l.s l.vid l.k
-
-abbrev pub decreases-loop-k : goal.decreases-loop-k
-decreases-loop-k l = l.s.vids - l.k
+invariant-loop-k l = SeekingVid (words_of l.table) l.fn.s l.vid l.k
