@@ -1,5 +1,4 @@
--- What a refusal stands for on paper: the number of its fault, the kind of the record concerned and that record's first word (01,
--- "Refusals in checking order"; 02, A2 and A7). Assumes nothing.
+-- The numbers of the faults, and what a refusal stands for on paper (01, "Refusals in checking order"; 02, A2 and A7). Assumes nothing.
 use Rattle.std.specs.Prelude.{ℕ}
 use Rattle.rule.specs.Outcome.{Outcome, refused}
 use Rattle.rule.specs.Answers.{kind_number}
@@ -30,8 +29,8 @@ fault_number Fault.TooManyChanges = 19
 
 -- A refusal that concerns no record.
 abbrev pub call_refusal : Fault → Refusal
-call_refusal fault = record { fault = fault; kind = RecordKind.None; word = 0 }
+call_refusal fault = record { number = fault_number fault; kind = RecordKind.None; word = 0 }
 
 module _ {A : Type 0} where
   abbrev pub refused_by : Refusal → Outcome A
-  refused_by r = refused (fault_number r.fault) (kind_number r.kind) r.word
+  refused_by r = refused r.number (kind_number r.kind) r.word

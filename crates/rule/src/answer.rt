@@ -46,7 +46,7 @@ impl From<Refusal> for CheckAnswer {
 
     fn from(refusal: Refusal) -> CheckAnswer {
         CheckAnswer::Refused {
-            number: refusal.fault.number(),
+            number: refusal.number,
             kind: refusal.kind,
             word: refusal.word,
         }
@@ -72,7 +72,7 @@ impl From<Refusal> for PathAnswer {
 
     fn from(refusal: Refusal) -> PathAnswer {
         PathAnswer::Refused {
-            number: refusal.fault.number(),
+            number: refusal.number,
             kind: refusal.kind,
             word: refusal.word,
         }
@@ -97,7 +97,7 @@ impl From<Refusal> for TreeAnswer {
 
     fn from(refusal: Refusal) -> TreeAnswer {
         TreeAnswer::Refused {
-            number: refusal.fault.number(),
+            number: refusal.number,
             kind: refusal.kind,
             word: refusal.word,
         }
@@ -122,7 +122,7 @@ impl From<Refusal> for EntriesAnswer {
 
     fn from(refusal: Refusal) -> EntriesAnswer {
         EntriesAnswer::Refused {
-            number: refusal.fault.number(),
+            number: refusal.number,
             kind: refusal.kind,
             word: refusal.word,
         }
@@ -146,7 +146,7 @@ impl From<Refusal> for LookupAnswer {
 
     fn from(refusal: Refusal) -> LookupAnswer {
         LookupAnswer::Refused {
-            number: refusal.fault.number(),
+            number: refusal.number,
             kind: refusal.kind,
             word: refusal.word,
         }
@@ -171,7 +171,7 @@ impl From<Refusal> for ReadServicesAnswer {
 
     fn from(refusal: Refusal) -> ReadServicesAnswer {
         ReadServicesAnswer::Refused {
-            number: refusal.fault.number(),
+            number: refusal.number,
             kind: refusal.kind,
             word: refusal.word,
         }
@@ -196,7 +196,7 @@ impl From<Refusal> for WriteServicesAnswer {
 
     fn from(refusal: Refusal) -> WriteServicesAnswer {
         WriteServicesAnswer::Refused {
-            number: refusal.fault.number(),
+            number: refusal.number,
             kind: refusal.kind,
             word: refusal.word,
         }

@@ -1,5 +1,5 @@
-// What a call refuses (01, "Refusals in checking order"; 02, A2 and A7): the fault, by its name, the kind of the record concerned and the
-// number of that record's first word. The numbers that the names stand for on paper are given in specs/Refusals.
+// Faults by name, and refusals as values (01, "Refusals in checking order"; 02, A2 and A7): a refusal's number, the kind of the record
+// concerned and the number of that record's first word. What they stand for on paper is given in specs/Refusals.
 ghost use Rattle.std.specs.Prelude.{◌≡◌};
 ghost use Rattle.rule.specs.Refusals.{fault_number, call_refusal};
 
@@ -79,7 +79,7 @@ impl Fault {
 
 #[derive(Clone, Copy)]
 pub struct Refusal {
-    pub fault: Fault,
+    pub number: u32,
     pub kind: RecordKind,
     pub word: u32,
 }
@@ -90,7 +90,7 @@ impl Refusal {
         ensures { result ≡ call_refusal fault }
     {
         Refusal {
-            fault,
+            number: fault.number(),
             kind: RecordKind::None,
             word: 0,
         }
