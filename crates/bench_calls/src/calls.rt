@@ -81,10 +81,8 @@ fn make_trees(network: &[u32], count: usize, labels: &mut [u32], path_ids: &mut 
     requires { IsNetwork network.now × (count ≤ bridges_in network.now) × (320 ≤ length labels.old) × (4096 ≤ length path_ids.old) }
     ensures { LastTree network.now count labels.old labels.new }
 {
-    let mut root = 0;
-    while root < count {
+    for root in 0..count {
         tree_in_network(network, 1, root, labels, path_ids);
-        root += 1;
     }
 }
 

@@ -56,12 +56,10 @@ fn write_branches(labels: &[u32], n: usize, costs: &mut [u32], hops: &mut [u32],
     requires { (320 ≤ length labels.now) × (n ≤ 64) × (n ≤ length costs.old) × (n ≤ length hops.old) × (n ≤ length lasts.old) }
     ensures { BranchesWritten labels.now n costs.old hops.old lasts.old costs.new hops.new lasts.new }
 {
-    let mut u = 0;
-    while u < n {
+    for u in 0..n {
         costs[u] = branch_cost(labels, u).0;
         hops[u] = branch_hops(labels, u).0;
         lasts[u] = branch_last(labels, u);
-        u += 1;
     }
 }
 

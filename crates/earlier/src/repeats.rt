@@ -32,12 +32,10 @@ fn repeats_any_bridge(table: &[u8], bridges: usize, b: Bridge) -> bool
     requires { 12 * bridges ≤ length table.now }
     ensures { result ≡ any_passes (repeats_bridge (bridge_values b)) (records_at bridge_of 3 0 (words_of table.now) bridges) }
 {
-    let mut i = 0;
-    while i < bridges {
+    for i in 0..bridges {
         if repeats_bridge(b, bridge_at(table, 3 * i)) {
             return true;
         }
-        i += 1;
     }
     false
 }
@@ -74,12 +72,10 @@ pub fn is_vid_known(table: &[u8], from: usize, vids: usize, vid: u32) -> bool
     requires { 4 * (from + vids) ≤ length table.now }
     ensures { result ≡ any_passes (has_vid vid) (records_at vid_of 1 from (words_of table.now) vids) }
 {
-    let mut i = 0;
-    while i < vids {
+    for i in 0..vids {
         if vid_at(table, from + i).vid == vid {
             return true;
         }
-        i += 1;
     }
     false
 }
@@ -102,12 +98,10 @@ fn repeats_any_member(table: &[u8], from: usize, members: usize, m: Member) -> b
     requires { 4 * (from + 2 * members) ≤ length table.now }
     ensures { result ≡ any_passes (repeats_member (member_values m)) (records_at member_of 2 from (words_of table.now) members) }
 {
-    let mut i = 0;
-    while i < members {
+    for i in 0..members {
         if repeats_member(m, member_at(table, from + 2 * i)) {
             return true;
         }
-        i += 1;
     }
     false
 }

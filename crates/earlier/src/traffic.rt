@@ -21,10 +21,8 @@ pub fn index_vids(table: &[u8], from: usize, vids: usize, vid_index: &mut [u32])
     requires { (4 * (from + vids) ≤ length table.now) × (vids ≤ 512) × Indexed vid_index.old 0 }
     ensures { VidIndex vid_index.new (words_of table.now) from vids }
 {
-    let mut i = 0;
-    while i < vids {
+    for i in 0..vids {
         enter(vid_index, i, vid_at(table, from + i).vid);
-        i += 1;
     }
 }
 
@@ -54,12 +52,10 @@ fn repeats_any_traffic(table: &[u8], from: usize, count: usize, t: Traffic) -> b
     requires { 4 * (from + 2 * count) ≤ length table.now }
     ensures { result ≡ any_passes (repeats_traffic (traffic_values t)) (records_at traffic_of 2 from (words_of table.now) count) }
 {
-    let mut i = 0;
-    while i < count {
+    for i in 0..count {
         if repeats_traffic(t, traffic_at(table, from + 2 * i)) {
             return true;
         }
-        i += 1;
     }
     false
 }

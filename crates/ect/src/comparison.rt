@@ -51,17 +51,15 @@ pub fn compare(first: &[u64], second: &[u64]) -> Comparison
     requires { length first.now ≡ length second.now }
     ensures { result ≡ comparison_of first.now second.now }
 {
-    let mut agreeing = 0;
-    while agreeing < first.len() {
+    for agreeing in 0..first.len() {
         let x = first[agreeing];
         let y = second[agreeing];
         if x != y {
             return decided(x, y, agreeing + 1);
         }
-        agreeing += 1;
     }
     Comparison {
         order: Order::Equal,
-        places: agreeing,
+        places: first.len(),
     }
 }

@@ -28,12 +28,10 @@ pub fn find_half_link(table: &[u8], s: Shape, name: HalfLinkName) -> usize
     requires { Whole table.now s }
     ensures { result ≡ first_passing (is_named name) (plan_at (words_of table.now) s).half_links }
 {
-    let mut i = 0;
-    while i < s.half_links {
+    for i in 0..s.half_links {
         if has_name(table, s, i, name) {
             return i;
         }
-        i += 1;
     }
-    i
+    s.half_links
 }

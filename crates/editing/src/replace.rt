@@ -29,12 +29,7 @@ fn close_gap(table: &mut [u8], at: usize)
     requires { at + 12 ≤ length table.old }
     ensures { table.new ≡ spliced table.old at (drop (at + 12) table.old) }
 {
-    let end = table.len() - HALF_LINK;
-    let mut i = at;
-    while i < end {
-        table[i] = table[i + HALF_LINK];
-        i += 1;
-    }
+    table.copy_within(at + HALF_LINK.., at);
 }
 
 // "a withdrawal removes the three words and lowers the end count by 3": the words from `k` on, of a table whose last word is 3 or more. The

@@ -32,14 +32,12 @@ fn fill_row(labels: &[u32], hops: &[u16], b: u32, n: usize, row: &mut [u16])
     ensures { row.new ≡ egress_row_by labels.now hops.now b n }
 {
     clear(row, n);
-    let mut k = 1;
-    while k < n {
+    for k in 1..n {
         let d = labels[k];
         if d == Cost::NO_PATH.0 {
             return;
         }
         write_port(labels, hops, b, d as usize, row);
-        k += 1;
     }
 }
 

@@ -53,17 +53,11 @@ pub fn keep_egress_row(
     count + 1
 }
 
-fn wide(place: u16) -> usize
-    ensures { result ≡ place }
-{
-    place as usize
-}
-
 // Where the row of the chosen paths from the bridge `a` for an ECT index begins.
 pub fn egress_row_at(egress_rows: &[u16], index: u32, a: usize) -> usize
     requires { (1 ≤ index) × (index ≤ 16) × (a < 64) × (1024 ≤ length egress_rows.now) }
     ensures { result ≡ egress_row_at egress_rows.now index a }
 {
     let slot = (index as usize - 1) * MOST_BRIDGES + a;
-    wide(egress_rows[slot])
+    usize::from(egress_rows[slot])
 }

@@ -80,11 +80,7 @@ fn copy(words: &[u32], list: &mut [u32])
     requires { length words.now ≤ length list.old }
     ensures { list.new ≡ spliced list.old 0 words.now }
 {
-    let mut i = 0;
-    while i < words.len() {
-        list[i] = words[i];
-        i += 1;
-    }
+    list[..words.len()].copy_from_slice(words);
 }
 
 // 13: "The lent list is shorter than the answer."

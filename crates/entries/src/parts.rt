@@ -79,10 +79,8 @@ fn group_part(
     ensures { Appended words.old at (group_part (words_of table.now) s egress_rows.now ports.now (vid_values v)) words.new result }
 {
     let mut end = at;
-    let mut j = 0;
-    while j < s.members {
+    for j in 0..s.members {
         end = member_words(table, s, egress_rows, ports, v, j, words, end);
-        j += 1;
     }
     end
 }
@@ -122,10 +120,8 @@ pub fn whole_list(
     ensures { Appended words.old 0 (whole_list (words_of table.now) s egress_rows.now ports.now b) words.new result }
 {
     let mut end = 0;
-    let mut k = 0;
-    while k < s.vids {
+    for k in 0..s.vids {
         end = vid_part(table, s, egress_rows, ports, b, k, words, end);
-        k += 1;
     }
     end
 }

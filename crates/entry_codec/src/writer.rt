@@ -6,13 +6,6 @@ ghost use Rattle.entry_codec.specs.Codec.{entry_with};
 
 use crate::layout::{KIND_UNIT, UPPER_UNIT, VID_UNIT};
 
-// A port as `write_entry` takes it.
-pub fn wide(port: u16) -> u32
-    ensures { (result ≡ port) × (result < 65536) }
-{
-    port as u32
-}
-
 // "An entry is 3 words": writes them from the place `at` on, and gives the place after them.
 pub fn write_entry(
     words: &mut [u32],

@@ -31,8 +31,7 @@ fn keep_own_egress_rows(
     ensures trees_kept { TreesKept network.now store.new }
 {
     let mut count = 0;
-    let mut k = 0;
-    while k < s.vids {
+    for k in 0..s.vids {
         let v = vid(table, s, k);
         count = keep_egress_row(
             network,
@@ -45,7 +44,6 @@ fn keep_own_egress_rows(
             egress_rows,
             count,
         );
-        k += 1;
     }
     count
 }
@@ -77,13 +75,11 @@ pub fn keep_egress_rows(
     ensures trees_kept { TreesKept network.now store.new }
 {
     let mut count = keep_own_egress_rows(table, s, network, hops, b, path_ids, store, egress_rows);
-    let mut j = 0;
-    while j < s.members {
+    for j in 0..s.members {
         let m = member(table, s, j);
         let a = m.bridge as usize;
         let index = transmitter_index(table, s, m);
         if index == 0 {
-            j += 1;
             continue;
         }
         count = keep_egress_row(
@@ -97,6 +93,5 @@ pub fn keep_egress_rows(
             egress_rows,
             count,
         );
-        j += 1;
     }
 }

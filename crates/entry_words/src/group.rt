@@ -8,7 +8,7 @@ ghost use Rattle.verdict.specs.Examination.{Checked};
 ghost use Rattle.entry_words.specs.Words.{behind_at, ports_behind, group_words};
 
 use entry_codec::layout::GROUP;
-use entry_codec::writer::{wide, write_entry};
+use entry_codec::writer::write_entry;
 use readers::member::Member;
 use table::records::member;
 use table::shape::Shape;
@@ -65,10 +65,8 @@ pub fn ports_behind(
     ensures { Appended behind.old 0 (ports_behind (words_of table.now) s egress_row.now (member_values m)) behind.new result }
 {
     let mut at = 0;
-    let mut j = 0;
-    while j < s.members {
+    for j in 0..s.members {
         at = note_receiver(table, s, egress_row, m, j, behind, at);
-        j += 1;
     }
     at
 }
@@ -87,17 +85,12 @@ pub fn group_words(
     ensures { Appended words.old at (group_words ports.now behind.now vid address) words.new result }
 {
     let mut end = at;
-    let mut i = 0;
-    'ports: while i < ports.len() {
-        let port = ports[i];
-        i += 1;
-        let mut j = 0;
-        while j < behind.len() {
-            if behind[j] == port {
-                end = write_entry(words, end, GROUP, vid, wide(port), address);
+    'ports: for port in ports {
+        for receiver_port in behind {
+            if receiver_port == port {
+                end = write_entry(words, end, GROUP, vid, u32::from(*port), address);
                 continue 'ports;
             }
-            j += 1;
         }
     }
     end

@@ -7,7 +7,7 @@ ghost use Rattle.verdict.specs.Examination.{Checked};
 ghost use Rattle.entry_words.specs.Words.{individual_to, individual_words};
 
 use entry_codec::layout::INDIVIDUAL;
-use entry_codec::writer::{wide, write_entry};
+use entry_codec::writer::write_entry;
 use table::records::bridge;
 use table::shape::Shape;
 
@@ -25,7 +25,7 @@ fn write_individual(
     requires room { Room words.old at (individual_to (words_of table.now) egress_row.now vid d) }
     ensures { Appended words.old at (individual_to (words_of table.now) egress_row.now vid d) words.new result }
 {
-    let port = wide(egress_row[d]);
+    let port = u32::from(egress_row[d]);
     if port == 0 {
         return at;
     }
@@ -47,10 +47,8 @@ pub fn individual_words(
     ensures { Appended words.old at (individual_words (words_of table.now) s egress_row.now vid) words.new result }
 {
     let mut end = at;
-    let mut d = 0;
-    while d < s.bridges {
+    for d in 0..s.bridges {
         end = write_individual(table, s, egress_row, vid, d, words, end);
-        d += 1;
     }
     end
 }

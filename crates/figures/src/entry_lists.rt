@@ -56,10 +56,8 @@ fn word_of(n: u32) -> u32
 fn write_star(table: &mut [u8])
     requires { 2860 ≤ length table.old }
 {
-    let mut n = 0;
-    while n < 715 {
+    for n in 0..715 {
         put_word(table, n, word_of(n as u32));
-        n += 1;
     }
 }
 

@@ -33,10 +33,8 @@ const LOWER: [u32; 47] = [
 fn write_words(words: &[u32], table: &mut [u8])
     requires { 4 * length words.now ≤ length table.old }
 {
-    let mut n = 0;
-    while n < words.len() {
+    for n in 0..words.len() {
         put_word(table, n, words[n]);
-        n += 1;
     }
 }
 

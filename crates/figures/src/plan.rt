@@ -105,9 +105,7 @@ pub fn write_table(s: Shape, table: &mut [u8])
     requires { (words_read s < 4096) × (4 * words_read s + 4 ≤ length table.old) }
 {
     let words = s.words_read() + 1;
-    let mut n = 0;
-    while n < words {
+    for n in 0..words {
         put_word(table, n, word_of(s, n as u32));
-        n += 1;
     }
 }

@@ -35,13 +35,11 @@ fn least_place(costs: &[u32], from: usize) -> usize
 {
     let mut least = Cost(costs[from]);
     let mut least_at = from;
-    let mut k = 1;
-    while k < GROUP {
+    for k in 1..GROUP {
         let place = from + k;
         let cost = Cost(costs[place]);
         least_at = place_of_lesser(least, least_at, cost, place);
         least = lesser(cost, least);
-        k += 1;
     }
     least_at
 }

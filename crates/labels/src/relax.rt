@@ -74,8 +74,7 @@ pub fn relax_all(
     let via_cost = cost_at(&labels[..], via);
     let hops = hops_at(&labels[..], via).plus(Hops(1));
     let end = starts[via + 1] as usize;
-    let mut i = starts[via] as usize;
-    while i < end {
+    for i in starts[via] as usize..end {
         let cost = via_cost.plus(Cost(costs[i]));
         relax(
             labels,
@@ -86,6 +85,5 @@ pub fn relax_all(
             cost,
             hops,
         );
-        i += 1;
     }
 }

@@ -63,10 +63,8 @@ pub fn count_usable(table: &[u8], s: Shape, link_index: &[u32]) -> u32
     ensures { result ≡ count_usable (plan_at (words_of table.now) s).half_links }
 {
     let mut count = 0;
-    let mut i = 0;
-    while i < s.half_links {
+    for i in 0..s.half_links {
         count += count_one(table, s, link_index, i);
-        i += 1;
     }
     count
 }

@@ -33,10 +33,8 @@ pub fn write_path_lines(
 {
     let v = vid(table, s, k);
     let mut next = 0;
-    let mut to = 0;
-    while to < s.bridges {
+    for to in 0..s.bridges {
         if to == from {
-            to += 1;
             continue;
         }
         let place = kept_tree(network, v.index, to, path_ids, store);
@@ -48,7 +46,6 @@ pub fn write_path_lines(
             out,
             next,
         );
-        to += 1;
     }
     next
 }

@@ -51,10 +51,8 @@ pub fn write_lines_of(
     ensures { WrittenAt at out.old out.new (each_of (pair_text hops.now loads.now u) n) result × (result ≤ at + 38 * n) }
 {
     let mut next = at;
-    let mut v = 0;
-    while v < n {
+    for v in 0..n {
         next = write_pair_line(hops, loads, u, v, out, next);
-        v += 1;
     }
     next
 }

@@ -26,10 +26,8 @@ pub fn write_pair_lines(network: &[u32], loads: &[u32], out: &mut [u8]) -> usize
 {
     let n = bridges(network);
     let mut next = 0;
-    let mut u = 0;
-    while u < n {
+    for u in 0..n {
         next = write_lines_from(network, loads, u, out, next);
-        u += 1;
     }
     next
 }

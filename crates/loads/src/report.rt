@@ -58,12 +58,10 @@ pub fn write_loads(
     clear_loads(loads);
     let mut total = 0;
     let mut lost = 0;
-    let mut i = 0;
-    while i < count {
+    for i in 0..count {
         let added = add_record(network, indexes, traffic, i, path_ids, store, loads);
         total += added.total;
         lost += added.lost;
-        i += 1;
     }
     Sums {
         total: total,

@@ -15,14 +15,12 @@ fn vid_place(table: &[u8], s: Shape, number: u32) -> usize
     requires { Whole table.now s }
     ensures { result ≡ vid_place (plan_at (words_of table.now) s) number }
 {
-    let mut k = 0;
-    while k < s.vids {
+    for k in 0..s.vids {
         if vid(table, s, k).vid == number {
             return k;
         }
-        k += 1;
     }
-    k
+    s.vids
 }
 
 // Writes the words of the traffic record number `i`.
@@ -43,10 +41,8 @@ pub fn write_traffic(table: &[u8], s: Shape, words: &mut [u32])
     requires { Whole table.now s × (4 * s.traffic ≤ length words.old) }
     ensures { TrafficWords (plan_at (words_of table.now) s) (plan_at (words_of table.now) s).traffic words.new }
 {
-    let mut i = 0;
-    while i < s.traffic {
+    for i in 0..s.traffic {
         write_record(table, s, i, words);
-        i += 1;
     }
 }
 
@@ -55,9 +51,7 @@ pub fn write_indexes(table: &[u8], s: Shape, indexes: &mut [u32])
     requires { Whole table.now s × (s.vids ≤ length indexes.old) }
     ensures { take s.vids indexes.new ≡ own_indexes (plan_at (words_of table.now) s) }
 {
-    let mut k = 0;
-    while k < s.vids {
+    for k in 0..s.vids {
         indexes[k] = vid(table, s, k).index;
-        k += 1;
     }
 }

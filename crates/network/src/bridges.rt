@@ -40,14 +40,12 @@ pub fn write_bridges(table: &[u8], s: Shape, words: &mut [u32])
     requires { Whole table.now s × (s.bridges ≤ 64) × (64 + 2 * s.bridges ≤ length words.old) }
     ensures { BridgeWords (plan_at (words_of table.now) s) s.bridges words.new }
 {
-    let mut u = 0;
-    while u < s.bridges {
+    for u in 0..s.bridges {
         let b = bridge(table, s, u);
         let identifier = without_extension(b.identifier);
         words[u] = mark_of(b.overloaded);
         words[IDENTIFIERS_AFTER + 2 * u] = (identifier / 4294967296) as u32;
         words[IDENTIFIERS_AFTER + 2 * u + 1] = (identifier % 4294967296) as u32;
-        u += 1;
     }
 }
 
@@ -57,9 +55,7 @@ pub fn write_keys(network: &[u32], mask: u8, keys: &mut [u64])
     ensures { KeysOf network.now mask keys.new }
 {
     let n = bridges(network);
-    let mut u = 0;
-    while u < n {
+    for u in 0..n {
         keys[u] = masked_identifier(identifier(network, u), mask);
-        u += 1;
     }
 }

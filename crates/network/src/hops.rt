@@ -15,12 +15,6 @@ use rule::kinds::MOST_BRIDGES;
 use table::records::half_link;
 use table::shape::Shape;
 
-fn lesser(a: u64, b: u64) -> u64
-    ensures { result ≡ min a b }
-{
-    if a < b { a } else { b }
-}
-
 // Offers the hop by the half-link `i` to the row of its near bridge, and lists its far bridge where that had no hop, the first `at` hops being
 // listed; gives how many are listed then.
 fn offer_half_link(
@@ -41,7 +35,7 @@ fn offer_half_link(
     }
     let far = half_link(table, s, i).far;
     let known = row[far as usize];
-    row[far as usize] = lesser(known, hop);
+    row[far as usize] = known.min(hop);
     if known < NO_HOP {
         return at;
     }
@@ -78,12 +72,10 @@ fn write_hops(row: &[u64], from: usize, to: usize, network: &mut [u32])
     requires { (from ≤ to) × (to ≤ 512) × (marks_at ≤ length network.old) × HaveHops row.now network.old from to }
     ensures { HopsWritten row.now network.old network.new from to }
 {
-    let mut k = from;
-    while k < to {
+    for k in from..to {
         let hop = row[network[NEIGHBOURS + k] as usize];
         network[COSTS + k] = cost_of_hop(hop);
         network[PORTS + k] = port_of_hop(hop);
-        k += 1;
     }
 }
 
@@ -119,10 +111,8 @@ pub fn list_neighbours(
 {
     network[STARTS] = 0;
     let mut at = 0;
-    let mut u = 0;
-    while u < s.bridges {
+    for u in 0..s.bridges {
         at = list_hops(table, s, link_index, near_index, u, at, network);
-        u += 1;
-        network[STARTS + u] = at as u32;
+        network[STARTS + (u + 1)] = at as u32;
     }
 }

@@ -13,10 +13,8 @@ pub fn enter_near_bridges(table: &[u8], s: Shape, near_index: &mut [u32])
     requires { Whole table.now s × (s.half_links ≤ 512) × Indexed near_index.old 0 }
     ensures { NearIndex near_index.new table.now s }
 {
-    let mut i = 0;
-    while i < s.half_links {
+    for i in 0..s.half_links {
         let h = half_link(table, s, i);
         enter(near_index, i, h.near);
-        i += 1;
     }
 }

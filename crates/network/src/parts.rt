@@ -23,17 +23,11 @@ pub const IDENTIFIERS: usize = MARKS + MOST_BRIDGES;
 // The words of a network.
 pub const NETWORK: usize = IDENTIFIERS + 2 * MOST_BRIDGES;
 
-fn wide(word: u32) -> usize
-    ensures { result ≡ word }
-{
-    word as usize
-}
-
 pub fn bridges(network: &[u32]) -> usize
     requires { network_words ≤ length network.now }
     ensures { result ≡ bridges_in network.now }
 {
-    wide(network[BRIDGES])
+    network[BRIDGES] as usize
 }
 
 // The place of the first hop of the bridge `u`, which is the place after the last hop of the bridge before it.
@@ -41,7 +35,7 @@ pub fn first_hop(network: &[u32], u: usize) -> usize
     requires { (network_words ≤ length network.now) × (u < 65) }
     ensures { result ≡ get_or (starts_in network.now) u 0 }
 {
-    wide(network[STARTS + u])
+    network[STARTS + u] as usize
 }
 
 // The bridge at the other end of the hop at the place `i`.
@@ -49,7 +43,7 @@ pub fn neighbour(network: &[u32], i: usize) -> usize
     requires { (network_words ≤ length network.now) × (i < 512) }
     ensures { result ≡ get_or (neighbours_in network.now) i 0 }
 {
-    wide(network[NEIGHBOURS + i])
+    network[NEIGHBOURS + i] as usize
 }
 
 // Its near port.

@@ -22,12 +22,10 @@ pub fn write_path(labels: &[u32], from: u32, count: usize, list: &mut [u32])
     requires { (320 ≤ length labels.now) × Inside labels.now from count × (count ≤ length list.old) }
     ensures { list.new ≡ spliced list.old 0 (followed labels.now from count) }
 {
-    let mut i = 0;
     let mut u = from;
-    while i < count {
+    for i in 0..count {
         list[i] = u;
         u = next_number(labels, u as usize);
-        i += 1;
     }
 }
 

@@ -29,8 +29,9 @@ fn answer_next() -> bool {
 }
 
 fn main() {
-    let mut turns = TURNS;
-    while turns > 0 && answer_next() {
-        turns -= 1;
+    for _ in 0..TURNS {
+        if !answer_next() {
+            return;
+        }
     }
 }

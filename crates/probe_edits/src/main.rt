@@ -189,9 +189,8 @@ fn take_steps(
 ) -> bool
     requires { (List·length table.old ≤ 10240) × (List·length costs.old ≤ 80) × (List·length hops.old ≤ 80) × (List·length lasts.old ≤ 80) }
 {
-    let mut left = count;
     let mut running = state;
-    while 0 < left {
+    for _ in 0..count {
         let mut words = [0u8; STEP];
         if !read_bytes(&mut words) {
             return refuse(b"the input ends inside a step");
@@ -205,7 +204,6 @@ fn take_steps(
                 return false;
             }
         }
-        left -= 1;
     }
     true
 }
@@ -270,8 +268,9 @@ fn take_next() -> bool {
 }
 
 fn main() {
-    let mut turns = TURNS;
-    while turns > 0 && take_next() {
-        turns -= 1;
+    for _ in 0..TURNS {
+        if !take_next() {
+            return;
+        }
     }
 }

@@ -15,10 +15,8 @@ pub fn set_untouched(list: &mut [u32])
     requires { length list.old ≤ 14932 }
     ensures { list.new ≡ untouched (length list.old) }
 {
-    let mut i = 0;
-    while i < list.len() {
+    for i in 0..list.len() {
         list[i] = UNTOUCHED + i as u32;
-        i += 1;
     }
 }
 
@@ -26,9 +24,7 @@ pub fn set_untouched(list: &mut [u32])
 pub fn set_untouched_bytes(list: &mut [u8])
     ensures { list.new ≡ untouched_bytes (length list.old) }
 {
-    let mut i = 0;
-    while i < list.len() {
+    for i in 0..list.len() {
         list[i] = (UNTOUCHED_BYTE - i % BYTES) as u8;
-        i += 1;
     }
 }

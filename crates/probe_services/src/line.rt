@@ -45,22 +45,14 @@ fn write_written_answer(answer: WriteServicesAnswer, out: &mut [u8], at: usize) 
     }
 }
 
-fn wide(b: u8) -> u32
-    ensures { (result ≡ b) × (result < 256) }
-{
-    b as u32
-}
-
 // A field for each byte.
 fn write_byte_fields(bytes: &[u8], out: &mut [u8], at: usize) -> usize
     requires { at + 11 * length bytes.now ≤ length out.old }
     ensures { WrittenAt at out.old out.new (fields bytes.now) result × (result ≤ at + 11 * length bytes.now) }
 {
     let mut next = at;
-    let mut i = 0;
-    while i < bytes.len() {
-        next = write_field(wide(bytes[i]), out, next);
-        i += 1;
+    for b in bytes {
+        next = write_field(u32::from(*b), out, next);
     }
     next
 }

@@ -110,8 +110,7 @@ fn answer_words(table: &[u8], words: &[u8]) -> bool
 
 // The questions of one table, or those before the first that cannot be answered.
 fn answer_questions(table: &[u8], count: u32) -> bool {
-    let mut left = count;
-    while 0 < left {
+    for _ in 0..count {
         let mut words = [0u8; QUESTION];
         if !read_bytes(&mut words) {
             return refuse(b"the input ends inside a question");
@@ -119,7 +118,6 @@ fn answer_questions(table: &[u8], count: u32) -> bool {
         if !answer_words(table, &words) {
             return false;
         }
-        left -= 1;
     }
     true
 }
@@ -144,8 +142,9 @@ fn answer_next() -> bool {
 }
 
 fn main() {
-    let mut turns = TURNS;
-    while turns > 0 && answer_next() {
-        turns -= 1;
+    for _ in 0..TURNS {
+        if !answer_next() {
+            return;
+        }
     }
 }

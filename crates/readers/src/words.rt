@@ -3,18 +3,15 @@ ghost use Rattle.std.specs.Prelude.{◌≡◌, ◌+◌, ◌*◌, ◌<◌, ◌≤
 ghost use Rattle.lists.specs.Appending.{Appended};
 ghost use Rattle.rule.specs.Words.{word, words_of, bytes_of};
 
-fn wide(b: u8) -> u32
-    ensures { (result ≡ b) × (result < 256) }
-{
-    b as u32
-}
-
 // "Bytes make words of 32 bits, high byte first": the first word of the part.
 fn first_word(part: &[u8]) -> u32
     requires { 4 ≤ length part.now }
     ensures { (result ≡ word (words_of part.now) 0) × (result < 4294967296) }
 {
-    wide(part[0]) * 16777216 + wide(part[1]) * 65536 + wide(part[2]) * 256 + wide(part[3])
+    u32::from(part[0]) * 16777216
+        + u32::from(part[1]) * 65536
+        + u32::from(part[2]) * 256
+        + u32::from(part[3])
 }
 
 // The word `n` of the part.

@@ -27,14 +27,12 @@ pub fn bridge_with(table: &[u8], s: Shape, address: u64) -> usize
     requires { Checked table.now s }
     ensures { result ≡ first_passing (has_address address) (plan_at (words_of table.now) s).bridges }
 {
-    let mut d = 0;
-    while d < s.bridges {
+    for d in 0..s.bridges {
         if address_of(table, s, d) == address {
             return d;
         }
-        d += 1;
     }
-    d
+    s.bridges
 }
 
 // Whether the VID has a record.

@@ -48,10 +48,8 @@ fn write_members(services: &[u8], bridge: u32, vid: u32, words: &mut [u32])
 {
     let count = services.len() / SERVICE;
     let mut at = 0;
-    let mut n = 0;
-    while n < count {
+    for n in 0..count {
         at = write_member(words, at, word_at(services, n), bridge, vid);
-        n += 1;
     }
 }
 

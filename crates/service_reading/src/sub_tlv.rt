@@ -6,12 +6,6 @@ ghost use Rattle.rule.specs.Services.{no_sub_tlv, b_mac_of, base_vid_of, isid_of
 use crate::layout::{BEFORE_CONTENT, BEFORE_SERVICES, HALF, ISIDS, SERVICE, TYPE, VIDS};
 use readers::words::word_at;
 
-fn wide(b: u8) -> usize
-    ensures { (result ≡ b) × (result < 256) }
-{
-    b as usize
-}
-
 // 15: "fewer than 10 bytes are there, type is not 3, or length is not the number of bytes that follow it or not 8 plus a multiple of 4".
 pub fn is_no_sub_tlv(bytes: &[u8]) -> bool
     ensures { (result ≡ no_sub_tlv bytes.now) × (result ≡ false → length bytes.now ≤ 257) }
@@ -22,7 +16,7 @@ pub fn is_no_sub_tlv(bytes: &[u8]) -> bool
     if bytes[0] != TYPE {
         return true;
     }
-    let length = wide(bytes[1]);
+    let length = usize::from(bytes[1]);
     if length != bytes.len() - BEFORE_CONTENT {
         return true;
     }

@@ -70,10 +70,8 @@ fn gather_services(table: &[u8], s: Shape, bridge: u32, vid: u32, services: &mut
     ensures { Appended services.old 0 (services_written (plan_at (words_of table.now) s) bridge vid) services.new result × (result ≤ 64) }
 {
     let mut at = 0;
-    let mut j = 0;
-    while j < s.members {
+    for j in 0..s.members {
         at = note_service(table, s, bridge, vid, j, services, at);
-        j += 1;
     }
     at
 }

@@ -53,10 +53,8 @@ fn write_services(bytes: &mut [u8], at: usize, services: &[u32]) -> usize
     ensures { Appended bytes.old at (flat_map bytes_of services.now) bytes.new result }
 {
     let mut end = at;
-    let mut n = 0;
-    while n < services.len() {
-        end = write_word(bytes, end, services[n]);
-        n += 1;
+    for service in services {
+        end = write_word(bytes, end, *service);
     }
     end
 }
@@ -98,12 +96,10 @@ pub fn write_sub_tlvs(bytes: &mut [u8], b_mac: u64, vid: u32, services: &[u32]) 
 {
     let count = sub_tlv_count(services.len());
     let mut at = 0;
-    let mut i = 0;
-    while i < count {
+    for i in 0..count {
         let from = SERVICES_EACH * i;
         let to = part_end(from, services.len());
         at = write_sub_tlv(bytes, at, b_mac, vid, &services[from..to]);
-        i += 1;
     }
     at
 }

@@ -15,16 +15,14 @@ fn decimal_digit(d: u32) -> u8
 fn decimal_places(n: u32) -> usize
     ensures { (result ≡ places 9 n) × (result ≤ 10) }
 {
-    let mut count = 1;
     let mut rest = n;
-    while count < 10 {
+    for count in 1..10 {
         if rest < 10 {
             return count;
         }
         rest /= 10;
-        count += 1;
     }
-    count
+    10
 }
 
 // The last `count` decimal digits.
@@ -33,9 +31,7 @@ fn write_last_digits(n: u32, count: usize, out: &mut [u8], at: usize)
     ensures { out.new ≡ spliced out.old at (digits_of 10 count n) }
 {
     let mut rest = n;
-    let mut left = count;
-    while 0 < left {
-        left -= 1;
+    for left in (0..count).rev() {
         out[at + left] = decimal_digit(rest % 10);
         rest /= 10;
     }
@@ -67,9 +63,7 @@ pub fn write_address(a: u64, out: &mut [u8], at: usize) -> usize
     ensures { WrittenAt at out.old out.new (address a) result }
 {
     let mut rest = a;
-    let mut left = 12;
-    while 0 < left {
-        left -= 1;
+    for left in (0..12).rev() {
         out[at + left] = hexadecimal_digit(rest % 16);
         rest /= 16;
     }

@@ -9,12 +9,9 @@ pub fn write_word(word: &[u8], out: &mut [u8], at: usize) -> usize
     requires { at + length word.now ≤ length out.old }
     ensures { WrittenAt at out.old out.new word.now result }
 {
-    let mut i = 0;
-    while i < word.len() {
-        out[at + i] = word[i];
-        i += 1;
-    }
-    at + word.len()
+    let next = at + word.len();
+    out[at..next].copy_from_slice(word);
+    next
 }
 
 // One byte.
@@ -41,10 +38,8 @@ pub fn write_fields(numbers: &[u32], out: &mut [u8], at: usize) -> usize
     ensures { WrittenAt at out.old out.new (fields numbers.now) result × (result ≤ at + 11 * length numbers.now) }
 {
     let mut next = at;
-    let mut i = 0;
-    while i < numbers.len() {
-        next = write_field(numbers[i], out, next);
-        i += 1;
+    for n in numbers {
+        next = write_field(*n, out, next);
     }
     next
 }

@@ -91,11 +91,7 @@ fn note_order(order: &[u32], count: usize, labels: &mut [u32])
     requires { (count ≤ length order.now) × (count ≤ length labels.old) }
     ensures { Noted order.now count labels.old labels.new }
 {
-    let mut k = 0;
-    while k < count {
-        labels[k] = order[k];
-        k += 1;
-    }
+    labels[..count].copy_from_slice(&order[..count]);
 }
 
 // For each of the `n` bridges the cost, the hops, the next hop towards the root and the first hop from the root of its chosen path to

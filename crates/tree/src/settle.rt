@@ -31,11 +31,9 @@ fn clear(labels: &mut [u32])
     requires { 320 ≤ length labels.old }
     ensures { Cleared 64 labels.old labels.new }
 {
-    let mut u = 0;
-    while u < MOST_BRIDGES {
+    for u in 0..MOST_BRIDGES {
         labels[u] = Cost::NO_PATH.0;
         labels[COSTS + u] = Cost::NO_PATH.0;
-        u += 1;
     }
 }
 

@@ -7,6 +7,3 @@ use Rattle.bench_calls.proofs.calls.make_trees.Given as goal
 
 abbrev pub invariant-loop-root : goal.invariant-loop-root
 invariant-loop-root l = (length l.labels ≡ length l.initial.labels) × (length l.path_ids ≡ length l.initial.path_ids) × (l.root ≤ l.count) × LastTree l.network l.root l.initial.labels l.labels
-
-abbrev pub decreases-loop-root : goal.decreases-loop-root
-decreases-loop-root l = l.count - l.root

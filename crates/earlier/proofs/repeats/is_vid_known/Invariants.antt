@@ -1,5 +1,4 @@
 -- What the loops of `earlier::repeats::is_vid_known` keep true.
-use Prim.Native.Nat.{◌-◌}
 use Rattle.rule.specs.Words.{words_of}
 use Rattle.rule.specs.Records.{vid_of}
 use Rattle.rule.specs.Plan.{has_vid}
@@ -8,6 +7,3 @@ use Rattle.earlier.proofs.repeats.is_vid_known.Given as goal
 
 abbrev pub invariant-loop-i : goal.invariant-loop-i
 invariant-loop-i l = SearchingRecords vid_of 1 l.from (words_of l.table) (has_vid l.vid) l.vids l.i
-
-abbrev pub decreases-loop-i : goal.decreases-loop-i
-decreases-loop-i l = l.vids - l.i

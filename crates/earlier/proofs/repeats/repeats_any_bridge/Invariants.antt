@@ -1,5 +1,4 @@
 -- What the loops of `earlier::repeats::repeats_any_bridge` keep true.
-use Prim.Native.Nat.{◌-◌}
 use Rattle.rule.specs.Words.{words_of}
 use Rattle.rule.specs.Records.{bridge_of}
 use Rattle.rule.specs.Check.{repeats_bridge}
@@ -9,6 +8,3 @@ use Rattle.earlier.proofs.repeats.repeats_any_bridge.Given as goal
 
 abbrev pub invariant-loop-i : goal.invariant-loop-i
 invariant-loop-i l = SearchingRecords bridge_of 3 0 (words_of l.table) (repeats_bridge (bridge_values l.b)) l.bridges l.i
-
-abbrev pub decreases-loop-i : goal.decreases-loop-i
-decreases-loop-i l = l.bridges - l.i

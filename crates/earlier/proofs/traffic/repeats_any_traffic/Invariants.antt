@@ -1,5 +1,4 @@
 -- What the loops of `earlier::traffic::repeats_any_traffic` keep true.
-use Prim.Native.Nat.{◌-◌}
 use Rattle.rule.specs.Words.{words_of}
 use Rattle.rule.specs.Records.{traffic_of}
 use Rattle.rule.specs.Check.{repeats_traffic}
@@ -9,6 +8,3 @@ use Rattle.earlier.proofs.traffic.repeats_any_traffic.Given as goal
 
 abbrev pub invariant-loop-i : goal.invariant-loop-i
 invariant-loop-i l = SearchingRecords traffic_of 2 l.from (words_of l.table) (repeats_traffic (traffic_values l.t)) l.count l.i
-
-abbrev pub decreases-loop-i : goal.decreases-loop-i
-decreases-loop-i l = l.count - l.i

@@ -5,6 +5,3 @@ use Rattle.egress.proofs.leaving.fill_row.Given as goal
 
 abbrev pub invariant-loop-k : goal.invariant-loop-k
 invariant-loop-k l = Passing l.labels l.hops l.b l.n l.row l.k
-
-abbrev pub decreases-loop-k : goal.decreases-loop-k
-decreases-loop-k l = l.n - l.k

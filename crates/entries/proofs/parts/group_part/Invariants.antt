@@ -8,6 +8,3 @@ use Rattle.entries.proofs.parts.group_part.Given as goal
 
 abbrev pub invariant-loop-j : goal.invariant-loop-j
 invariant-loop-j l = Appending (member_part (words_of l.table) l.s l.egress_rows l.ports (vid_values l.v)) l.s.members l.initial.words l.at l.j l.words l.end
-
-abbrev pub decreases-loop-j : goal.decreases-loop-j
-decreases-loop-j l = l.s.members - l.j

@@ -7,6 +7,3 @@ use Rattle.entries.proofs.parts.whole_list.Given as goal
 
 abbrev pub invariant-loop-k : goal.invariant-loop-k
 invariant-loop-k l = Appending (vid_part (words_of l.table) l.s l.egress_rows l.ports l.b) l.s.vids l.initial.words 0 l.k l.words l.end
-
-abbrev pub decreases-loop-k : goal.decreases-loop-k
-decreases-loop-k l = l.s.vids - l.k

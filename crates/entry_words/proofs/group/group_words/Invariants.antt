@@ -7,9 +7,6 @@ use Rattle.entry_words.proofs.group.group_words.Given as goal
 abbrev pub invariant-loop-j : goal.invariant-loop-j
 invariant-loop-j l = Seeking l.behind l.port l.initial.words l.initial.end l.j l.words l.end
 
-abbrev pub decreases-loop-j : goal.decreases-loop-j
-decreases-loop-j l = length l.behind - l.j
-
 abbrev pub invariant-ports : goal.invariant-ports
 invariant-ports l = Listing l.ports l.behind l.vid l.address l.initial.words l.at l.i l.words l.end
 

@@ -8,6 +8,3 @@ use Rattle.entry_words.proofs.group.ports_behind.Given as goal
 
 abbrev pub invariant-loop-j : goal.invariant-loop-j
 invariant-loop-j l = Appending (behind_at (words_of l.table) l.s l.egress_row (member_values l.m)) l.s.members l.initial.behind 0 l.j l.behind l.at
-
-abbrev pub decreases-loop-j : goal.decreases-loop-j
-decreases-loop-j l = l.s.members - l.j

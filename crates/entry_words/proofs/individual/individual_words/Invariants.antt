@@ -7,6 +7,3 @@ use Rattle.entry_words.proofs.individual.individual_words.Given as goal
 
 abbrev pub invariant-loop-d : goal.invariant-loop-d
 invariant-loop-d l = Appending (individual_to (words_of l.table) l.egress_row l.vid) l.s.bridges l.initial.words l.at l.d l.words l.end
-
-abbrev pub decreases-loop-d : goal.decreases-loop-d
-decreases-loop-d l = l.s.bridges - l.d

@@ -6,6 +6,3 @@ use Rattle.figures.proofs.paths.write_words.Given as goal
 
 abbrev pub invariant-loop-n : goal.invariant-loop-n
 invariant-loop-n l = (l.n ≤ length l.words) × (length l.table ≡ length l.initial.table)
-
-abbrev pub decreases-loop-n : goal.decreases-loop-n
-decreases-loop-n l = length l.words - l.n

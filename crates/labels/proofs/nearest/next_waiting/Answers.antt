@@ -19,7 +19,7 @@ pub loop-bounds-smaller : goal.loop-bounds-smaller
 loop-bounds-smaller c =
     let (bounds_of, least-place-bounds, least-place-labels) = c.loop-bounds.invariant in
     room_falls bounds_of least-place-bounds least-place-labels c.loop-bounds-test.true
-    (omega (arith, c.shared_slice_known-in-loop-bounds-2-1.given c.loop-bounds.u))
+    (omega arith)
 
 pub loop-bounds-preserved : goal.loop-bounds-preserved
 loop-bounds-preserved c =

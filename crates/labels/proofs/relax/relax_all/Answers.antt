@@ -1,5 +1,4 @@
 -- `labels::relax::relax_all` offers the way to one neighbour after the other. Assumes nothing.
-use Prim.Native.Nat.{◌+◌}
 use native.Mathlib.Omega.{arith}
 use mathlib.Core.Path.{sym, ◌∙◌}
 use Rattle.labels.proofs.laws.RelaxingLaws.{offering_starts, offering_comparable, offering_goes_on, offering_ends}
@@ -35,9 +34,6 @@ relax-requires c =
           c.hops_at.ensures c.plus-cost.ensures c.plus-hops.ensures,
       bounds_of,
     )
-
-pub overflow_add-i : goal.overflow_add-i
-overflow_add-i c = omega (arith, c.loop-i-test.true, c.shared_slice_known-5-1.given (c.args.via + 1))
 
 pub loop-i-preserved : goal.loop-i-preserved
 loop-i-preserved c =

@@ -6,6 +6,3 @@ use Rattle.load_lines.proofs.pair_line.write_lines_of.Given as goal
 
 abbrev pub invariant-loop-v : goal.invariant-loop-v
 invariant-loop-v l = AppendingFew (pair_text l.hops l.loads l.u) 38 l.n l.initial.out l.at l.v l.out l.next
-
-abbrev pub decreases-loop-v : goal.decreases-loop-v
-decreases-loop-v l = l.n - l.v

@@ -5,6 +5,3 @@ use Rattle.load_lines.proofs.pair_lines.write_pair_lines.Given as goal
 
 abbrev pub invariant-loop-u : goal.invariant-loop-u
 invariant-loop-u l = PairLines l.network l.loads l.u l.initial.out l.out l.next
-
-abbrev pub decreases-loop-u : goal.decreases-loop-u
-decreases-loop-u l = l.n - l.u

@@ -9,6 +9,3 @@ use Rattle.loads.proofs.report.write_loads.Given as goal
 abbrev pub invariant-loop-i : goal.invariant-loop-i
 invariant-loop-i l = Adding l.network l.indexes l.traffic l.i l.loads l.total l.lost × TreesKept l.network l.store
     × (length l.path_ids ≡ length l.initial.path_ids) × (length l.store ≡ length l.initial.store) × (length l.loads ≡ length l.initial.loads) × (l.i ≤ l.count)
-
-abbrev pub decreases-loop-i : goal.decreases-loop-i
-decreases-loop-i l = l.count - l.i

@@ -8,6 +8,3 @@ use Rattle.loads.proofs.traffic.write_indexes.Given as goal
 
 abbrev pub invariant-loop-k : goal.invariant-loop-k
 invariant-loop-k l = IndexesSoFar (words_of l.table) l.s l.k l.indexes × (length l.indexes ≡ length l.initial.indexes)
-
-abbrev pub decreases-loop-k : goal.decreases-loop-k
-decreases-loop-k l = l.s.vids - l.k

@@ -9,6 +9,3 @@ use Rattle.loads.proofs.traffic.write_traffic.Given as goal
 
 abbrev pub invariant-loop-i : goal.invariant-loop-i
 invariant-loop-i l = WrittenSoFar (plan_at (words_of l.table) l.s) l.i l.words × (length l.words ≡ length l.initial.words)
-
-abbrev pub decreases-loop-i : goal.decreases-loop-i
-decreases-loop-i l = l.s.traffic - l.i

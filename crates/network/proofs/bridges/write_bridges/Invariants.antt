@@ -1,11 +1,7 @@
 -- What the loops of `network::bridges::write_bridges` keep true.
-use Prim.Native.Nat.{◌-◌}
 use Rattle.rule.specs.Words.{words_of}
 use Rattle.network.proofs.laws.BridgeLaws.{Writing}
 use Rattle.network.proofs.bridges.write_bridges.Given as goal
 
 abbrev pub invariant-loop-u : goal.invariant-loop-u
 invariant-loop-u l = Writing (words_of l.table) l.s l.initial.words l.words l.u
-
-abbrev pub decreases-loop-u : goal.decreases-loop-u
-decreases-loop-u l = l.s.bridges - l.u

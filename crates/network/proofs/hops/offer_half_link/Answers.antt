@@ -30,10 +30,10 @@ bounds-row-far-2 c =
 
 pub returns-then-known-lt-NO_HOP : goal.returns-then-known-lt-NO_HOP
 returns-then-known-lt-NO_HOP c =
-    taken_again _ c.hop_of-hop.ensures c.if-hop-ge-NO_HOP.false c.half_link-far.ensures c.lesser.ensures
+    taken_again _ c.hop_of-hop.ensures c.if-hop-ge-NO_HOP.false c.half_link-far.ensures c.min.ensures
     (omega (arith, c.if-known-lt-NO_HOP.true))
 
 pub returns : goal.returns
 returns c =
-    taken-first _ c.hop_of-hop.ensures c.if-hop-ge-NO_HOP.false c.half_link-far.ensures c.lesser.ensures
+    taken-first _ c.hop_of-hop.ensures c.if-hop-ge-NO_HOP.false c.half_link-far.ensures c.min.ensures
     (omega (arith, c.if-known-lt-NO_HOP.false))

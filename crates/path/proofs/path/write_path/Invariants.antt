@@ -5,6 +5,3 @@ use Rattle.path.proofs.path.write_path.Given as goal
 
 abbrev pub invariant-loop-i : goal.invariant-loop-i
 invariant-loop-i l = Following l.labels l.initial.list l.list l.from l.count l.i l.u
-
-abbrev pub decreases-loop-i : goal.decreases-loop-i
-decreases-loop-i l = l.count - l.i

@@ -8,9 +8,6 @@ use Rattle.probe_input.proofs.lent.set_untouched.Goals as goal
 pub loop-i-init : goal.loop-i-init
 loop-i-init c = setting_starts untouched_place _
 
-pub loop-i-smaller : goal.loop-i-smaller
-loop-i-smaller c = omega (arith, c.loop-i-test.true, setting_length untouched_place c.loop-i.invariant)
-
 pub loop-i-preserved : goal.loop-i-preserved
 loop-i-preserved c = setting_on untouched_place c.loop-i.invariant c.loop-i-test.true _ refl
 

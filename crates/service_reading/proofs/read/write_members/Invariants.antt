@@ -8,6 +8,3 @@ use Rattle.service_reading.proofs.read.write_members.Given as goal
 
 abbrev pub invariant-loop-n : goal.invariant-loop-n
 invariant-loop-n l = Appending (record_at l.bridge l.vid (words_of l.services)) (length (words_of l.services)) l.initial.words 0 l.n l.words l.at
-
-abbrev pub decreases-loop-n : goal.decreases-loop-n
-decreases-loop-n l = l.count - l.n

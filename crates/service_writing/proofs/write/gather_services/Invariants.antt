@@ -7,6 +7,3 @@ use Rattle.service_writing.proofs.write.gather_services.Given as goal
 
 abbrev pub invariant-loop-j : goal.invariant-loop-j
 invariant-loop-j l = Appending (service_at (words_of l.table) l.s l.bridge l.vid) l.s.members l.initial.services 0 l.j l.services l.at
-
-abbrev pub decreases-loop-j : goal.decreases-loop-j
-decreases-loop-j l = l.s.members - l.j

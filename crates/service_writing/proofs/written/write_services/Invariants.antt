@@ -7,6 +7,3 @@ use Rattle.service_writing.proofs.written.write_services.Given as goal
 
 abbrev pub invariant-loop-n : goal.invariant-loop-n
 invariant-loop-n l = Appending (bytes_at l.services) (length l.services) l.initial.bytes l.at l.n l.bytes l.end
-
-abbrev pub decreases-loop-n : goal.decreases-loop-n
-decreases-loop-n l = length l.services - l.n

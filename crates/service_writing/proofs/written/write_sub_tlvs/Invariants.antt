@@ -6,6 +6,3 @@ use Rattle.service_writing.proofs.written.write_sub_tlvs.Given as goal
 
 abbrev pub invariant-loop-i : goal.invariant-loop-i
 invariant-loop-i l = Appending (sub_tlv_at l.b_mac l.vid l.services) (sub_tlv_count l.services) l.initial.bytes 0 l.i l.bytes l.at
-
-abbrev pub decreases-loop-i : goal.decreases-loop-i
-decreases-loop-i l = l.count - l.i

@@ -1,4 +1,5 @@
 -- `text::digits::decimal_places` counts the places: what is left of the number has the others. Assumes nothing.
+use native.Mathlib.Omega.{arith}
 use Rattle.text.proofs.laws.DigitLaws.{counting_starts, counting_goes_on, counting_finds, counting_ends}
 use Rattle.text.proofs.digits.decimal_places.Goals as goal
 
@@ -13,4 +14,5 @@ loop-count-preserved c = counting_goes_on c.loop-count.invariant c.loop-count-te
 
 pub returns : goal.returns
 returns c =
-    (counting_ends c.loop-count.invariant c.loop-count-test.false, c.loop-count.invariant.most)
+    let counted = counting_ends c.loop-count.invariant c.loop-count-test.false in
+    (omega (arith, counted, c.loop-count.invariant.most, c.loop-count-test.false), omega arith)

@@ -4,6 +4,3 @@ use Rattle.text.proofs.digits.write_last_digits.Given as goal
 
 abbrev pub invariant-loop-left : goal.invariant-loop-left
 invariant-loop-left l = Spelling 10 l.n l.count l.initial.out l.at l.out l.rest l.left
-
-abbrev pub decreases-loop-left : goal.decreases-loop-left
-decreases-loop-left l = l.left

@@ -4,8 +4,5 @@ use lib.ListN.{length}
 use Rattle.text.proofs.laws.TextLaws.{Fielding}
 use Rattle.text.proofs.fields.write_fields.Given as goal
 
-abbrev pub invariant-loop-i : goal.invariant-loop-i
-invariant-loop-i l = Fielding l.numbers l.initial.out l.at l.out l.next l.i
-
-abbrev pub decreases-loop-i : goal.decreases-loop-i
-decreases-loop-i l = length l.numbers - l.i
+abbrev pub invariant-loop-n : goal.invariant-loop-n
+invariant-loop-n l = Fielding l.numbers l.initial.out l.at l.out l.next l.n-index

@@ -1,10 +1,6 @@
 -- What the loops of `tree::settle::clear` keep true.
-use Prim.Native.Nat.{◌-◌}
 use Rattle.tree.proofs.laws.SettlingLaws.{Clearing}
 use Rattle.tree.proofs.settle.clear.Given as goal
 
 abbrev pub invariant-loop-u : goal.invariant-loop-u
 invariant-loop-u l = Clearing l.initial.labels l.labels l.u
-
-abbrev pub decreases-loop-u : goal.decreases-loop-u
-decreases-loop-u l = 64 - l.u
