@@ -87,7 +87,7 @@ pub fn group_words(
     let mut end = at;
     'ports: for port in ports {
         for receiver_port in behind {
-            if receiver_port == port {
+            if *receiver_port == *port {
                 end = write_entry(words, end, GROUP, vid, u32::from(*port), address);
                 continue 'ports;
             }

@@ -21,7 +21,7 @@ fn add_along(labels: &[u32], from: usize, hops: usize, amount: u32, loads: &mut 
     ensures { PathAdded loads.old (followed labels.now from (hops + 1)) amount loads.new }
 {
     let mut u = from;
-    for k in 0..hops {
+    for _passed in 0..hops {
         let v = next_at(labels, u);
         add_hop(loads, u, v, amount);
         u = v;

@@ -24,7 +24,9 @@ pub fn clear_loads(loads: &mut [u32])
     requires { 4096 ≤ length loads.old }
     ensures { NoLoads loads.new 4096 }
 {
-    loads[..LOADS].fill(0);
+    for i in 0..LOADS {
+        loads[i] = 0;
+    }
 }
 
 // The pair of a hop gets an amount more.

@@ -1,5 +1,4 @@
 -- What the loops of `branches::branches::write_branches` keep true.
-use Prim.Native.Nat.{◌-◌}
 use Rattle.branches.specs.Branches.{branch_at}
 use Rattle.branches.proofs.laws.BranchLaws.{Filling}
 use Rattle.branches.proofs.branches.write_branches.Given as goal

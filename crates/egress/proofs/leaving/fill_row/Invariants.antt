@@ -1,5 +1,4 @@
 -- What the loops of `egress::leaving::fill_row` keep true.
-use Prim.Native.Nat.{◌-◌}
 use Rattle.egress.proofs.laws.PassLaws.{Passing}
 use Rattle.egress.proofs.leaving.fill_row.Given as goal
 

@@ -11,31 +11,30 @@ ports-init c =
     let (room, _) = c.requires in
     listing-starts _ _ _ _ _ _ room
 
-pub loop-j-init : goal.loop-j-init
-loop-j-init c = seeking_starts _ _ _ _
+pub loop-receiver_port-init : goal.loop-receiver_port-init
+loop-receiver_port-init c = seeking_starts _ _ _ _
 
 pub ports-preserved : goal.ports-preserved
 ports-preserved c =
-    none-listed c.loop-j.invariant c.ports.invariant c.ports-test.true refl c.loop-j-test.false
+    none-listed c.loop-receiver_port.invariant c.ports.invariant c.ports-test.true refl c.loop-receiver_port-test.false
 
 pub write_entry-end-requires : goal.write_entry-end-requires
 write_entry-end-requires c =
     let (_, vid-bound) = c.requires in (
-      found-room c.loop-j.invariant c.ports.invariant c.ports-test.true refl c.loop-j-test.true
-          c.if-behind-j.true,
+      found-room c.loop-receiver_port.invariant c.ports.invariant c.ports-test.true refl c.loop-receiver_port-test.true
+          c.if-receiver_port-port.true,
       omega arith,
       vid-bound,
-      omega (arith, c.wide.ensures),
+      omega (arith, c.from.ensures),
     )
 
-pub ports-preserved-then-behind-j : goal.ports-preserved-then-behind-j
-ports-preserved-then-behind-j c =
-    let (wide_is, _) = c.wide.ensures in
-    found-listed c.loop-j.invariant c.ports.invariant c.ports-test.true refl c.loop-j-test.true
-    c.if-behind-j.true wide_is c.write_entry-end.ensures
+pub ports-preserved-then-receiver_port-port : goal.ports-preserved-then-receiver_port-port
+ports-preserved-then-receiver_port-port c =
+    found-listed c.loop-receiver_port.invariant c.ports.invariant c.ports-test.true refl c.loop-receiver_port-test.true
+    c.if-receiver_port-port.true c.from.ensures c.write_entry-end.ensures
 
-pub loop-j-preserved : goal.loop-j-preserved
-loop-j-preserved c = seeking_goes_on c.loop-j.invariant c.loop-j-test.true c.if-behind-j.false
+pub loop-receiver_port-preserved : goal.loop-receiver_port-preserved
+loop-receiver_port-preserved c = seeking_goes_on c.loop-receiver_port.invariant c.loop-receiver_port-test.true c.if-receiver_port-port.false
 
 pub shape_of-words : goal.shape_of-words
 shape_of-words c = appending_length c.ports.invariant.so_far

@@ -1,5 +1,4 @@
 -- What the loops of `entry_words::group::ports_behind` keep true.
-use Prim.Native.Nat.{◌-◌}
 use Rattle.rule.specs.Words.{words_of}
 use Rattle.readers.specs.Readers.{member_values}
 use Rattle.entry_words.specs.Words.{behind_at}

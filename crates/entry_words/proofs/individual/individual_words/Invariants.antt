@@ -1,5 +1,4 @@
 -- What the loops of `entry_words::individual::individual_words` keep true.
-use Prim.Native.Nat.{◌-◌}
 use Rattle.rule.specs.Words.{words_of}
 use Rattle.entry_words.specs.Words.{individual_to}
 use Rattle.lists.proofs.laws.AppendingLaws.{Appending}

@@ -7,24 +7,21 @@ use Rattle.entry_words.proofs.individual.write_individual.Goals as goal
 
 pub returns-then-port-eq0 : goal.returns-then-port-eq0
 returns-then-port-eq0 c =
-    let (wide_is, _) = c.wide-port.ensures in
-    no_individual _ _ _ _ _ wide_is c.if-port-eq0.true _ _
+    no_individual _ _ _ _ _ c.from-port.ensures c.if-port-eq0.true _ _
 
 pub write_entry-requires : goal.write_entry-requires
 write_entry-requires c =
-    let (wide_is, wide-bound) = c.wide-port.ensures in
     let (_, _, _, vid-bound) = c.requires.checked in
     let room = c.requires.room in (
       individual-room (words_of c.args.table.now) c.args.egress_row.now c.args.vid c.args.d
-          c.wide-port.result wide_is c.if-port-eq0.false (bridge_values c.bridge-address.result) c.bridge-address.ensures
+          c.from-port.result c.from-port.ensures c.if-port-eq0.false (bridge_values c.bridge-address.result) c.bridge-address.ensures
           c.args.words.now c.args.at room,
       omega arith,
       vid-bound,
-      wide-bound,
+      omega (arith, c.from-port.ensures),
     )
 
 pub returns : goal.returns
 returns c =
-    let (wide_is, _) = c.wide-port.ensures in
-    individual-written _ _ _ _ _ wide_is c.if-port-eq0.false (bridge_values c.bridge-address.result) c.bridge-address.ensures
+    individual-written _ _ _ _ _ c.from-port.ensures c.if-port-eq0.false (bridge_values c.bridge-address.result) c.bridge-address.ensures
     c.write_entry.ensures

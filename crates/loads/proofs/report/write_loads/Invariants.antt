@@ -1,6 +1,6 @@
 -- What the loops of `loads::report::write_loads` keep true.
 use mathlib.Core.Path.{◌≡◌}
-use Prim.Native.Nat.{◌-◌, ◌≤◌}
+use Prim.Native.Nat.{◌≤◌}
 use lib.ListN.{length}
 use Rattle.trees.specs.Store.{TreesKept}
 use Rattle.loads.proofs.laws.ReportLaws.{Adding}

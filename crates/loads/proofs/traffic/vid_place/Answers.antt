@@ -1,4 +1,5 @@
 -- `loads::traffic::vid_place` seeks the record of a VID. Assumes nothing.
+use native.Mathlib.Omega.{arith}
 use Rattle.rule.specs.Words.{words_of}
 use Rattle.loads.proofs.laws.TrafficLaws.{place-starts, place-on, place_found, place_missing}
 use Rattle.loads.proofs.traffic.vid_place.Goals as goal
@@ -18,4 +19,5 @@ loop-k-preserved c =
 
 pub returns : goal.returns
 returns c =
-    place_missing (words_of c.args.table.now) c.args.s c.args.number c.loop-k.invariant c.loop-k-test.false
+    let missing = place_missing (words_of c.args.table.now) c.args.s c.args.number c.loop-k.invariant c.loop-k-test.false in
+    omega (arith, missing, c.loop-k.auto.k-end, c.loop-k-test.false)

@@ -1,11 +1,7 @@
 -- What the loops of `loads::traffic::vid_place` keep true.
-use Prim.Native.Nat.{◌-◌}
 use Rattle.rule.specs.Words.{words_of}
 use Rattle.loads.proofs.laws.TrafficLaws.{SeekingPlace}
 use Rattle.loads.proofs.traffic.vid_place.Given as goal
 
 abbrev pub invariant-loop-k : goal.invariant-loop-k
 invariant-loop-k l = SeekingPlace (words_of l.table) l.s l.number l.k
-
-abbrev pub decreases-loop-k : goal.decreases-loop-k
-decreases-loop-k l = l.s.vids - l.k

@@ -1,6 +1,5 @@
 -- What the loops of `loads::traffic::write_indexes` keep true.
 use mathlib.Core.Path.{◌≡◌}
-use Prim.Native.Nat.{◌-◌}
 use lib.ListN.{length}
 use Rattle.rule.specs.Words.{words_of}
 use Rattle.loads.proofs.laws.TrafficLaws.{IndexesSoFar}

@@ -1,5 +1,4 @@
 -- What the loops of `path::path::write_path` keep true.
-use Prim.Native.Nat.{◌-◌}
 use Rattle.path.proofs.laws.FollowedLaws.{Following}
 use Rattle.path.proofs.path.write_path.Given as goal
 

@@ -4,5 +4,5 @@ use lib.ListN.{length}
 use Rattle.text.proofs.laws.TextLaws.{Fielding}
 use Rattle.probe_input.proofs.bytes.write_byte_fields.Given as goal
 
-abbrev pub invariant-loop-i : goal.invariant-loop-i
-invariant-loop-i l = Fielding l.bytes l.initial.out l.at l.out l.next l.i
+abbrev pub invariant-loop-b : goal.invariant-loop-b
+invariant-loop-b l = Fielding l.bytes l.initial.out l.at l.out l.next l.b-index
