@@ -6,6 +6,7 @@ ghost use Rattle.text.specs.Text.{field_text, fields, WrittenAt};
 ghost use Rattle.probe_services.specs.ServiceText.{read_word, written_word, answer_text, line_text};
 
 use check_text::check::write_refusal;
+use probe_input::bytes::write_byte_fields;
 use rule::answer::{ReadServicesAnswer, WriteServicesAnswer};
 use services::advertisements::{read_services, write_services};
 use text::fields::{write_byte, write_field, write_fields, write_word};
@@ -43,18 +44,6 @@ fn write_written_answer(answer: WriteServicesAnswer, out: &mut [u8], at: usize) 
             number, kind, word, out, at,
         ),
     }
-}
-
-// A field for each byte.
-fn write_byte_fields(bytes: &[u8], out: &mut [u8], at: usize) -> usize
-    requires { at + 11 * length bytes.now ≤ length out.old }
-    ensures { WrittenAt at out.old out.new (fields bytes.now) result × (result ≤ at + 11 * length bytes.now) }
-{
-    let mut next = at;
-    for b in bytes {
-        next = write_field(u32::from(*b), out, next);
-    }
-    next
 }
 
 // The line of a reading at the front of the lent bytes, and its length.

@@ -6,22 +6,11 @@ ghost use Rattle.rule.specs.Words.{bytes_of};
 ghost use Rattle.rule.specs.Services.{sub_tlv, sub_tlvs};
 ghost use Rattle.service_writing.specs.Heads.{start_of, head_of};
 
+use readers::words::write_word;
 use service_reading::layout::{BEFORE_SERVICES, HALF, SERVICE, TYPE};
 
 // "each but the last with 60 services".
 const SERVICES_EACH: usize = 60;
-
-// The four bytes of a word, "high byte first".
-fn write_word(bytes: &mut [u8], at: usize, word: u32) -> usize
-    requires { at + 4 ≤ length bytes.old }
-    ensures { Appended bytes.old at (bytes_of word) bytes.new result }
-{
-    bytes[at] = (word / 16777216) as u8;
-    bytes[at + 1] = (word / 65536 % 256) as u8;
-    bytes[at + 2] = (word / 256 % 256) as u8;
-    bytes[at + 3] = (word % 256) as u8;
-    at + 4
-}
 
 // Type and length.
 fn write_start(bytes: &mut [u8], at: usize, services: usize) -> usize

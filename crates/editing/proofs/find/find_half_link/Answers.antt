@@ -1,4 +1,5 @@
 -- `editing::find::find_half_link` finds the first half-link with a name. Assumes nothing.
+use native.Mathlib.Omega.{arith}
 use mathlib.Core.Path.{sym, ◌∙◌}
 use Rattle.rule.specs.Words.{words_of}
 use Rattle.lists.proofs.laws.FirstPassing.{first-starts, first_on}
@@ -19,5 +20,5 @@ loop-i-preserved c =
 
 pub returns : goal.returns
 returns c =
-    none_named (words_of c.args.table.now) c.args.s c.args.name c.loop-i.i c.loop-i.invariant
-    c.loop-i-test.false
+    let none = none_named (words_of c.args.table.now) c.args.s c.args.name c.loop-i.i c.loop-i.invariant c.loop-i-test.false in
+    omega (arith, none, c.loop-i.auto.i-end, c.loop-i-test.false)

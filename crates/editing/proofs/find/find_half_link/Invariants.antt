@@ -1,5 +1,4 @@
 -- What the loops of `editing::find::find_half_link` keep true.
-use Prim.Native.Nat.{◌-◌}
 use Rattle.rule.specs.Words.{words_of}
 use Rattle.lists.proofs.laws.FirstPassing.{SeekingFirst}
 use Rattle.editing.proofs.laws.FindLaws.{named_at}
@@ -7,6 +6,3 @@ use Rattle.editing.proofs.find.find_half_link.Given as goal
 
 abbrev pub invariant-loop-i : goal.invariant-loop-i
 invariant-loop-i l = SeekingFirst (named_at (words_of l.table) l.s l.name) l.s.half_links l.i
-
-abbrev pub decreases-loop-i : goal.decreases-loop-i
-decreases-loop-i l = l.s.half_links - l.i

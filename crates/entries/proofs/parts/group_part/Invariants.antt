@@ -1,5 +1,4 @@
 -- What the loops of `entries::parts::group_part` keep true.
-use Prim.Native.Nat.{◌-◌}
 use Rattle.rule.specs.Words.{words_of}
 use Rattle.readers.specs.Readers.{vid_values}
 use Rattle.lists.proofs.laws.AppendingLaws.{Appending}

@@ -1,5 +1,4 @@
 -- What the loops of `entries::parts::whole_list` keep true.
-use Prim.Native.Nat.{◌-◌}
 use Rattle.rule.specs.Words.{words_of}
 use Rattle.lists.proofs.laws.AppendingLaws.{Appending}
 use Rattle.entries.specs.Parts.{vid_part}

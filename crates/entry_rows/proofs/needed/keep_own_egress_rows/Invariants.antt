@@ -1,6 +1,5 @@
 -- What the loops of `entry_rows::needed::keep_own_egress_rows` keep true.
 use mathlib.Core.Path.{◌≡◌}
-use Prim.Native.Nat.{◌-◌}
 use lib.ListN.{length}
 use Rattle.trees.specs.Store.{TreesKept}
 use Rattle.entry_rows.proofs.laws.NeededLaws.{KeepingOwn}

@@ -1,4 +1,5 @@
 -- `service_reading::advertiser::bridge_with` looks at the addresses of the bridges. Assumes nothing.
+use native.Mathlib.Omega.{arith}
 use Rattle.rule.specs.Words.{words_of}
 use Rattle.service_reading.proofs.laws.NamedLaws.{bridge-starts, bridge-on, bridge-found, bridge_missing}
 use Rattle.service_reading.proofs.advertiser.bridge_with.Goals as goal
@@ -21,4 +22,5 @@ loop-d-preserved c =
 
 pub returns : goal.returns
 returns c =
-    bridge_missing (words_of c.args.table.now) c.args.s c.args.address c.loop-d.invariant c.loop-d-test.false
+    let missing = bridge_missing (words_of c.args.table.now) c.args.s c.args.address c.loop-d.invariant c.loop-d-test.false in
+    omega (arith, missing, c.loop-d.auto.d-end, c.loop-d-test.false)

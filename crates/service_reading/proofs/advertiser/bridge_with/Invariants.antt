@@ -1,11 +1,7 @@
 -- What the loops of `service_reading::advertiser::bridge_with` keep true.
-use Prim.Native.Nat.{◌-◌}
 use Rattle.rule.specs.Words.{words_of}
 use Rattle.service_reading.proofs.laws.NamedLaws.{SeekingBridge}
 use Rattle.service_reading.proofs.advertiser.bridge_with.Given as goal
 
 abbrev pub invariant-loop-d : goal.invariant-loop-d
 invariant-loop-d l = SeekingBridge (words_of l.table) l.s l.address l.d
-
-abbrev pub decreases-loop-d : goal.decreases-loop-d
-decreases-loop-d l = l.s.bridges - l.d

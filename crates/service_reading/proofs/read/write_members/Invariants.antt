@@ -1,5 +1,4 @@
 -- What the loops of `service_reading::read::write_members` keep true.
-use Prim.Native.Nat.{◌-◌}
 use Rattle.lists.proofs.laws.AppendingLaws.{Appending}
 use Rattle.rule.specs.Words.{words_of}
 use Rattle.service_reading.proofs.laws.ReadingLaws.{record_at}

@@ -13,14 +13,14 @@ returns-then-bytes-ne-TYPE c =
 
 pub returns-then-length-bytes : goal.returns-then-length-bytes
 returns-then-length-bytes c =
-    let (wide_is, _) = c.wide-length.ensures in (
+    let wide_is = c.from-length.ensures in (
       other_length c.args.bytes.now c.if-bytes.false c.if-bytes-ne-TYPE.false (λ e. c.if-length-bytes.true (wide_is ∙ e)),
       λ e. absurd (true-not-false e),
     )
 
 pub returns : goal.returns
 returns c =
-    let (wide_is, wide-bound) = c.wide-length.ensures in (
+    let wide_is = c.from-length.ensures in (
       by_multiple c.args.bytes.now c.if-bytes.false c.if-bytes-ne-TYPE.false _ wide_is (sym wide_is ∙ c.if-length-bytes.false),
-      λ e. omega (arith, c.if-length-bytes.false, wide-bound),
+      λ e. omega (arith, c.if-length-bytes.false, wide_is),
     )

@@ -1,5 +1,4 @@
 -- What the loops of `service_writing::write::gather_services` keep true.
-use Prim.Native.Nat.{◌-◌}
 use Rattle.lists.proofs.laws.AppendingLaws.{Appending}
 use Rattle.rule.specs.Words.{words_of}
 use Rattle.service_writing.specs.Gathered.{service_at}

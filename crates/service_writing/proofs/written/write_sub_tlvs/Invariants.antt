@@ -1,5 +1,4 @@
 -- What the loops of `service_writing::written::write_sub_tlvs` keep true.
-use Prim.Native.Nat.{◌-◌}
 use Rattle.lists.proofs.laws.AppendingLaws.{Appending}
 use Rattle.rule.specs.Services.{sub_tlv_at, sub_tlv_count}
 use Rattle.service_writing.proofs.written.write_sub_tlvs.Given as goal

@@ -1,8 +1,0 @@
--- What the loops of `probe_services::line::write_byte_fields` keep true.
-use Prim.Native.Nat.{◌-◌}
-use lib.ListN.{length}
-use Rattle.text.proofs.laws.TextLaws.{Fielding}
-use Rattle.probe_services.proofs.line.write_byte_fields.Given as goal
-
-abbrev pub invariant-loop-b : goal.invariant-loop-b
-invariant-loop-b l = Fielding l.bytes l.initial.out l.at l.out l.next l.b-index
