@@ -1,5 +1,4 @@
 -- What the loops of `load_lines::pair_line::write_lines_of` keep true.
-use Prim.Native.Nat.{◌-◌}
 use Rattle.lists.proofs.laws.AppendingLaws.{AppendingFew}
 use Rattle.load_lines.specs.PairTexts.{pair_text}
 use Rattle.load_lines.proofs.pair_line.write_lines_of.Given as goal

@@ -1,5 +1,4 @@
 -- What the loops of `load_lines::pair_lines::write_pair_lines` keep true.
-use Prim.Native.Nat.{◌-◌}
 use Rattle.load_lines.proofs.laws.PairTextLaws.{PairLines}
 use Rattle.load_lines.proofs.pair_lines.write_pair_lines.Given as goal
 

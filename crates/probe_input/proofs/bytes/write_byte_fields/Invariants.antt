@@ -1,6 +1,4 @@
 -- What the loops of `probe_input::bytes::write_byte_fields` keep true.
-use Prim.Native.Nat.{◌-◌}
-use lib.ListN.{length}
 use Rattle.text.proofs.laws.TextLaws.{Fielding}
 use Rattle.probe_input.proofs.bytes.write_byte_fields.Given as goal
 

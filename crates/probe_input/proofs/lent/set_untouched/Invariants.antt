@@ -1,6 +1,4 @@
 -- What the loops of `probe_input::lent::set_untouched` keep true.
-use Prim.Native.Nat.{◌-◌}
-use lib.ListN.{length}
 use Rattle.probe_input.specs.Lent.{untouched_place}
 use Rattle.probe_input.proofs.laws.LentLaws.{Setting}
 use Rattle.probe_input.proofs.lent.set_untouched.Given as goal

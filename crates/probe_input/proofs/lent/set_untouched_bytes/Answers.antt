@@ -9,10 +9,10 @@ pub loop-i-init : goal.loop-i-init
 loop-i-init c = setting_starts untouched_byte _
 
 pub loop-i-preserved : goal.loop-i-preserved
-loop-i-preserved c = setting_on untouched_byte c.loop-i.invariant c.loop-i-test.true _ refl
+loop-i-preserved c = setting_on untouched_byte c.loop-i.invariant (omega (arith, c.loop-i.auto.list, c.loop-i-test.true)) _ refl
 
 pub shape_of-list : goal.shape_of-list
 shape_of-list c = setting_length untouched_byte c.loop-i.invariant
 
 pub returns : goal.returns
-returns c = all_set untouched_byte c.loop-i.invariant c.loop-i-test.false
+returns c = all_set untouched_byte c.loop-i.invariant (omega (arith, c.loop-i.auto.list, c.loop-i-test.false))

@@ -1,6 +1,4 @@
 -- What the loops of `probe_input::lent::set_untouched_bytes` keep true.
-use Prim.Native.Nat.{◌-◌}
-use lib.ListN.{length}
 use Rattle.probe_input.specs.Lent.{untouched_byte}
 use Rattle.probe_input.proofs.laws.LentLaws.{Setting}
 use Rattle.probe_input.proofs.lent.set_untouched_bytes.Given as goal
