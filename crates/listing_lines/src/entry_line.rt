@@ -35,10 +35,16 @@ pub fn write_entry_lines(words: &[u32], bridge: u32, out: &mut [u8], at: usize) 
     ensures { WrittenAt at out.old out.new (flat_map (entry_line bridge) (entries_in words.now)) result × (result ≤ at + 52 * (length words.now / 3)) }
 {
     let mut next = at;
-    let mut i = 0;
-    while 3 <= words.len() - i {
-        next = write_entry_line(words[i], words[i + 1], words[i + 2], bridge, out, next);
-        i += 3;
+    for i in 0..words.len() / 3 {
+        let place = 3 * i;
+        next = write_entry_line(
+            words[place],
+            words[place + 1],
+            words[place + 2],
+            bridge,
+            out,
+            next,
+        );
     }
     next
 }

@@ -13,33 +13,30 @@ use rule::answer::{LookupAnswer, RecordKind};
 fn is_faulty_list(list: &[u32]) -> bool
     ensures { result ≡ faulty_list list.now }
 {
-    let mut at = 0;
-    while 3 <= list.len() - at {
+    for i in 0..list.len() / 3 {
+        let at = 3 * i;
         if is_faulty(list[at], list[at + 1], list[at + 2]) {
             return true;
         }
-        at += 3;
     }
-    at < list.len()
+    list.len() % 3 != 0
 }
 
 // "port of the matching entry n, counted from 0 in list order, or none".
 fn matching(list: &[u32], vid: u32, address: u64, n: u32) -> LookupAnswer
     ensures { lookup_values result ≡ answered (get_elem? (matching_ports list.now vid address) n) }
 {
-    let mut at = 0;
     let mut left = n;
-    while 3 <= list.len() - at {
+    for i in 0..list.len() / 3 {
+        let at = 3 * i;
         let first = list[at];
         if !is_match(first, list[at + 1], list[at + 2], vid, address) {
-            at += 3;
             continue;
         }
         if left == 0 {
             return LookupAnswer::Port(port_of(first));
         }
         left -= 1;
-        at += 3;
     }
     LookupAnswer::None
 }

@@ -1,6 +1,6 @@
 -- Laws of entry lines written one after the other, by the words of the entries. Assumes nothing.
 use Rattle.std.specs.Prelude.{ℕ, ◌+◌, ◌*◌, ◌-◌, ◌/◌, ◌≤◌, ◌<◌, ◌≡◌, refl, length, drop}
-use Rattle.std.proofs.Common.{arith, ◌∙◌}
+use Rattle.std.proofs.Common.{arith, subst, ◌∙◌}
 use Rattle.std.proofs.Math.Path.{sym, ap}
 use mathlib.Core.List.{List, [], ◌∷◌, ◌++◌, flat_map, append-nil, append_assoc}
 use Rattle.std.proofs.Math.ListN.{length-drop}
@@ -109,3 +109,7 @@ module _ {b : ℕ} {ws before : List ℕ} {at : ℕ} {out : List ℕ} {next i : 
           sym (append-nil L.so_far)
           ∙ ap (λ (es : List Entry). L.so_far ++ flat_map (entry_line b) es) (sym (no_entry-left (drop i ws) (omega (arith, length-drop i ws))))
           ∙ L.split
+
+module _ {b : ℕ} {ws before : List ℕ} {at : ℕ} {out : List ℕ} {next i j : ℕ} where
+  pub entry-listing_moved : i ≡ j → EntryListing b ws before at out next i → EntryListing b ws before at out next j
+  entry-listing_moved m L = subst (λ (k : ℕ). EntryListing b ws before at out next k) m L

@@ -1,7 +1,7 @@
 -- Entry lists from a word on: what is left, from there, has the faults and the matching entries that are still to come.
 -- Assumes nothing.
-use Rattle.std.specs.Prelude.{ℕ, zero, suc, ◌+◌, ◌-◌, ◌≤◌, ◌<◌, ◌≡◌, ◌⊎◌, Bool, true, false, ◌||◌, ◌&&◌, ltb, length, drop}
-use Rattle.std.proofs.Common.{arith, sym, ◌∙◌, inl, inr, length-drop, lt-ltb, le-ltb}
+use Rattle.std.specs.Prelude.{ℕ, zero, suc, ◌+◌, ◌-◌, ◌*◌, ◌/◌, ◌%◌, ◌≤◌, ◌<◌, ◌≡◌, ◌⊎◌, Bool, true, false, not, ◌||◌, ◌&&◌, ltb, length, drop}
+use Rattle.std.proofs.Common.{arith, sym, subst, eq-eqb, ne_eqb, ◌∙◌, inl, inr, length-drop, lt-ltb, le-ltb}
 use Rattle.std.proofs.Math.Path.{refl, ap}
 use mathlib.Core.List.{List, [], ◌∷◌, map}
 use Rattle.std.proofs.Math.Option.{none, some}
@@ -55,6 +55,19 @@ module _ {ws : List ℕ} {at : ℕ} (t : Testing ws at) where
       go : (length ws ≤ at) ⊎ (at < length ws) → ltb 0 (length (drop at ws)) ≡ ltb at (length ws)
       go (inl k) = le-ltb 0 (length (drop at ws)) (omega (arith, length-drop at ws)) ∙ sym (le-ltb _ _ k)
       go (inr k) = lt-ltb 0 (length (drop at ws)) (omega (arith, length-drop at ws)) ∙ sym (lt-ltb _ _ k)
+
+module _ {ws : List ℕ} {at next : ℕ} (t : Testing ws at) where
+  -- The same where the word after the entry has another name.
+  pub testing_on : 3 ≤ length ws - at → faulty_at ws at ≡ false → at + 3 ≡ next → Testing ws next
+  testing_on h e m = subst (λ (k : ℕ). Testing ws k) m (testing_goes_on t h e)
+
+-- All whole entries are passed: "a length that is no multiple of 3" is the fault that can be left.
+pub testing_over : {ws : List ℕ} {at : ℕ} → Testing ws at → at ≡ 3 * (length ws / 3) → faulty_list ws ≡ not (eqb (length ws % 3) 0)
+testing_over {ws} {at} t m = testing_ends t (omega (arith, m)) ∙ go (le_or_gt (length ws) at)
+  where
+    go : (length ws ≤ at) ⊎ (at < length ws) → ltb at (length ws) ≡ not (eqb (length ws % 3) 0)
+    go (inl k) = le-ltb at (length ws) k ∙ sym (ap not (eq-eqb (length ws % 3) 0 (omega (arith, k, m))))
+    go (inr k) = lt-ltb at (length ws) k ∙ sym (ap not (ne_eqb (length ws % 3) 0 (λ z. absurd (omega (arith, k, m, z)))))
 
 -- Matching entries
 
@@ -117,3 +130,7 @@ module _ {ws : List ℕ} {vid address n at left : ℕ} (k : Looking ws vid addre
   pub looking_ends : length ws - at < 3 → get_elem? (matching_ports ws vid address) n ≡ none
   looking_ends h =
       sym k.rest ∙ ap (λ (t : List ℕ). get_elem? t left) (ports-short vid address (drop at ws) (omega (arith, length-drop at ws)))
+
+module _ {ws : List ℕ} {vid address n at left next : ℕ} where
+  pub looking_moved : at ≡ next → Looking ws vid address n at left → Looking ws vid address n next left
+  looking_moved m k = subst (λ (w : ℕ). Looking ws vid address n w left) m k

@@ -1,5 +1,5 @@
 -- What the loops of `figures::entry_lists::write_star` keep true.
-use Prim.Native.Nat.{◌-◌, ◌≤◌}
+use Prim.Native.Nat.{◌≤◌}
 use mathlib.Core.Path.{◌≡◌}
 use lib.ListN.{length}
 use Rattle.figures.proofs.entry_lists.write_star.Given as goal

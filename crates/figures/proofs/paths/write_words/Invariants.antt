@@ -1,5 +1,5 @@
 -- What the loops of `figures::paths::write_words` keep true.
-use Prim.Native.Nat.{◌-◌, ◌≤◌}
+use Prim.Native.Nat.{◌≤◌}
 use mathlib.Core.Path.{◌≡◌}
 use lib.ListN.{length}
 use Rattle.figures.proofs.paths.write_words.Given as goal

@@ -1,5 +1,5 @@
 -- What the loops of `figures::plan::write_table` keep true.
-use Prim.Native.Nat.{◌-◌, ◌≤◌}
+use Prim.Native.Nat.{◌≤◌}
 use mathlib.Core.Path.{◌≡◌}
 use lib.ListN.{length}
 use Rattle.figures.proofs.plan.write_table.Given as goal

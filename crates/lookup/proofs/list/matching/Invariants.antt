@@ -1,11 +1,7 @@
 -- What the loops of `lookup::list::matching` keep true.
-use Prim.Native.Nat.{◌-◌}
-use lib.ListN.{length}
+use Prim.Native.Nat.{◌*◌}
 use Rattle.lookup.proofs.laws.EntryListLaws.{Looking}
 use Rattle.lookup.proofs.list.matching.Given as goal
 
-abbrev pub invariant-loop-at : goal.invariant-loop-at
-invariant-loop-at l = Looking l.list l.vid l.address l.n l.at l.left
-
-abbrev pub decreases-loop-at : goal.decreases-loop-at
-decreases-loop-at l = length l.list - l.at
+abbrev pub invariant-loop-i : goal.invariant-loop-i
+invariant-loop-i l = Looking l.list l.vid l.address l.n (3 * l.i) l.left

@@ -1,8 +1,0 @@
--- What the loops of `probe_calls::main` keep true.
-use Rattle.probe_calls.proofs.main.Given as goal
-
-abbrev pub invariant-loop-turns : goal.invariant-loop-turns
-invariant-loop-turns l = Unit {0}
-
-abbrev pub decreases-loop-turns : goal.decreases-loop-turns
-decreases-loop-turns l = l.turns
