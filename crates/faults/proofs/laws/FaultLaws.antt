@@ -19,19 +19,13 @@ use Rattle.table.specs.Positions.{words_read, last_kind, plan_at, reading_at}
 use Rattle.table.proofs.laws.PositionLaws.{how_many}
 use Rattle.readers.specs.Readers.{Read, cut, zero_bit, out_of_range, whole, read_of, read_by, half_link_values, member_values, traffic_values}
 use Rattle.faults.specs.Faults.{numbered, fault_at, within_limit, without_own_fault}
-use Rattle.faults.proofs.laws.FaultNotions.{lowest_of_read, or_left, left_by_tests, faults_left}
+use Rattle.faults.proofs.laws.FaultNotions.{lowest_of_read, or_left, left_by_tests, faults_left, lowest_left}
 
 -- By what the reader found: its answer stands for what it finds in the record's words.
 by_read :
     {A : Type 0} (standing : A → Record) (lower full : Bool) (read : Result A RecordFault) (left : Option ℕ) →
-    or_left (cond lower (Err Fault.Kind) (within_limit full read)) left ≡ lowest_of_read lower full (read_by standing read) left
-by_read standing true full read left = go read
-  where
-    go : (read : Result _ RecordFault) → some 2 ≡ lowest_of_read true full (read_by standing read) left
-    go (Ok a) = refl
-    go (Err RecordFault.Cut) = refl
-    go (Err RecordFault.ZeroBit) = refl
-    go (Err RecordFault.OutOfRange) = refl
+    or_left (cond lower (Err Fault.Kind) (within_limit full read)) left ≡ cond lower (some 2) (lowest_of_read full (read_by standing read) left)
+by_read standing true full read left = refl
 by_read standing false true (Ok a) left = refl
 by_read standing false false (Ok a) left = refl
 by_read standing false full (Err RecordFault.Cut) left = refl
@@ -42,14 +36,11 @@ by_read standing false false (Err RecordFault.OutOfRange) left = refl
 -- Over the tests alone: lower kind, cut, zero bits clear, limit reached, outside a range, wrong end count.
 by_tests :
     (lower is_cut clear full outside wrong : Bool) (rest : List Check·Fault) (e : Record) →
-    lowest_of_read lower full (cond is_cut cut (cond clear (cond outside out_of_range (whole e)) zero_bit))
-    (lowest_fault (fault 6 wrong ∷ rest))
+    cond lower (some 2)
+    (lowest_of_read full (cond is_cut cut (cond clear (cond outside out_of_range (whole e)) zero_bit)) (lowest_fault (fault 6 wrong ∷ rest)))
     ≡ lowest_fault (fault 2 lower ∷ fault 3 is_cut ∷ fault 4 (not clear) ∷ fault 5 full ∷ fault 6 (outside || wrong) ∷ rest)
 unfolding lowest_fault
-by_tests true true clear full outside wrong rest e = refl
-by_tests true false true full true wrong rest e = refl
-by_tests true false true full false wrong rest e = refl
-by_tests true false false full outside wrong rest e = refl
+by_tests true is_cut clear full outside wrong rest e = refl
 by_tests false true clear full outside wrong rest e = refl
 by_tests false false false full outside wrong rest e = refl
 by_tests false false true true true wrong rest e = refl
@@ -69,8 +60,8 @@ module _ (s : Reading) (l : Layout) (r : List ℕ) where
       by_read standing (ltb l.kind s.last) (leb l.limit (alike s.plan (l.decoded r))) read
       (lowest_fault (faults_left s (l.decoded r) (length r)))
       ∙ ap
-      (λ (found : Read). lowest_of_read (ltb l.kind s.last) (leb l.limit (alike s.plan (l.decoded r))) found
-      (lowest_fault (faults_left s (l.decoded r) (length r))))
+      (λ (found : Read). cond (ltb l.kind s.last) (some 2)
+      (lowest_of_read (leb l.limit (alike s.plan (l.decoded r))) found (lowest_fault (faults_left s (l.decoded r) (length r)))))
       e
       ∙ by_tests
       (ltb l.kind s.last)
@@ -138,9 +129,7 @@ left_over s e n b6 b7 b8 b9 b10 e6 e7 e8 e9 e10 = rw (e6, e7, e8, e9, e10) (by_c
 
 -- The record after those of the shape `s`, once it is read: `own` is what its reader found, or the fault that it shows by itself.
 pub record Judged {A : Type 0} (standing : A → Record) (l : Layout) (t : List ℕ) (s : Shape) (own : Result A Fault) : Type 0 where
-  pub shown : or_left own
-      (lowest_fault (faults_left (reading_at (words_of t) s) (l.decoded (drop (words_read s) (words_of t))) (length (drop (words_read s) (words_of t)))))
-      ≡ fault_at (words_of t) s l
+  pub shown : or_left own (lowest_left (words_of t) s l) ≡ fault_at (words_of t) s l
   pub decoded_is : (a : A) → own ≡ Ok a → l.decoded (drop (words_read s) (words_of t)) ≡ standing a
 
 -- As the code reads it, in the part from the byte `at` on: `last` is the kind of the record before it, and `count` the number of earlier
@@ -156,7 +145,7 @@ pub judged :
 judged standing l t s at read {last} {count} own a g f c o =
     record {
       shown =
-          ap (λ x. or_left x (lowest_fault (faults_left (reading_at (words_of t) s) (l.decoded r) (length r))))
+          ap (λ x. or_left x (lowest_left (words_of t) s l))
           (o ∙ (λ i. without_own_fault (f i) l.kind read (c i) l.limit))
           ∙ shown_or_left (reading_at (words_of t) s) l r standing read read_is;
       decoded_is =
@@ -175,17 +164,16 @@ judged standing l t s at read {last} {count} own a g f c o =
         (ap (λ (k : ℕ). words_of (take (length t - k) (drop k t))) a ∙ words-from (words_read s) t)
 
 module _ {A : Type 0} {standing : A → Record} {l : Layout} {t : List ℕ} {s : Shape} {own : Result A Fault} (J : Judged standing l t s own) where
+  shown_as : {found : Result A Fault} → own ≡ found → or_left found (lowest_left (words_of t) s l) ≡ fault_at (words_of t) s l
+  shown_as e = ap (λ x. or_left x (lowest_left (words_of t) s l)) (sym e) ∙ J.shown
+
   -- Its lowest fault is the one that it shows by itself.
   pub own-fault :
       (found : Fault) → own ≡ Err found →
       (result : Result Unit Fault) → IsErrAnd result (λ fault. fault ≡ found) → numbered result ≡ fault_at (words_of t) s l
   own-fault found e (Err fault) h =
       ap (λ (f : Fault). some (fault_number f)) h
-      ∙ ap
-      (λ x. or_left x
-      (lowest_fault (faults_left (reading_at (words_of t) s) (l.decoded (drop (words_read s) (words_of t))) (length (drop (words_read s) (words_of t))))))
-      (sym e)
-      ∙ J.shown
+      ∙ shown_as e
   own-fault found e (Ok _) h = absurd h
 
   -- A record that is whole and shows no fault by itself has the lowest of those left, by their tests.
@@ -204,11 +192,7 @@ module _ {A : Type 0} {standing : A → Record} {l : Layout} {t : List ℕ} {s :
       ∙ ap
       (λ (x : Record). lowest_fault (faults_left (reading_at (words_of t) s) x (length (drop (words_read s) (words_of t)))))
       (sym (J.decoded_is a e))
-      ∙ ap
-      (λ x. or_left x
-      (lowest_fault (faults_left (reading_at (words_of t) s) (l.decoded (drop (words_read s) (words_of t))) (length (drop (words_read s) (words_of t))))))
-      (sym e)
-      ∙ J.shown
+      ∙ shown_as e
 
 -- 7, by the number of bridges.
 pub unknown-ends :
