@@ -142,7 +142,9 @@ class Function:
         self.imports = imports
 
 
-FUNCTION = re.compile(r"^ *(pub )?(?:extern \"C\" )?fn (\w+)\((.*?)\n? *\{$", re.M | re.S)
+FUNCTION = re.compile(r"^ *(pub )?(?:extern \"C\" )?fn (\w+)(?:<[^>]*>)?\((.*?)\n? *\{$", re.M | re.S)
+# A conversion, whose contract is what `from_gives` says.
+CONVERSION = re.compile(r"^(impl From<\w+> for (\w+)) \{\n *ghost from_gives = \{ ?(.*?) ?\};$", re.M | re.S)
 
 
 def functions_of(path):
@@ -163,6 +165,8 @@ def functions_of(path):
         function = Function(path, match.group(2), signature, contract, imports)
         function.public = bool(match.group(1))
         found[match.group(2)] = function
+    for signature, given, contract in CONVERSION.findall(text):
+        found[f"{given}::from"] = Function(path, f"{given}::from", signature, contract, imports)
     return found
 
 

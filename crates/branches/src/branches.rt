@@ -1,7 +1,7 @@
 // The places of all bridges in a tree, by the tree's labels (the tree call: docs/DECISIONS.md).
 ghost use Rattle.std.specs.Prelude.{◌≡◌, List, ℕ, ◌≤◌, ◌<◌, length};
 ghost use Rattle.rule.specs.Words.{words_of};
-ghost use Rattle.rule.specs.Outcome.{Outcome, answered, refused_as};
+ghost use Rattle.rule.specs.Outcome.{Outcome, answered};
 ghost use Rattle.rule.specs.Answers.{tree_values};
 ghost use Rattle.rule.specs.Calls.{lent_to_three, plan_branches};
 ghost use Rattle.table.specs.Positions.{plan_at};
@@ -11,7 +11,8 @@ ghost use Rattle.branches.specs.Branches.{branch_at, BranchesWritten, labelled_b
 use labels::label::{LABELS, cost_at, hops_at, next_number};
 use measures::measure::{Cost, Hops};
 use path::named::named_tree;
-use rule::answer::{RecordKind, TreeAnswer};
+use rule::answer::TreeAnswer;
+use rule::refusal::{Fault, Refusal};
 use table::shape::Shape;
 
 // Stands for the last bridge but one of no path: a number that no bridge has.
@@ -63,17 +64,6 @@ fn write_branches(labels: &[u32], n: usize, costs: &mut [u32], hops: &mut [u32],
     }
 }
 
-// A refusal of the tree call's own: no kind and the word 0.
-fn refused(number: u32) -> TreeAnswer
-    ensures { tree_values result ≡ refused_as number }
-{
-    TreeAnswer::Refused {
-        number: number,
-        kind: RecordKind::None,
-        word: 0,
-    }
-}
-
 // The places that the labels have for the first `n` bridges.
 pub fn labelled_branches(
     labels: &[u32],
@@ -86,13 +76,13 @@ pub fn labelled_branches(
     ensures { ◌≡◌ {A = Outcome ℕ × List ℕ × List ℕ × List ℕ} (tree_values result, costs.new, hops.new, lasts.new) (lent_to_three costs.old hops.old lasts.old (answered (labelled_branches labels.now n))) }
 {
     if costs.len() < n {
-        return refused(13);
+        return TreeAnswer::from(Refusal::of_call(Fault::ShortList));
     }
     if hops.len() < n {
-        return refused(13);
+        return TreeAnswer::from(Refusal::of_call(Fault::ShortList));
     }
     if lasts.len() < n {
-        return refused(13);
+        return TreeAnswer::from(Refusal::of_call(Fault::ShortList));
     }
     write_branches(labels, n, costs, hops, lasts);
     TreeAnswer::Given { bridges: n as u32 }
@@ -115,7 +105,7 @@ pub fn tree_in_table(
     let mut labels = [0u32; LABELS];
     let index = named_tree(table, s, link_index, vid, from, from, &mut labels);
     if index == 0 {
-        return refused(11);
+        return TreeAnswer::from(Refusal::of_call(Fault::NotInTable));
     }
     labelled_branches(&labels, s.bridges, costs, hops, lasts)
 }

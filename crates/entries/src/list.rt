@@ -19,8 +19,9 @@ use egress::rows::ROWS;
 use entry_rows::needed::keep_egress_rows;
 use network::make::make_network;
 use network::parts::NETWORK;
-use rule::answer::{EntriesAnswer, RecordKind};
+use rule::answer::EntriesAnswer;
 use rule::kinds::{MOST_BRIDGES, MOST_VIDS};
+use rule::refusal::{Fault, Refusal};
 use table::shape::Shape;
 use tree::search::PATH_IDS;
 use trees::store::LINE;
@@ -89,11 +90,7 @@ fn fitted(words: &[u32], list: &mut [u32]) -> EntriesAnswer
     ensures { ◌≡◌ {A = Outcome ℕ × List ℕ} (entries_values result, list.new) (lent_to list.old (list_answer words.now)) }
 {
     if list.len() < words.len() {
-        return EntriesAnswer::Refused {
-            number: 13,
-            kind: RecordKind::None,
-            word: 0,
-        };
+        return EntriesAnswer::from(Refusal::of_call(Fault::ShortList));
     }
     copy(words, list);
     EntriesAnswer::Written {
@@ -113,11 +110,7 @@ pub fn entries_in_table(
     ensures { ◌≡◌ {A = Outcome ℕ × List ℕ} (entries_values result, list.new) (lent_to list.old (plan_entries (plan_at (words_of table.now) s) bridge)) }
 {
     if s.bridges <= bridge as usize {
-        return EntriesAnswer::Refused {
-            number: 11,
-            kind: RecordKind::None,
-            word: 0,
-        };
+        return EntriesAnswer::from(Refusal::of_call(Fault::NotInTable));
     }
     let mut words = [0u32; LONGEST_LIST];
     let count = list_of_table(table, s, link_index, bridge as usize, &mut words);

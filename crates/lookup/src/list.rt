@@ -7,7 +7,8 @@ ghost use Rattle.rule.specs.Lookup.{faulty_list, matching_ports, lookup_outcome}
 
 use crate::entry::{is_faulty, is_match};
 use entry_codec::reader::port_of;
-use rule::answer::{LookupAnswer, RecordKind};
+use rule::answer::LookupAnswer;
+use rule::refusal::{Fault, Refusal};
 
 // "a length that is no multiple of 3", or an entry with a fault, anywhere in the list.
 fn is_faulty_list(list: &[u32]) -> bool
@@ -46,11 +47,7 @@ pub fn port_in_list(list: &[u32], vid: u32, address: u64, n: u32) -> LookupAnswe
     ensures { lookup_values result ≡ lookup_outcome list.now vid address n }
 {
     if is_faulty_list(list) {
-        return LookupAnswer::Refused {
-            number: 14,
-            kind: RecordKind::None,
-            word: 0,
-        };
+        return LookupAnswer::from(Refusal::of_call(Fault::EntryList));
     }
     matching(list, vid, address, n)
 }

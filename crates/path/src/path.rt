@@ -2,7 +2,7 @@
 ghost use Rattle.std.specs.Prelude.{◌≡◌, List, ℕ, ◌≤◌, length};
 ghost use Rattle.lists.specs.Lists.{spliced};
 ghost use Rattle.rule.specs.Words.{words_of};
-ghost use Rattle.rule.specs.Outcome.{Outcome, refused_as, lent_to};
+ghost use Rattle.rule.specs.Outcome.{Outcome, lent_to};
 ghost use Rattle.rule.specs.Answers.{CostAndHops, path_values};
 ghost use Rattle.rule.specs.Calls.{plan_path};
 ghost use Rattle.rule.specs.Exported.{cost_number};
@@ -14,7 +14,8 @@ ghost use Rattle.path.specs.Labelled.{labelled_path, Followable};
 use crate::named::named_tree;
 use labels::label::{LABELS, cost_at, hops_at, next_number};
 use measures::measure::Cost;
-use rule::answer::{PathAnswer, RecordKind};
+use rule::answer::PathAnswer;
+use rule::refusal::{Fault, Refusal};
 use table::shape::Shape;
 
 // Writes the bridge `from` and those that next hops lead to from it, `count` in all, to the front of a lent list.
@@ -29,17 +30,6 @@ pub fn write_path(labels: &[u32], from: u32, count: usize, list: &mut [u32])
     }
 }
 
-// A refusal of the path call's own: no kind and the word 0.
-fn refused(number: u32) -> PathAnswer
-    ensures { path_values result ≡ refused_as number }
-{
-    PathAnswer::Refused {
-        number: number,
-        kind: RecordKind::None,
-        word: 0,
-    }
-}
-
 // The path that the labels have for the bridge `from`.
 pub fn labelled_path(labels: &[u32], from: u32, list: &mut [u32]) -> PathAnswer
     requires { (320 ≤ length labels.now) × Followable labels.now from }
@@ -48,12 +38,12 @@ pub fn labelled_path(labels: &[u32], from: u32, list: &mut [u32]) -> PathAnswer
     let place = from as usize;
     let cost = cost_at(labels, place);
     if cost.is_no_path() {
-        return refused(12);
+        return PathAnswer::from(Refusal::of_call(Fault::NoPath));
     }
     let hops = hops_at(labels, place);
     let count = hops.bridges();
     if list.len() < count {
-        return refused(13);
+        return PathAnswer::from(Refusal::of_call(Fault::ShortList));
     }
     write_path(labels, from, count, list);
     PathAnswer::Given {
@@ -78,7 +68,7 @@ pub fn path_in_table(
     let mut labels = [0u32; LABELS];
     let index = named_tree(table, s, link_index, vid, from, to, &mut labels);
     if index == 0 {
-        return refused(11);
+        return PathAnswer::from(Refusal::of_call(Fault::NotInTable));
     }
     labelled_path(&labels, from, list)
 }

@@ -1,20 +1,16 @@
 -- What a record reader finds in the words from a record's first word on: the record, or its lowest fault among those that its own
 -- words show.
 -- Assumes nothing.
-use Rattle.std.specs.Prelude.{ℕ, List, cond, eqb, ltb, length}
-use Rattle.rule.specs.Records.{Record, Bridge, HalfLink, Vid, Member, Traffic, bridge, half_link, vid, member, traffic, end, Layout}
+use Rattle.std.specs.Prelude.{ℕ, List, Result, Ok, Err, cond, eqb, ltb, length}
+use Rattle.rule.specs.Records.{Record, Bridge, HalfLink, Vid, Member, Traffic, Layout}
 use Rattle.rule.specs.Check.{outside_range}
+use Rattle.rule.specs.declared.refusal.Fault.{Fault}
 use Rattle.readers.specs.declared.bridge.Bridge.{Bridge as table·Bridge}
 use Rattle.readers.specs.declared.half_link.HalfLink.{HalfLink as table·HalfLink}
 use Rattle.readers.specs.declared.vid.Vid.{Vid as table·Vid}
 use Rattle.readers.specs.declared.member.Member.{Member as table·Member}
 use Rattle.readers.specs.declared.traffic.Traffic.{Traffic as table·Traffic}
-use Rattle.readers.specs.declared.bridge.BridgeRead.{BridgeRead}
-use Rattle.readers.specs.declared.half_link.HalfLinkRead.{HalfLinkRead}
-use Rattle.readers.specs.declared.vid.VidRead.{VidRead}
-use Rattle.readers.specs.declared.member.MemberRead.{MemberRead}
-use Rattle.readers.specs.declared.traffic.TrafficRead.{TrafficRead}
-use Rattle.readers.specs.declared.end.EndRead.{EndRead}
+use Rattle.readers.specs.declared.fault.RecordFault.{RecordFault}
 
 -- 3: "The record's words aren't all there"; 4: "A zero bit is set"; 6: "A value is outside its range"; or the record.
 pub data Read : Type 0 where
@@ -46,35 +42,15 @@ member_values m =
 abbrev pub traffic_values : table·Traffic → Traffic
 traffic_values t = record { vid = t.vid; amount = t.amount; from = t.from; to = t.to }
 
--- What the readers' answers stand for.
-abbrev pub bridge_read : BridgeRead → Read
-bridge_read BridgeRead.Cut = cut
-bridge_read BridgeRead.ZeroBit = zero_bit
-bridge_read BridgeRead.OutOfRange = out_of_range
-bridge_read (BridgeRead.Record b) = whole (bridge (bridge_values b))
+-- A fault that a record's own words show, by its name among all faults.
+abbrev pub fault_found : RecordFault → Fault
+fault_found RecordFault.Cut = Fault.Cut
+fault_found RecordFault.ZeroBit = Fault.ZeroBit
+fault_found RecordFault.OutOfRange = Fault.OutOfRange
 
-abbrev pub half_link_read : HalfLinkRead → Read
-half_link_read HalfLinkRead.Cut = cut
-half_link_read HalfLinkRead.ZeroBit = zero_bit
-half_link_read HalfLinkRead.OutOfRange = out_of_range
-half_link_read (HalfLinkRead.Record h) = whole (half_link (half_link_values h))
-
-abbrev pub vid_read : VidRead → Read
-vid_read VidRead.Cut = cut
-vid_read VidRead.OutOfRange = out_of_range
-vid_read (VidRead.Record v) = whole (vid (vid_values v))
-
-abbrev pub member_read : MemberRead → Read
-member_read MemberRead.Cut = cut
-member_read MemberRead.ZeroBit = zero_bit
-member_read MemberRead.OutOfRange = out_of_range
-member_read (MemberRead.Record m) = whole (member (member_values m))
-
-abbrev pub traffic_read : TrafficRead → Read
-traffic_read TrafficRead.Cut = cut
-traffic_read TrafficRead.OutOfRange = out_of_range
-traffic_read (TrafficRead.Record t) = whole (traffic (traffic_values t))
-
-abbrev pub end_read : EndRead → Read
-end_read EndRead.Cut = cut
-end_read (EndRead.Record count) = whole (end count)
+-- What a reader's answer stands for, by the record that its struct stands for.
+abbrev pub read_by : {A : Type 0} → (A → Record) → Result A RecordFault → Read
+read_by standing (Ok a) = whole (standing a)
+read_by standing (Err RecordFault.Cut) = cut
+read_by standing (Err RecordFault.ZeroBit) = zero_bit
+read_by standing (Err RecordFault.OutOfRange) = out_of_range

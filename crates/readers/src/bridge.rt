@@ -1,9 +1,10 @@
 // Bridge records (01, "The table", kind 1): the record at the beginning of a part, and the reader that tests it.
 ghost use Rattle.std.specs.Prelude.{◌≡◌, ◌+◌, ◌*◌, ◌≤◌, length, drop};
 ghost use Rattle.rule.specs.Words.{words_of};
-ghost use Rattle.rule.specs.Records.{bridge_layout, bridge_of};
-ghost use Rattle.readers.specs.Readers.{bridge_values, bridge_read, read_of};
+ghost use Rattle.rule.specs.Records.{bridge, bridge_layout, bridge_of};
+ghost use Rattle.readers.specs.Readers.{bridge_values, read_by, read_of};
 
+use crate::fault::RecordFault;
 use crate::words::word_at;
 use numbers::number::{two_words, within};
 
@@ -15,14 +16,6 @@ pub struct Bridge {
     pub overloaded: bool,
     pub sp_source_id: u32,
     pub identifier: u64,
-}
-
-#[derive(Clone, Copy)]
-pub enum BridgeRead {
-    Cut,
-    ZeroBit,
-    OutOfRange,
-    Record(Bridge),
 }
 
 // The record whose words the part begins with.
@@ -49,25 +42,25 @@ pub fn bridge_at(table: &[u8], word: usize) -> Bridge
 }
 
 // Reads the part of the table that begins at the record's first word.
-pub fn read_bridge(part: &[u8]) -> BridgeRead
-    ensures { bridge_read result ≡ read_of bridge_layout (words_of part.now) }
+pub fn read_bridge(part: &[u8]) -> Result<Bridge, RecordFault>
+    ensures { read_by (λ b. bridge (bridge_values b)) result ≡ read_of bridge_layout (words_of part.now) }
 {
     if part.len() < 12 {
-        return BridgeRead::Cut;
+        return Err(RecordFault::Cut);
     }
     if word_at(part, 0) / 1048576 % 128 != 0 {
-        return BridgeRead::ZeroBit;
+        return Err(RecordFault::ZeroBit);
     }
     let b = bridge_of(part);
     let address = b.identifier % 281474976710656;
     if !within(b.sp_source_id as u64, 1, 1048575) {
-        return BridgeRead::OutOfRange;
+        return Err(RecordFault::OutOfRange);
     }
     if !within(address, 1, 281474976710655) {
-        return BridgeRead::OutOfRange;
+        return Err(RecordFault::OutOfRange);
     }
     if !within(address / 1099511627776 % 2, 0, 0) {
-        return BridgeRead::OutOfRange;
+        return Err(RecordFault::OutOfRange);
     }
-    BridgeRead::Record(b)
+    Ok(b)
 }

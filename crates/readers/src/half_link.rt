@@ -1,9 +1,10 @@
 // Half-link records (01, "The table", kind 2): the record at the beginning of a part, and the reader that tests it.
 ghost use Rattle.std.specs.Prelude.{◌≡◌, ◌+◌, ◌*◌, ◌≤◌, length, drop};
 ghost use Rattle.rule.specs.Words.{words_of};
-ghost use Rattle.rule.specs.Records.{half_link_layout, half_link_of};
-ghost use Rattle.readers.specs.Readers.{half_link_values, half_link_read, read_of};
+ghost use Rattle.rule.specs.Records.{half_link, half_link_layout, half_link_of};
+ghost use Rattle.readers.specs.Readers.{half_link_values, read_by, read_of};
 
+use crate::fault::RecordFault;
 use crate::words::word_at;
 use numbers::metric::Metric;
 use numbers::number::within;
@@ -19,14 +20,6 @@ pub struct HalfLink {
     pub far: u32,
     pub port: u32,
     pub link: u32,
-}
-
-#[derive(Clone, Copy)]
-pub enum HalfLinkRead {
-    Cut,
-    ZeroBit,
-    OutOfRange,
-    Record(HalfLink),
 }
 
 // The record whose words the part begins with.
@@ -57,24 +50,24 @@ pub fn half_link_at(table: &[u8], word: usize) -> HalfLink
 }
 
 // Reads the part of the table that begins at the record's first word.
-pub fn read_half_link(part: &[u8]) -> HalfLinkRead
-    ensures { half_link_read result ≡ read_of half_link_layout (words_of part.now) }
+pub fn read_half_link(part: &[u8]) -> Result<HalfLink, RecordFault>
+    ensures { read_by (λ h. half_link (half_link_values h)) result ≡ read_of half_link_layout (words_of part.now) }
 {
     if part.len() < 12 {
-        return HalfLinkRead::Cut;
+        return Err(RecordFault::Cut);
     }
     if word_at(part, 0) / 16777216 % 8 != 0 {
-        return HalfLinkRead::ZeroBit;
+        return Err(RecordFault::ZeroBit);
     }
     let h = half_link_of(part);
     if !h.metric.is_in_range() {
-        return HalfLinkRead::OutOfRange;
+        return Err(RecordFault::OutOfRange);
     }
     if !within(h.port as u64, 1, 4095) {
-        return HalfLinkRead::OutOfRange;
+        return Err(RecordFault::OutOfRange);
     }
     if !within(h.link as u64, 1, 65535) {
-        return HalfLinkRead::OutOfRange;
+        return Err(RecordFault::OutOfRange);
     }
-    HalfLinkRead::Record(h)
+    Ok(h)
 }

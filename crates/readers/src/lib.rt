@@ -3,6 +3,7 @@
 
 pub mod bridge;
 pub mod end;
+pub mod fault;
 pub mod half_link;
 pub mod member;
 pub mod traffic;

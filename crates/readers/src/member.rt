@@ -1,9 +1,10 @@
 // Member records (01, "The table", kind 4): the record at the beginning of a part, and the reader that tests it.
 ghost use Rattle.std.specs.Prelude.{◌≡◌, ◌+◌, ◌*◌, ◌≤◌, length, drop};
 ghost use Rattle.rule.specs.Words.{words_of};
-ghost use Rattle.rule.specs.Records.{member_layout, member_of};
-ghost use Rattle.readers.specs.Readers.{member_values, member_read, read_of};
+ghost use Rattle.rule.specs.Records.{member, member_layout, member_of};
+ghost use Rattle.readers.specs.Readers.{member_values, read_by, read_of};
 
+use crate::fault::RecordFault;
 use crate::words::word_at;
 use numbers::number::within;
 
@@ -19,14 +20,6 @@ pub struct Member {
     pub isid: u32,
     pub bridge: u32,
     pub vid: u32,
-}
-
-#[derive(Clone, Copy)]
-pub enum MemberRead {
-    Cut,
-    ZeroBit,
-    OutOfRange,
-    Record(Member),
 }
 
 // The record whose words the part begins with.
@@ -55,21 +48,21 @@ pub fn member_at(table: &[u8], word: usize) -> Member
 }
 
 // Reads the part of the table that begins at the record's first word.
-pub fn read_member(part: &[u8]) -> MemberRead
-    ensures { member_read result ≡ read_of member_layout (words_of part.now) }
+pub fn read_member(part: &[u8]) -> Result<Member, RecordFault>
+    ensures { read_by (λ m. member (member_values m)) result ≡ read_of member_layout (words_of part.now) }
 {
     if part.len() < 8 {
-        return MemberRead::Cut;
+        return Err(RecordFault::Cut);
     }
     if word_at(part, 0) / 67108864 % 4 != 0 {
-        return MemberRead::ZeroBit;
+        return Err(RecordFault::ZeroBit);
     }
     let m = member_of(part);
     if !within(m.isid as u64, LEAST_ISID, GREATEST_ISID) {
-        return MemberRead::OutOfRange;
+        return Err(RecordFault::OutOfRange);
     }
     if !within(m.vid as u64, 1, 4094) {
-        return MemberRead::OutOfRange;
+        return Err(RecordFault::OutOfRange);
     }
-    MemberRead::Record(m)
+    Ok(m)
 }

@@ -1,9 +1,10 @@
 // Traffic records (02, A5, kind 5): the record at the beginning of a part, and the reader that tests it. All their bits are in use.
 ghost use Rattle.std.specs.Prelude.{◌≡◌, ◌+◌, ◌*◌, ◌≤◌, length, drop};
 ghost use Rattle.rule.specs.Words.{words_of};
-ghost use Rattle.rule.specs.Records.{traffic_layout, traffic_of};
-ghost use Rattle.readers.specs.Readers.{traffic_values, traffic_read, read_of};
+ghost use Rattle.rule.specs.Records.{traffic, traffic_layout, traffic_of};
+ghost use Rattle.readers.specs.Readers.{traffic_values, read_by, read_of};
 
+use crate::fault::RecordFault;
 use crate::words::word_at;
 use numbers::number::within;
 
@@ -18,13 +19,6 @@ pub struct Traffic {
     pub amount: u32,
     pub from: u32,
     pub to: u32,
-}
-
-#[derive(Clone, Copy)]
-pub enum TrafficRead {
-    Cut,
-    OutOfRange,
-    Record(Traffic),
 }
 
 // The record whose words the part begins with.
@@ -52,18 +46,18 @@ pub fn traffic_at(table: &[u8], word: usize) -> Traffic
 }
 
 // Reads the part of the table that begins at the record's first word.
-pub fn read_traffic(part: &[u8]) -> TrafficRead
-    ensures { traffic_read result ≡ read_of traffic_layout (words_of part.now) }
+pub fn read_traffic(part: &[u8]) -> Result<Traffic, RecordFault>
+    ensures { read_by (λ t. traffic (traffic_values t)) result ≡ read_of traffic_layout (words_of part.now) }
 {
     if part.len() < 8 {
-        return TrafficRead::Cut;
+        return Err(RecordFault::Cut);
     }
     let t = traffic_of(part);
     if !within(t.vid as u64, 1, 4094) {
-        return TrafficRead::OutOfRange;
+        return Err(RecordFault::OutOfRange);
     }
     if !within(t.amount as u64, LEAST_AMOUNT, GREATEST_AMOUNT) {
-        return TrafficRead::OutOfRange;
+        return Err(RecordFault::OutOfRange);
     }
-    TrafficRead::Record(t)
+    Ok(t)
 }

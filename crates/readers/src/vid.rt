@@ -2,9 +2,10 @@
 // use.
 ghost use Rattle.std.specs.Prelude.{◌≡◌, ◌+◌, ◌*◌, ◌≤◌, length, drop};
 ghost use Rattle.rule.specs.Words.{words_of};
-ghost use Rattle.rule.specs.Records.{vid_layout, vid_of};
-ghost use Rattle.readers.specs.Readers.{vid_values, vid_read, read_of};
+ghost use Rattle.rule.specs.Records.{vid, vid_layout, vid_of};
+ghost use Rattle.readers.specs.Readers.{vid_values, read_by, read_of};
 
+use crate::fault::RecordFault;
 use crate::words::word_at;
 use numbers::number::within;
 
@@ -12,13 +13,6 @@ use numbers::number::within;
 pub struct Vid {
     pub vid: u32,
     pub index: u32,
-}
-
-#[derive(Clone, Copy)]
-pub enum VidRead {
-    Cut,
-    OutOfRange,
-    Record(Vid),
 }
 
 // The record whose words the part begins with.
@@ -43,18 +37,18 @@ pub fn vid_at(table: &[u8], word: usize) -> Vid
 }
 
 // Reads the part of the table that begins at the record's first word.
-pub fn read_vid(part: &[u8]) -> VidRead
-    ensures { vid_read result ≡ read_of vid_layout (words_of part.now) }
+pub fn read_vid(part: &[u8]) -> Result<Vid, RecordFault>
+    ensures { read_by (λ v. vid (vid_values v)) result ≡ read_of vid_layout (words_of part.now) }
 {
     if part.len() < 4 {
-        return VidRead::Cut;
+        return Err(RecordFault::Cut);
     }
     let v = vid_of(part);
     if !within(v.vid as u64, 1, 4094) {
-        return VidRead::OutOfRange;
+        return Err(RecordFault::OutOfRange);
     }
     if !within(v.index as u64, 1, 16) {
-        return VidRead::OutOfRange;
+        return Err(RecordFault::OutOfRange);
     }
-    VidRead::Record(v)
+    Ok(v)
 }

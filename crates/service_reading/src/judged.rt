@@ -14,6 +14,7 @@ use numbers::number::within;
 use readers::member::{GREATEST_ISID, LEAST_ISID};
 use readers::words::word_at;
 use rule::answer::{ReadServicesAnswer, RecordKind};
+use rule::refusal::{Fault, Refusal};
 
 // Whether one of the first `n` services has the I-SID.
 fn is_repeated(services: &[u8], n: usize, isid: u32) -> bool
@@ -30,19 +31,19 @@ fn is_repeated(services: &[u8], n: usize, isid: u32) -> bool
     false
 }
 
-// The lowest fault of the service `n`, or 0: "An I-SID out of range is 6 and one repeated within the sub-TLV is 8".
-fn service_fault(services: &[u8], n: usize) -> u32
+// The lowest fault of the service `n`: "An I-SID out of range is 6 and one repeated within the sub-TLV is 8".
+fn service_fault(services: &[u8], n: usize) -> Result<(), Fault>
     requires { 4 * n + 4 ≤ length services.now }
     ensures { numbered result ≡ lowest_fault (service_faults (take n (words_of services.now)) (word (words_of services.now) n)) }
 {
     let isid = isid_of(word_at(services, n));
     if !within(isid as u64, LEAST_ISID, GREATEST_ISID) {
-        return 6;
+        return Err(Fault::OutOfRange);
     }
     if is_repeated(services, n, isid) {
-        return 8;
+        return Err(Fault::Repeated);
     }
-    0
+    Ok(())
 }
 
 // The fault of the first faulty service, or how many words the member records of all have.
@@ -53,13 +54,12 @@ pub fn judge_services(services: &[u8]) -> ReadServicesAnswer
     let count = services.len() / SERVICE;
     let mut n = 0;
     while n < count {
-        let fault = service_fault(services, n);
-        if fault != 0 {
-            return ReadServicesAnswer::Refused {
-                number: fault,
+        if let Err(fault) = service_fault(services, n) {
+            return ReadServicesAnswer::from(Refusal {
+                number: fault.number(),
                 kind: RecordKind::Member,
                 word: n as u32,
-            };
+            });
         }
         n += 1;
     }

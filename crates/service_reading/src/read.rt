@@ -3,7 +3,7 @@ ghost use Rattle.std.specs.Prelude.{◌≡◌, List, [], ℕ, ◌+◌, ◌*◌, 
 ghost use Rattle.lists.specs.Lists.{spliced};
 ghost use Rattle.lists.specs.Appending.{Appended, Room};
 ghost use Rattle.rule.specs.Words.{words_of};
-ghost use Rattle.rule.specs.Outcome.{Outcome, list_answer, lent_to, refused_as};
+ghost use Rattle.rule.specs.Outcome.{Outcome, list_answer, lent_to};
 ghost use Rattle.rule.specs.Answers.{read_services_values};
 ghost use Rattle.rule.specs.Services.{member_of_service, member_first, member_record, records_of, after_services, plan_content, plan_read};
 ghost use Rattle.table.specs.Positions.{plan_at};
@@ -17,7 +17,8 @@ use crate::layout::{
 };
 use crate::sub_tlv::{b_mac, base_vid, is_no_sub_tlv, isid_of};
 use readers::words::word_at;
-use rule::answer::{ReadServicesAnswer, RecordKind};
+use rule::answer::ReadServicesAnswer;
+use rule::refusal::{Fault, Refusal};
 use table::shape::Shape;
 
 // The first word of a service's member record.
@@ -53,17 +54,6 @@ fn write_members(services: &[u8], bridge: u32, vid: u32, words: &mut [u32])
     }
 }
 
-// A refusal of the call's own: no kind and the word 0.
-fn refused(number: u32) -> ReadServicesAnswer
-    ensures { read_services_values result ≡ refused_as number }
-{
-    ReadServicesAnswer::Refused {
-        number: number,
-        kind: RecordKind::None,
-        word: 0,
-    }
-}
-
 // The services of a bridge and a VID that the table has.
 fn read_services(services: &[u8], bridge: u32, vid: u32, words: &mut [u32]) -> ReadServicesAnswer
     requires { (length services.now ≤ 247) × (bridge < 65536) × (vid < 65536) }
@@ -73,7 +63,7 @@ fn read_services(services: &[u8], bridge: u32, vid: u32, words: &mut [u32]) -> R
     match judged {
         ReadServicesAnswer::Read { words: count } => {
             if words.len() < count as usize {
-                return refused(13);
+                return ReadServicesAnswer::from(Refusal::of_call(Fault::ShortList));
             }
             write_members(services, bridge, vid, words);
             ReadServicesAnswer::Read { words: count }
@@ -93,11 +83,11 @@ fn read_content(table: &[u8], s: Shape, content: &[u8], words: &mut [u32]) -> Re
 {
     let bridge = bridge_with(table, s, b_mac(content));
     if s.bridges <= bridge {
-        return refused(16);
+        return ReadServicesAnswer::from(Refusal::of_call(Fault::UnknownAdvertiser));
     }
     let vid = base_vid(content);
     if !has_vid(table, s, vid) {
-        return refused(16);
+        return ReadServicesAnswer::from(Refusal::of_call(Fault::UnknownAdvertiser));
     }
     read_services(&content[BEFORE_SERVICES..], bridge as u32, vid, words)
 }
@@ -108,7 +98,7 @@ pub fn read_in_table(table: &[u8], s: Shape, bytes: &[u8], words: &mut [u32]) ->
     ensures { ◌≡◌ {A = Outcome ℕ × List ℕ} (read_services_values result, words.new) (lent_to words.old (plan_read (plan_at (words_of table.now) s) bytes.now)) }
 {
     if is_no_sub_tlv(bytes) {
-        return refused(15);
+        return ReadServicesAnswer::from(Refusal::of_call(Fault::NoSubTlv));
     }
     read_content(table, s, &bytes[BEFORE_CONTENT..], words)
 }

@@ -2,7 +2,7 @@
 ghost use Rattle.std.specs.Prelude.{◌≡◌, List, ℕ, ◌+◌, ◌*◌, ◌<◌, ◌≤◌, length};
 ghost use Rattle.lists.specs.Appending.{Appended, Room};
 ghost use Rattle.rule.specs.Words.{words_of};
-ghost use Rattle.rule.specs.Outcome.{Outcome, list_answer, lent_to, refused_as};
+ghost use Rattle.rule.specs.Outcome.{Outcome, list_answer, lent_to};
 ghost use Rattle.rule.specs.Answers.{write_services_values};
 ghost use Rattle.rule.specs.Services.{bit, service_of, services_written, sub_tlvs, plan_write};
 ghost use Rattle.readers.specs.Readers.{member_values};
@@ -12,8 +12,9 @@ ghost use Rattle.service_writing.specs.Gathered.{service_at};
 
 use crate::written::{sub_tlv_count, write_sub_tlvs};
 use readers::member::Member;
-use rule::answer::{RecordKind, WriteServicesAnswer};
+use rule::answer::WriteServicesAnswer;
 use rule::kinds::MOST_MEMBERS;
+use rule::refusal::{Fault, Refusal};
 use service_reading::advertiser::{address_of, has_vid};
 use service_reading::layout::{
     ADVERTISED_R, ADVERTISED_T, BEFORE_CONTENT, BEFORE_SERVICES, SERVICE,
@@ -76,17 +77,6 @@ fn gather_services(table: &[u8], s: Shape, bridge: u32, vid: u32, services: &mut
     at
 }
 
-// A refusal of the call's own: no kind and the word 0.
-fn refused(number: u32) -> WriteServicesAnswer
-    ensures { write_services_values result ≡ refused_as number }
-{
-    WriteServicesAnswer::Refused {
-        number: number,
-        kind: RecordKind::None,
-        word: 0,
-    }
-}
-
 // The sub-TLVs of the services, where the lent list holds them.
 fn write_fitting(b_mac: u64, vid: u32, services: &[u32], bytes: &mut [u8]) -> WriteServicesAnswer
     requires { (length services.now ≤ 64) × (b_mac < 281474976710656) × (vid < 65536) }
@@ -95,7 +85,7 @@ fn write_fitting(b_mac: u64, vid: u32, services: &[u32], bytes: &mut [u8]) -> Wr
     let heads = (BEFORE_CONTENT + BEFORE_SERVICES) * sub_tlv_count(services.len());
     let needed = heads + SERVICE * services.len();
     if bytes.len() < needed {
-        return refused(13);
+        return WriteServicesAnswer::from(Refusal::of_call(Fault::ShortList));
     }
     write_sub_tlvs(bytes, b_mac, vid, services);
     WriteServicesAnswer::Written {
@@ -115,10 +105,10 @@ pub fn write_in_table(
     ensures { ◌≡◌ {A = Outcome ℕ × List ℕ} (write_services_values result, bytes.new) (lent_to bytes.old (plan_write (plan_at (words_of table.now) s) bridge vid)) }
 {
     if s.bridges <= bridge as usize {
-        return refused(11);
+        return WriteServicesAnswer::from(Refusal::of_call(Fault::NotInTable));
     }
     if !has_vid(table, s, vid) {
-        return refused(11);
+        return WriteServicesAnswer::from(Refusal::of_call(Fault::NotInTable));
     }
     let mut services = [0u32; MOST_MEMBERS];
     let count = gather_services(table, s, bridge, vid, &mut services);

@@ -2,6 +2,7 @@
 ghost use Rattle.std.specs.Prelude.{◌≡◌, ◌<◌};
 ghost use Rattle.rule.specs.Words.{words_of};
 ghost use Rattle.rule.specs.Records.{bridge_layout, half_link_layout, vid_layout, member_layout, traffic_layout};
+ghost use Rattle.rule.specs.Refusals.{fault_number};
 ghost use Rattle.table.specs.Positions.{vids_from, members_from, traffic_from};
 ghost use Rattle.table.specs.Whole.{Whole};
 ghost use Rattle.earlier.specs.Keys.{BridgeIndexes, VidIndex, MemberIndex, TrafficIndex};
@@ -18,6 +19,7 @@ use readers::half_link::half_link_at;
 use readers::member::member_at;
 use readers::traffic::traffic_at;
 use rule::answer::RecordKind;
+use rule::refusal::Fault;
 use table::shape::Shape;
 
 #[derive(Clone, Copy)]
@@ -41,10 +43,11 @@ pub fn kind_concerned(number: u32, kind: RecordKind) -> RecordKind
 }
 
 // The refusal of a record.
-fn refusal(number: u32, kind: RecordKind, word: usize) -> Step
+fn refusal(fault: Fault, kind: RecordKind, word: usize) -> Step
     requires { word < 4294967296 }
-    ensures { result ≡ Step.Refused number (concerned number kind) word }
+    ensures { result ≡ Step.Refused (fault_number fault) (concerned (fault_number fault) kind) word }
 {
+    let number = fault.number();
     Step::Refused {
         number: number,
         kind: kind_concerned(number, kind),
@@ -64,9 +67,8 @@ pub fn after_bridge(
     ensures stepped { Stepped (words_of table.now) (with_bridge s) (step_as (words_of table.now) s bridge_layout) result }
     ensures bridges_kept { BridgesKept (words_of table.now) source_index.new address_index.new result }
 {
-    let fault = bridge_fault(table, s, &source_index[..], &address_index[..]);
     let at = s.words_read();
-    if fault != 0 {
+    if let Err(fault) = bridge_fault(table, s, &source_index[..], &address_index[..]) {
         return refusal(fault, RecordKind::Bridge, at);
     }
     let b = bridge_at(table, at);
@@ -94,8 +96,7 @@ pub fn after_half_link(
     ensures half_links_kept { HalfLinksKept (words_of table.now) port_index.new link_index.new result }
 {
     let at = s.words_read();
-    let fault = half_link_fault(table, s, at, &port_index[..], &link_index[..]);
-    if fault != 0 {
+    if let Err(fault) = half_link_fault(table, s, at, &port_index[..], &link_index[..]) {
         return refusal(fault, RecordKind::HalfLink, at);
     }
     let h = half_link_at(table, at);
@@ -115,8 +116,7 @@ pub fn after_vid(table: &[u8], s: Shape) -> Step
     requires { Whole table.now s }
     ensures { Stepped (words_of table.now) (with_vid s) (step_as (words_of table.now) s vid_layout) result }
 {
-    let fault = vid_fault(table, s);
-    if fault != 0 {
+    if let Err(fault) = vid_fault(table, s) {
         return refusal(fault, RecordKind::Vid, s.words_read());
     }
     Step::Next(Shape {
@@ -135,9 +135,8 @@ pub fn after_member(table: &[u8], s: Shape, member_index: &mut [u32]) -> Step
     ensures stepped { Stepped (words_of table.now) (with_member s) (step_as (words_of table.now) s member_layout) result }
     ensures members_kept { MembersKept (words_of table.now) member_index.new result }
 {
-    let fault = member_fault(table, s, &member_index[..]);
     let at = s.words_read();
-    if fault != 0 {
+    if let Err(fault) = member_fault(table, s, &member_index[..]) {
         return refusal(fault, RecordKind::Member, at);
     }
     let m = member_at(table, at);
@@ -160,8 +159,7 @@ pub fn after_traffic(table: &[u8], s: Shape, vid_index: &[u32], traffic_index: &
     ensures traffic_kept { TrafficKept (words_of table.now) traffic_index.new result }
 {
     let at = s.words_read();
-    let fault = traffic_fault(table, s, at, vid_index, &traffic_index[..]);
-    if fault != 0 {
+    if let Err(fault) = traffic_fault(table, s, at, vid_index, &traffic_index[..]) {
         return refusal(fault, RecordKind::Traffic, at);
     }
     let t = traffic_at(table, at);

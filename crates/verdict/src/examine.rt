@@ -62,11 +62,11 @@ fn read_last(table: &[u8], s: Shape) -> Examined
             word: at as u32,
         };
     }
-    let fault = end_fault(table, s);
-    if fault != 0 {
+    if let Err(fault) = end_fault(table, s) {
+        let number = fault.number();
         return Examined::Refused {
-            number: fault,
-            kind: kind_concerned(fault, RecordKind::End),
+            number: number,
+            kind: kind_concerned(number, RecordKind::End),
             word: at as u32,
         };
     }

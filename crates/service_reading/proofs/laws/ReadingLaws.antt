@@ -1,8 +1,8 @@
 -- What links the reader of a sub-TLV to the definitions of rule (02, A2): its bytes, the faults of its services, the records written.
 -- Assumes nothing.
-use Prim.Native.Nat.{ℕ, zero, suc, ◌+◌, ◌*◌, ◌-◌, ◌/◌, ◌%◌, ◌≤◌, ◌<◌}
+use Prim.Native.Nat.{ℕ, suc, ◌+◌, ◌*◌, ◌-◌, ◌/◌, ◌%◌, ◌≤◌, ◌<◌}
 use native.Mathlib.Omega.{arith}
-use Rattle.std.specs.Prelude.{◌≡◌, ◌⊎◌, Bool, true, false, not, ◌&&◌, ◌||◌, T, eqb, leb, ltb, set, drop}
+use Rattle.std.specs.Prelude.{◌≡◌, ◌⊎◌, Bool, true, false, Ok, Err, not, ◌&&◌, ◌||◌, T, eqb, leb, ltb, set, drop}
 use Rattle.std.proofs.Math.Path.{refl, sym, ap}
 use Rattle.std.proofs.Common.{◌∙◌, subst, length-drop, drop_of_length-le, length-take-le, eq-eqb, ne_eqb, eqb-true, ltb-false, lt-ltb, le-ltb, le-leb}
 use mathlib.Core.List.{List, [], ◌∷◌, ◌++◌}
@@ -29,6 +29,8 @@ use Rattle.rule.specs.declared.answer.ReadServicesAnswer.{ReadServicesAnswer}
 use Rattle.rule.proofs.laws.MemberWords.{bit-back}
 use Rattle.rule.proofs.laws.CallLaws.{refused-not-answered, fits_not, fits_in}
 use Rattle.readers.proofs.laws.WordLaws.{count_of_words, part_from, words-from}
+use Rattle.rule.specs.Refusals.{fault_number}
+use Rattle.rule.specs.declared.refusal.Fault.{Fault}
 use Rattle.faults.specs.Faults.{numbered}
 use Rattle.service_reading.proofs.laws.NamedLaws.{first_lacking, second_lacking, none_lacking}
 
@@ -133,7 +135,7 @@ module _ (earlier : List ℕ) (service isid : ℕ) (e : isid ≡ isid_of service
   limited : in_limits isid_limits (isid_of service) ≡ within
   limited = sym (f ∙ ap (in_limits isid_limits) e)
 
-  pub out_of_range : within ≡ false → numbered 6 ≡ lowest_fault (service_faults earlier service)
+  pub out_of_range : within ≡ false → numbered (Err Fault.OutOfRange) ≡ lowest_fault (service_faults earlier service)
   unfolding lowest_fault
   out_of_range g = rw (limited ∙ g) refl
 
@@ -141,11 +143,11 @@ module _ (earlier : List ℕ) (service isid : ℕ) (e : isid ≡ isid_of service
     repeats : any_passes (λ w. eqb (isid_of w) (isid_of service)) earlier ≡ again
     repeats = sym (h ∙ ap (λ (n : ℕ). any_passes (λ w. eqb (isid_of w) n) earlier) e)
 
-    pub repeated : within ≡ true → again ≡ true → numbered 8 ≡ lowest_fault (service_faults earlier service)
+    pub repeated : within ≡ true → again ≡ true → numbered (Err Fault.Repeated) ≡ lowest_fault (service_faults earlier service)
     unfolding lowest_fault
     repeated g i = rw (limited ∙ g, repeats ∙ i) refl
 
-    pub faultless : within ≡ true → again ≡ false → numbered 0 ≡ lowest_fault (service_faults earlier service)
+    pub faultless : within ≡ true → again ≡ false → numbered (Ok tt) ≡ lowest_fault (service_faults earlier service)
     unfolding lowest_fault
     faultless g i = rw (limited ∙ g, repeats ∙ i) refl
 
@@ -172,21 +174,20 @@ module _ {A : Type 0} {ws : List ℕ} {o : Outcome A} {n : ℕ} (J : Judging ws 
       longer : take (n + 1) ws ≡ take n ws ++ (word ws n ∷ [])
       longer = ap (λ (k : ℕ). take k ws) (let z : n + 1 ≡ suc n = omega arith in z) ∙ take-suc ws n 0 l
 
-  pub judging_on : n < length ws → (fault : ℕ) → fault ≡ 0 → numbered fault ≡ fault_of → Judging ws o (n + 1)
-  judging_on l fault z e = record {
+  pub judging_on : n < length ws → numbered (Ok tt) ≡ fault_of → Judging ws o (n + 1)
+  judging_on l e = record {
     within = omega arith;
     rest =
-        ap (λ (f : Option ℕ). judged_service n f (after_services (take (n + 1) ws) (drop (n + 1) ws) o)) (sym (ap numbered z) ∙ e)
+        ap (λ (f : Option ℕ). judged_service n f (after_services (take (n + 1) ws) (drop (n + 1) ws) o)) e
         ∙ sym (next l) ∙ J.rest;
   }
 
-  pub judging_refuses : n < length ws → (fault : ℕ) → (fault ≡ 0 → ⊥) → numbered fault ≡ fault_of → refused fault (some 4) n ≡ after_services [] ws o
-  judging_refuses l fault d e = go fault d e
-    where
-      go : (f : ℕ) → (f ≡ 0 → ⊥) → numbered f ≡ fault_of → refused f (some 4) n ≡ after_services [] ws o
-      go zero d e = absurd (d refl)
-      go (suc f) d e =
-          ap (λ (g : Option ℕ). judged_service n g (after_services (take (n + 1) ws) (drop (n + 1) ws) o)) e ∙ sym (next l) ∙ J.rest
+  pub judging_refuses :
+      n < length ws → (fault : Fault) → numbered (Err fault) ≡ fault_of → (number : ℕ) → number ≡ fault_number fault
+      → refused number (some 4) n ≡ after_services [] ws o
+  judging_refuses l fault e number g =
+      ap (λ (k : ℕ). refused k (some 4) n) g
+      ∙ ap (λ (f : Option ℕ). judged_service n f (after_services (take (n + 1) ws) (drop (n + 1) ws) o)) e ∙ sym (next l) ∙ J.rest
 
   pub judging_ends : length ws ≤ n → o ≡ after_services [] ws o
   unfolding after_services

@@ -1,6 +1,6 @@
 -- The step that a record comes to: refused with its lowest fault, or taken into the plan at the position where it stands.
 -- Assumes nothing.
-use Rattle.std.specs.Prelude.{ℕ, zero, suc, ◌+◌, ◌*◌, ◌≤◌, ◌<◌, ◌≡◌, refl, List, [], ◌∷◌, ◌++◌, Bool, true, false, cond, eqb, leb, ltb, length, drop}
+use Rattle.std.specs.Prelude.{ℕ, zero, suc, ◌+◌, ◌*◌, ◌≤◌, ◌<◌, ◌≡◌, refl, List, [], ◌∷◌, ◌++◌, Bool, true, false, Ok, Err, cond, eqb, leb, ltb, length, drop}
 use Rattle.std.proofs.Common.{arith, sym, ap, subst, ◌∙◌, length-drop, lt-ltb, le-ltb, ltb-false, leb-false}
 use Rattle.std.proofs.Math.Option.{Option, none, some}
 use Rattle.lists.proofs.laws.NumberLaws.{is_false}
@@ -17,6 +17,8 @@ use Rattle.table.specs.declared.shape.Shape.{Shape}
 use Rattle.table.specs.Positions.{record_at, records_at, half_links_from, vids_from, members_from, traffic_from, words_read, last_kind, plan_at, reading_at}
 use Rattle.readers.proofs.laws.WordLaws.{count_of_words}
 use Rattle.table.proofs.laws.PositionLaws.{how_many, one_more, none_anywhere}
+use Rattle.rule.specs.Refusals.{fault_number}
+use Rattle.rule.specs.declared.refusal.Fault.{Fault}
 use Rattle.faults.specs.Faults.{numbered, fault_at}
 use Rattle.earlier.specs.Keys.{source_key, address_key, member_key, traffic_key, BridgeIndexes, MemberIndex, TrafficIndex}
 use Rattle.earlier.specs.HalfLinks.{port_key, number_key}
@@ -38,41 +40,33 @@ module _ (ws : List ℕ) (s : Shape) (l : Layout) where
   words = drop (words_read s) ws
 
   pub refused-step :
-      (next : Shape) (f : ℕ) (kind : RecordKind) (r : Step) →
-      numbered f ≡ fault_at ws s l →
-      (f ≡ 0 → ⊥) →
+      (next : Shape) (f : Fault) (kind : RecordKind) (r : Step) →
+      numbered (Err f) ≡ fault_at ws s l →
       kind_number kind ≡ some l.kind →
       (at : ℕ) →
       at ≡ words_read s →
-      r ≡ Step.Refused f (concerned f kind) at →
+      r ≡ Step.Refused (fault_number f) (concerned (fault_number f) kind) at →
       Stepped ws next (step_as ws s l) r
-  refused-step next f kind r e h k at a g =
+  refused-step next f kind r e k at a g =
       record {
         value =
             ap (step_values ws) g
-            ∙ (λ i. stops (refused f (kind-concerned f l.kind kind k i) (a i)))
-            ∙ positive f h
+            ∙ (λ i. stops (refused (fault_number f) (kind-concerned (fault_number f) l.kind kind k i) (a i)))
             ∙ ap (judged (reading_at ws s) l words) e;
         is_next = λ t n. let z : ◌≡◌ {A = ℕ} 0 1 = cc in absurd (omega arith);
         within = λ t n. let z : ◌≡◌ {A = ℕ} 0 1 = cc in absurd (omega arith);
       }
-    where
-      positive :
-          (f : ℕ) → (f ≡ 0 → ⊥) →
-          stops (refused f (kind_concerned f l.kind) (words_read s)) ≡ judged (reading_at ws s) l words (numbered f)
-      positive zero h = absurd (h refl)
-      positive (suc n) h = refl
 
   -- Taken: no fault
 
-  pub taken_sound : {next : Shape} {r : Step} → Stepped ws next (step_as ws s l) r → (t : Shape) → r ≡ Step.Next t → numbered 0 ≡ fault_at ws s l
+  pub taken_sound : {next : Shape} {r : Step} → Stepped ws next (step_as ws s l) r → (t : Shape) → r ≡ Step.Next t → numbered (Ok tt) ≡ fault_at ws s l
   taken_sound h t n = go (fault_at ws s l) (sym (ap (step_values ws) n) ∙ h.value)
     where
-      go : (o : Option ℕ) → goes_on (reading_at ws t) ≡ judged (reading_at ws s) l words o → numbered 0 ≡ o
+      go : (o : Option ℕ) → goes_on (reading_at ws t) ≡ judged (reading_at ws s) l words o → numbered (Ok tt) ≡ o
       go none e = refl
       go (some f) e = let z : ◌≡◌ {A = ℕ} 0 1 = cc in absurd (omega arith)
 
-  module _ (sound : numbered 0 ≡ fault_at ws s l) where
+  module _ (sound : numbered (Ok tt) ≡ fault_at ws s l) where
     none_applies : NoFault (faults (reading_at ws s) l words)
     none_applies = no_fault (faults (reading_at ws s) l words) (sym sound)
 
@@ -172,7 +166,7 @@ module _ {A : Type 0} (decoded : List ℕ → A) (width from : ℕ) (ws : List �
       ∙ ap (λ (k : ℕ). records_at decoded width from ws n ++ (decoded (drop k ws) ∷ [])) e
 
 module _ (ws : List ℕ) (s : Shape) where
-  pub bridge-taken : (r : Step) → numbered 0 ≡ fault_at ws s bridge_layout → r ≡ Step.Next (with_bridge s) → Stepped ws (with_bridge s) (step_as ws s bridge_layout) r
+  pub bridge-taken : (r : Step) → numbered (Ok tt) ≡ fault_at ws s bridge_layout → r ≡ Step.Next (with_bridge s) → Stepped ws (with_bridge s) (step_as ws s bridge_layout) r
   bridge-taken r e g =
       taken_step ws s bridge_layout e (with_bridge s) r
       (same-reading (omega arith) last
@@ -203,7 +197,7 @@ module _ (ws : List ℕ) (s : Shape) where
       last = simp (le-ltb 0 s.traffic (omega (arith, n)), le-ltb 0 s.members (omega (arith, m)), le-ltb 0 s.vids (omega (arith, v)), le-ltb 0 s.half_links (omega (arith, h)), lt-ltb 0 (s.bridges + 1) (omega arith))
 
   pub half_link-taken :
-      (r : Step) → numbered 0 ≡ fault_at ws s half_link_layout → r ≡ Step.Next (with_half_link s) → Stepped ws (with_half_link s) (step_as ws s half_link_layout) r
+      (r : Step) → numbered (Ok tt) ≡ fault_at ws s half_link_layout → r ≡ Step.Next (with_half_link s) → Stepped ws (with_half_link s) (step_as ws s half_link_layout) r
   half_link-taken r e g =
       taken_step ws s half_link_layout e (with_half_link s) r
       (same-reading (omega arith) last
@@ -230,7 +224,7 @@ module _ (ws : List ℕ) (s : Shape) where
       last : last_kind (with_half_link s) ≡ 2
       last = simp (le-ltb 0 s.traffic (omega (arith, n)), le-ltb 0 s.members (omega (arith, m)), le-ltb 0 s.vids (omega (arith, v)), lt-ltb 0 (s.half_links + 1) (omega arith))
 
-  pub vid-taken : (r : Step) → numbered 0 ≡ fault_at ws s vid_layout → r ≡ Step.Next (with_vid s) → Stepped ws (with_vid s) (step_as ws s vid_layout) r
+  pub vid-taken : (r : Step) → numbered (Ok tt) ≡ fault_at ws s vid_layout → r ≡ Step.Next (with_vid s) → Stepped ws (with_vid s) (step_as ws s vid_layout) r
   vid-taken r e g =
       taken_step ws s vid_layout e (with_vid s) r
       (same-reading (omega arith) last
@@ -254,7 +248,7 @@ module _ (ws : List ℕ) (s : Shape) where
       last : last_kind (with_vid s) ≡ 3
       last = simp (le-ltb 0 s.traffic (omega (arith, n)), le-ltb 0 s.members (omega (arith, m)), lt-ltb 0 (s.vids + 1) (omega arith))
 
-  pub member-taken : (r : Step) → numbered 0 ≡ fault_at ws s member_layout → r ≡ Step.Next (with_member s) → Stepped ws (with_member s) (step_as ws s member_layout) r
+  pub member-taken : (r : Step) → numbered (Ok tt) ≡ fault_at ws s member_layout → r ≡ Step.Next (with_member s) → Stepped ws (with_member s) (step_as ws s member_layout) r
   member-taken r e g =
       taken_step ws s member_layout e (with_member s) r
       (same-reading (omega arith) last
@@ -273,7 +267,7 @@ module _ (ws : List ℕ) (s : Shape) where
       last = simp (le-ltb 0 s.traffic (omega (arith, n)), lt-ltb 0 (s.members + 1) (omega arith))
 
   pub traffic-taken :
-      (r : Step) → numbered 0 ≡ fault_at ws s traffic_layout → r ≡ Step.Next (with_traffic s) → Stepped ws (with_traffic s) (step_as ws s traffic_layout) r
+      (r : Step) → numbered (Ok tt) ≡ fault_at ws s traffic_layout → r ≡ Step.Next (with_traffic s) → Stepped ws (with_traffic s) (step_as ws s traffic_layout) r
   traffic-taken r e g =
       taken_step ws s traffic_layout e (with_traffic s) r
       (same-reading (omega arith) (simp (lt-ltb 0 (s.traffic + 1) (omega arith)))
@@ -285,25 +279,25 @@ module _ (ws : List ℕ) (s : Shape) where
 pub record-there :
     (t : List ℕ) (s : Shape) (l : Layout) →
     0 < l.words →
-    numbered 0 ≡ fault_at (words_of t) s l →
+    numbered (Ok tt) ≡ fault_at (words_of t) s l →
     4 * words_read s + 4 * l.words ≤ length t
 record-there t s l h e =
     omega (arith, not_cut (words_of t) s l e, length-drop (words_read s) (words_of t), count_of_words t)
 
 module _ (ws : List ℕ) (s : Shape) where
-  pub bridge-room : numbered 0 ≡ fault_at ws s bridge_layout → s.bridges < 512
+  pub bridge-room : numbered (Ok tt) ≡ fault_at ws s bridge_layout → s.bridges < 512
   bridge-room e = omega (arith, not_full ws s bridge_layout e, how_many bridge_of 3 0 ws s.bridges)
 
-  pub half_link-room : numbered 0 ≡ fault_at ws s half_link_layout → s.half_links < 512
+  pub half_link-room : numbered (Ok tt) ≡ fault_at ws s half_link_layout → s.half_links < 512
   half_link-room e = omega (arith, not_full ws s half_link_layout e, how_many half_link_of 3 (half_links_from s) ws s.half_links)
 
-  pub vid-room : numbered 0 ≡ fault_at ws s vid_layout → s.vids + 1 ≤ 16
+  pub vid-room : numbered (Ok tt) ≡ fault_at ws s vid_layout → s.vids + 1 ≤ 16
   vid-room e = omega (arith, not_full ws s vid_layout e, how_many vid_of 1 (vids_from s) ws s.vids)
 
-  pub member-room : numbered 0 ≡ fault_at ws s member_layout → s.members < 512
+  pub member-room : numbered (Ok tt) ≡ fault_at ws s member_layout → s.members < 512
   member-room e = omega (arith, not_full ws s member_layout e, how_many member_of 2 (members_from s) ws s.members)
 
-  pub traffic-room : numbered 0 ≡ fault_at ws s traffic_layout → s.traffic < 512
+  pub traffic-room : numbered (Ok tt) ≡ fault_at ws s traffic_layout → s.traffic < 512
   traffic-room e = omega (arith, not_full ws s traffic_layout e, how_many traffic_of 2 (traffic_from s) ws s.traffic)
 
   -- The record that was read at the word `at` is the next of its kind.
@@ -323,7 +317,7 @@ module _ (ws : List ℕ) (s : Shape) where
       (b : Bridge) (at key : ℕ) →
       at ≡ words_read s →
       b ≡ bridge_of (drop at ws) →
-      numbered 0 ≡ fault_at ws s bridge_layout →
+      numbered (Ok tt) ≡ fault_at ws s bridge_layout →
       key ≡ address_key b →
       Entered sources sources' s.bridges b.sp_source_id →
       Entered addresses addresses' s.bridges key →
@@ -352,7 +346,7 @@ module _ (ws : List ℕ) (s : Shape) where
       (h : HalfLink) (at key : ℕ) →
       at ≡ words_read s →
       h ≡ half_link_of (drop at ws) →
-      numbered 0 ≡ fault_at ws s half_link_layout →
+      numbered (Ok tt) ≡ fault_at ws s half_link_layout →
       key ≡ port_key h →
       Entered ports ports' s.half_links key →
       Entered links links' s.half_links h.link →
@@ -381,7 +375,7 @@ module _ (ws : List ℕ) (s : Shape) where
       (m : Member) (at key : ℕ) →
       at ≡ words_read s →
       m ≡ member_of (drop at ws) →
-      numbered 0 ≡ fault_at ws s member_layout →
+      numbered (Ok tt) ≡ fault_at ws s member_layout →
       key ≡ member_key m →
       Entered members members' s.members key →
       r ≡ Step.Next (with_member s) →

@@ -1,6 +1,6 @@
 -- What stands after the records of the kinds 1 to 5: nothing, a record out of its order or of an unknown kind, or the end record.
 -- Assumes nothing.
-use Rattle.std.specs.Prelude.{ℕ, zero, suc, ◌-◌, ◌≤◌, ◌<◌, ◌≡◌, refl, ◌⊎◌, true, false}
+use Rattle.std.specs.Prelude.{ℕ, zero, suc, ◌-◌, ◌≤◌, ◌<◌, ◌≡◌, refl, ◌⊎◌, true, false, Ok, Err}
 use Rattle.std.proofs.Common.{arith, sym, ◌∙◌, inl, inr, lt-ltb, eq-eqb}
 use Rattle.std.proofs.Math.Path.{ap}
 use mathlib.Core.List.{List, []}
@@ -17,6 +17,8 @@ use Rattle.rule.specs.Plan.{Plan}
 use Rattle.rule.specs.Check.{kind_concerned, lowest_fault, stops, judged, read_as, read_from, step_of, after, read_on, start}
 use Rattle.table.specs.declared.shape.Shape.{Shape}
 use Rattle.table.specs.Positions.{half_links_from, vids_from, members_from, traffic_from, words_read, last_kind, plan_at, reading_at}
+use Rattle.rule.specs.Refusals.{fault_number}
+use Rattle.rule.specs.declared.refusal.Fault.{Fault}
 use Rattle.faults.specs.Faults.{numbered, fault_at}
 use Rattle.steps.specs.Steps.{concerned, step_as}
 use Rattle.steps.proofs.laws.StepLaws.{NoneAfter, none_after, kind-concerned}
@@ -130,22 +132,17 @@ module _ {ws : List ℕ} {s : Shape} (R : Reached ws s) where
         ∙ ap (read_as (reading_at ws s) (drop (words_read s) ws)) end-kind
 
     pub end_refused :
-        (f : ℕ) → numbered f ≡ fault_at ws s end_layout → (f ≡ 0 → ⊥) → (kind : RecordKind) → kind ≡ concerned f RecordKind.End →
+        (f : Fault) → numbered (Err f) ≡ fault_at ws s end_layout → (number : ℕ) → number ≡ fault_number f →
+        (kind : RecordKind) → kind ≡ concerned number RecordKind.End →
         (at : ℕ) → at ≡ words_read s →
-        refused f (kind_number kind) at ≡ read_on (length ws) ws start
-    end_refused f n h kind k at a =
-        (λ i. refused f (kind_number (k i)) (a i))
-        ∙ ap (λ (c : _). refused f c (words_read s)) (kind-concerned f 15 RecordKind.End refl)
-        ∙ stops_with (word-there ws 15 (words_read s) e) (refused f (kind_concerned f 15) (words_read s))
-        (end_step ∙ ap (judged (reading_at ws s) end_layout (drop (words_read s) ws)) (sym n) ∙ sym (positive f h))
-      where
-        positive :
-            (f : ℕ) → (f ≡ 0 → ⊥) →
-            stops (refused f (kind_concerned f 15) (words_read s)) ≡ judged (reading_at ws s) end_layout (drop (words_read s) ws) (numbered f)
-        positive zero h = absurd (h refl)
-        positive (suc n) h = refl
+        refused number (kind_number kind) at ≡ read_on (length ws) ws start
+    end_refused f n number m kind k at a =
+        (λ i. refused (m i) (kind_number (k i)) (a i))
+        ∙ ap (λ (c : _). refused (fault_number f) c (words_read s)) (kind-concerned number 15 RecordKind.End refl ∙ ap (λ x. kind_concerned x 15) m)
+        ∙ stops_with (word-there ws 15 (words_read s) e) (refused (fault_number f) (kind_concerned (fault_number f) 15) (words_read s))
+        (end_step ∙ ap (judged (reading_at ws s) end_layout (drop (words_read s) ws)) (sym n))
 
-    pub end-accepted : numbered 0 ≡ fault_at ws s end_layout → answered (plan_at ws s) ≡ read_on (length ws) ws start
+    pub end-accepted : numbered (Ok tt) ≡ fault_at ws s end_layout → answered (plan_at ws s) ≡ read_on (length ws) ws start
     end-accepted n =
         stops_with (word-there ws 15 (words_read s) e) (answered (plan_at ws s))
         (end_step ∙ ap (judged (reading_at ws s) end_layout (drop (words_read s) ws)) (sym n))

@@ -1,4 +1,5 @@
 -- `branches::branches::tree_in_table` answers by the tree that the call names. Assumes nothing.
+use Rattle.rule.specs.Refusals.{refused_by}
 use native.Mathlib.Omega.{arith}
 use mathlib.Core.Path.{sym, ap, ◌∙◌}
 use Rattle.rule.specs.Words.{words_of}
@@ -12,7 +13,7 @@ pub returns-then-index-eq0 : goal.returns-then-index-eq0
 returns-then-index-eq0 c =
     let (checked, _) = c.requires in
     no_branches_named (plan_at (words_of c.args.table.now) c.args.s) checked.laws c.args.vid
-    c.args.from c.named_tree-index.ensures _ c.refused.ensures c.args.costs.now
+    c.args.from c.named_tree-index.ensures _ (c.from.ensures ∙ ap refused_by c.of_call.ensures) c.args.costs.now
     c.args.hops.now c.args.lasts.now c.if-index-eq0.true
 
 pub labelled_branches-requires : goal.labelled_branches-requires

@@ -4,13 +4,15 @@ use mathlib.Core.Path.{ap, ◌∙◌}
 use Prim.Native.Nat.{ℕ, ◌≤◌}
 use lib.ListN.{length-take}
 use Rattle.rule.specs.Outcome.{Outcome, Written, lent_to}
+use Rattle.rule.specs.Refusals.{refused_by}
 use Rattle.entries.proofs.laws.WholeLaws.{lacks_bridge, few-made, answer-made}
 use Rattle.entries.proofs.list.entries_in_table.Goals as goal
 
 pub returns-then-s-bridge : goal.returns-then-s-bridge
 returns-then-s-bridge c =
     let (checked, _) = c.requires in
-    lacks_bridge checked _ c.if-s-bridge.true c.args.list.now
+    ap (λ (o : Outcome ℕ). (o, c.args.list.now)) (c.from.ensures ∙ ap refused_by c.of_call.ensures)
+    ∙ lacks_bridge checked _ c.if-s-bridge.true c.args.list.now
 
 pub slice_bounds-words-end : goal.slice_bounds-words-end
 slice_bounds-words-end c =

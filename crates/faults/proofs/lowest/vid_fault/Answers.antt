@@ -1,59 +1,34 @@
--- `faults::lowest::vid_fault` finds the lowest fault of a record of kind 3: those that it shows by itself, then those left. Assumes nothing.
+-- `faults::lowest::vid_fault` finds the lowest fault of a record of kind 3: one that it shows by itself, then those left. Assumes nothing.
 use native.Mathlib.Omega.{arith}
-use mathlib.Core.Path.{◌≡◌, refl, sym, ap, ◌∙◌}
-use mathlib.Core.Bool.{Bool, true, false, cond}
+use mathlib.Core.Path.{refl, sym}
+use mathlib.Core.Bool.{true, false}
 use Rattle.rule.specs.Words.{words_of}
+use Rattle.rule.specs.Records.{vid, vid_of, vid_layout}
 use Rattle.table.specs.Positions.{vids_from}
 use Rattle.table.proofs.laws.PositionLaws.{how_many}
-use Rattle.readers.specs.Readers.{vid_read}
-use Rattle.faults.specs.Faults.{numbered, fault_at}
-use Rattle.faults.proofs.laws.FaultLaws.{ReadAt, read_at, own_fault_lem, found_fault_lem, left-fault}
-use Rattle.rule.specs.Records.{vid_of, vid_layout}
-use Rattle.readers.specs.declared.vid.VidRead.{VidRead}
+use Rattle.readers.specs.Readers.{vid_values}
+use Rattle.faults.proofs.laws.FaultLaws.{Judged, judged, own-fault, left-fault}
+use Rattle.faults.proofs.lowest.vid_fault.Goals.{After-without_own_fault}
 use Rattle.faults.proofs.lowest.vid_fault.Goals as goal
 
-pub returns-then-own-ne0 : goal.returns-then-own-ne0
-returns-then-own-ne0 c =
-    let as_read : ReadAt vid_layout c.args.table.now c.args.s (vid_read c.read_vid-read.result) c.last_kind-last.result c.args.s.vids =
-    read_at vid_layout c.args.table.now c.args.s _ (omega (arith, c.words_read-at.ensures))
-    c.read_vid-read.ensures c.last_kind-last.ensures
-    (sym (how_many vid_of 1 (vids_from c.args.s) (words_of c.args.table.now) c.args.s.vids)) in own_fault_lem as_read (ap (λ (x : VidRead). vid_read x) c.in-Record.is)
-    c.own_fault-own.ensures c.if-own-ne0.true
+as_judged :
+    (c : After-without_own_fault) →
+    Judged (λ v. vid (vid_values v)) vid_layout c.args.table.now c.args.s c.without_own_fault.result
+as_judged c =
+    judged _ vid_layout c.args.table.now c.args.s _ _ _ (omega (arith, c.words_read-at.ensures)) c.read_vid-read.ensures c.last_kind.ensures
+    (sym (how_many vid_of 1 (vids_from c.args.s) (words_of c.args.table.now) c.args.s.vids)) c.without_own_fault.ensures
+
+pub returns-in_err-v : goal.returns-in_err-v
+returns-in_err-v c =
+    own-fault (as_judged (goal.at.returns-in_err-v c).After-without_own_fault) _ c.in_err-v.was _
+    c.from_residual.ensures.1
 
 pub returns-then-is_vid_known : goal.returns-then-is_vid_known
 returns-then-is_vid_known c =
-    let as_read : ReadAt vid_layout c.args.table.now c.args.s (vid_read c.read_vid-read.result) c.last_kind-last.result c.args.s.vids =
-    read_at vid_layout c.args.table.now c.args.s _ (omega (arith, c.words_read-at.ensures))
-    c.read_vid-read.ensures c.last_kind-last.ensures
-    (sym (how_many vid_of 1 (vids_from c.args.s) (words_of c.args.table.now) c.args.s.vids)) in
-    let by-repeat : (is : Bool) → c.is_vid_known.result ≡ is → numbered (cond is 8 0) ≡ fault_at (words_of c.args.table.now) c.args.s vid_layout =
-    λ is e. left-fault as_read (ap (λ (x : VidRead). vid_read x) c.in-Record.is)
-    c.own_fault-own.ensures c.if-own-ne0.false false false is false false refl refl
-    (sym (rw c.vids_from.ensures at c.is_vid_known.ensures) ∙ e) refl refl in by-repeat true c.if-is_vid_known.true
+    left-fault (as_judged (goal.at.returns-then-is_vid_known c).After-without_own_fault) _ c.in_ok-v.was
+    false false true false false refl refl (sym (rw c.vids_from.ensures at c.if-is_vid_known.ensures)) refl refl
 
-pub returns-in-Cut : goal.returns-in-Cut
-returns-in-Cut c =
-    let as_read : ReadAt vid_layout c.args.table.now c.args.s (vid_read c.read_vid-read.result) c.last_kind-last.result c.args.s.vids =
-    read_at vid_layout c.args.table.now c.args.s _ (omega (arith, c.words_read-at.ensures))
-    c.read_vid-read.ensures c.last_kind-last.ensures
-    (sym (how_many vid_of 1 (vids_from c.args.s) (words_of c.args.table.now) c.args.s.vids)) in found_fault_lem as_read (ap (λ (x : VidRead). vid_read x) c.in-Cut.is)
-    c.own_fault.ensures (λ z. absurd (omega arith))
-
-pub returns-in-OutOfRange : goal.returns-in-OutOfRange
-returns-in-OutOfRange c =
-    let as_read : ReadAt vid_layout c.args.table.now c.args.s (vid_read c.read_vid-read.result) c.last_kind-last.result c.args.s.vids =
-    read_at vid_layout c.args.table.now c.args.s _ (omega (arith, c.words_read-at.ensures))
-    c.read_vid-read.ensures c.last_kind-last.ensures
-    (sym (how_many vid_of 1 (vids_from c.args.s) (words_of c.args.table.now) c.args.s.vids)) in found_fault_lem as_read (ap (λ (x : VidRead). vid_read x) c.in-OutOfRange.is)
-    c.own_fault-in-OutOfRange.ensures (λ z. absurd (omega arith))
-
-pub returns-else-is_vid_known : goal.returns-else-is_vid_known
-returns-else-is_vid_known c =
-    let as_read : ReadAt vid_layout c.args.table.now c.args.s (vid_read c.read_vid-read.result) c.last_kind-last.result c.args.s.vids =
-    read_at vid_layout c.args.table.now c.args.s _ (omega (arith, c.words_read-at.ensures))
-    c.read_vid-read.ensures c.last_kind-last.ensures
-    (sym (how_many vid_of 1 (vids_from c.args.s) (words_of c.args.table.now) c.args.s.vids)) in
-    let by-repeat : (is : Bool) → c.is_vid_known.result ≡ is → numbered (cond is 8 0) ≡ fault_at (words_of c.args.table.now) c.args.s vid_layout =
-    λ is e. left-fault as_read (ap (λ (x : VidRead). vid_read x) c.in-Record.is)
-    c.own_fault-own.ensures c.if-own-ne0.false false false is false false refl refl
-    (sym (rw c.vids_from.ensures at c.is_vid_known.ensures) ∙ e) refl refl in by-repeat false c.if-is_vid_known.false
+pub returns : goal.returns
+returns c =
+    left-fault (as_judged (goal.at.returns c).After-without_own_fault) _ c.in_ok-v.was
+    false false false false false refl refl (sym (rw c.vids_from.ensures at c.if-is_vid_known.ensures)) refl refl

@@ -1,4 +1,5 @@
 -- `path::path::path_in_table` answers by the tree that the call names. Assumes nothing.
+use Rattle.rule.specs.Refusals.{refused_by}
 use native.Mathlib.Omega.{arith}
 use mathlib.Core.Path.{ap, ◌∙◌}
 use Rattle.rule.specs.Words.{words_of}
@@ -11,7 +12,7 @@ pub returns-then-index-eq0 : goal.returns-then-index-eq0
 returns-then-index-eq0 c =
     let (checked, _) = c.requires in
     nothing-named (plan_at (words_of c.args.table.now) c.args.s) checked.laws c.args.vid
-    c.args.from c.args.to c.named_tree-index.ensures _ c.refused.ensures c.args.list.now
+    c.args.from c.args.to c.named_tree-index.ensures _ (c.from.ensures ∙ ap refused_by c.of_call.ensures) c.args.list.now
     c.if-index-eq0.true
 
 pub labelled_path-requires : goal.labelled_path-requires

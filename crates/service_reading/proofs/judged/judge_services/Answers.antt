@@ -9,24 +9,24 @@ use Rattle.service_reading.proofs.judged.judge_services.Goals as goal
 pub loop-n-init : goal.loop-n-init
 loop-n-init c = judging_starts _ _
 
-pub service_fault-fault-requires : goal.service_fault-fault-requires
-service_fault-fault-requires c = omega (arith, c.loop-n-test.true)
+pub service_fault-requires : goal.service_fault-requires
+service_fault-requires c = omega (arith, c.loop-n-test.true)
 
-pub overflow_cast-result : goal.overflow_cast-result
-overflow_cast-result c = omega (arith, c.requires, c.loop-n-test.true)
+pub overflow_cast-n : goal.overflow_cast-n
+overflow_cast-n c = omega (arith, c.requires, c.loop-n-test.true)
 
-pub returns-then-fault-ne0 : goal.returns-then-fault-ne0
-returns-then-fault-ne0 c =
-    judging_refuses c.loop-n.invariant (omega (arith, c.loop-n-test.true, service_count c.args.services.now)) _
-    c.if-fault-ne0.true c.service_fault-fault.ensures
+pub returns-in-Err : goal.returns-in-Err
+returns-in-Err c =
+    c.from.ensures
+    ∙ judging_refuses c.loop-n.invariant (omega (arith, c.loop-n-test.true, service_count c.args.services.now)) _
+    c.in-Err.ensures _ c.number.ensures
 
 pub loop-n-preserved : goal.loop-n-preserved
 loop-n-preserved c =
-    judging_on c.loop-n.invariant (omega (arith, c.loop-n-test.true, service_count c.args.services.now)) _
-    c.if-fault-ne0.false c.service_fault-fault.ensures
+    judging_on c.loop-n.invariant (omega (arith, c.loop-n-test.true, service_count c.args.services.now)) c.in_default.ensures
 
-pub overflow_cast-result-2 : goal.overflow_cast-result-2
-overflow_cast-result-2 c = omega (arith, c.requires)
+pub overflow_cast-result : goal.overflow_cast-result
+overflow_cast-result c = omega (arith, c.requires)
 
 pub overflow_mul-result : goal.overflow_mul-result
 overflow_mul-result c = omega (arith, c.requires)

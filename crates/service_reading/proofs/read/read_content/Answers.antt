@@ -1,4 +1,5 @@
 -- `service_reading::read::read_content` asks for the bridge and the VID before the services. Assumes nothing.
+use Rattle.rule.specs.Refusals.{refused_by}
 use Prim.Native.Nat.{ℕ}
 use Rattle.rule.specs.Outcome.{Outcome}
 use Rattle.rule.specs.Plan.{known_bridge, known_vid}
@@ -18,7 +19,7 @@ returns-then-s-bridge c =
     let s = c.args.s in
     let words = words_of table in
     let plan = plan_at words s in
-    ap (λ (o : Outcome ℕ). (o, c.args.words.now)) c.refused.ensures
+    ap (λ (o : Outcome ℕ). (o, c.args.words.now)) (c.from.ensures ∙ ap refused_by c.of_call.ensures)
     ∙ no_bridge_lem plan (words_of c.args.content.now) c.args.words.now
     (ap (known_bridge plan)
     (sym
@@ -29,7 +30,7 @@ returns-then-s-bridge c =
 pub returns-then-not-has_vid : goal.returns-then-not-has_vid
 returns-then-not-has_vid c =
     let (base-vid-is, _) = c.base_vid-vid.ensures in
-    ap (λ (o : Outcome ℕ). (o, c.args.words.now)) c.refused-then-not-has_vid.ensures
+    ap (λ (o : Outcome ℕ). (o, c.args.words.now)) (c.from-then-not-has_vid.ensures ∙ ap refused_by c.of_call-then-not-has_vid.ensures)
     ∙ no_vid_lem (plan_at (words_of c.args.table.now) c.args.s) (words_of c.args.content.now)
     c.args.words.now
     (ap (known_vid (plan_at (words_of c.args.table.now) c.args.s)) (sym base-vid-is)

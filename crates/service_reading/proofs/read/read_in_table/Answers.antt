@@ -1,4 +1,5 @@
 -- `service_reading::read::read_in_table` tells a sub-TLV from other bytes first. Assumes nothing.
+use Rattle.rule.specs.Refusals.{refused_by}
 use Prim.Native.Nat.{ℕ}
 use Rattle.rule.specs.Outcome.{Outcome}
 use Rattle.rule.specs.Words.{words_of}
@@ -11,7 +12,7 @@ use Rattle.service_reading.proofs.read.read_in_table.Goals as goal
 pub returns-then-is_no_sub_tlv : goal.returns-then-is_no_sub_tlv
 returns-then-is_no_sub_tlv c =
     let (is-no-sub-tlv-is, _) = c.is_no_sub_tlv.ensures in
-    ap (λ (o : Outcome ℕ). (o, c.args.words.now)) c.refused.ensures
+    ap (λ (o : Outcome ℕ). (o, c.args.words.now)) (c.from.ensures ∙ ap refused_by c.of_call.ensures)
     ∙ no_sub_tlv_lem (plan_at (words_of c.args.table.now) c.args.s) c.args.bytes.now
     c.args.words.now (sym is-no-sub-tlv-is ∙ c.if-is_no_sub_tlv.true)
 

@@ -1,4 +1,5 @@
 -- `service_reading::read::read_services` passes the first fault on, or writes the records where they fit. Assumes nothing.
+use Rattle.rule.specs.Refusals.{refused_by}
 use Prim.Native.Nat.{ℕ}
 use Rattle.rule.specs.Outcome.{Outcome}
 use Rattle.rule.specs.Words.{words_of}
@@ -8,7 +9,7 @@ use Rattle.service_reading.proofs.read.read_services.Goals as goal
 
 pub returns-then-words-count : goal.returns-then-words-count
 returns-then-words-count c =
-    ap (λ (o : Outcome ℕ). (o, c.args.words.now)) c.refused.ensures
+    ap (λ (o : Outcome ℕ). (o, c.args.words.now)) (c.from.ensures ∙ ap refused_by c.of_call.ensures)
     ∙ judged-short c.args.bridge c.args.vid (words_of c.args.services.now) c.args.words.now _
     c.judge_services-judged.ensures _ c.in-Read.is c.if-words-count.true
 

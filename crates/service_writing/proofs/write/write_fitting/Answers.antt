@@ -1,4 +1,5 @@
 -- `service_writing::write::write_fitting` refuses a list that is too short and writes to one that is not. Assumes nothing.
+use Rattle.rule.specs.Refusals.{refused_by}
 use Prim.Native.Nat.{ℕ}
 use Rattle.rule.specs.Outcome.{Outcome}
 use Rattle.rule.specs.Services.{sub_tlvs}
@@ -10,7 +11,7 @@ use Rattle.service_writing.proofs.write.write_fitting.Goals as goal
 
 pub returns-then-bytes-needed : goal.returns-then-bytes-needed
 returns-then-bytes-needed c =
-    ap (λ (o : Outcome ℕ). (o, c.args.bytes.now)) c.refused.ensures
+    ap (λ (o : Outcome ℕ). (o, c.args.bytes.now)) (c.from.ensures ∙ ap refused_by c.of_call.ensures)
     ∙ fits_not (sub_tlvs c.args.b_mac c.args.vid c.args.services.now) c.args.bytes.now
     (omega (
       arith,

@@ -1,4 +1,5 @@
 -- `service_writing::write::write_in_table` asks for the bridge and the VID before the members. Assumes nothing.
+use Rattle.rule.specs.Refusals.{refused_by}
 use Prim.Native.Nat.{ℕ}
 use Rattle.lists.proofs.laws.AppendingLaws.{front_is}
 use Rattle.rule.specs.Outcome.{Outcome}
@@ -13,13 +14,13 @@ use Rattle.service_writing.proofs.write.write_in_table.Goals as goal
 
 pub returns-then-s-bridge : goal.returns-then-s-bridge
 returns-then-s-bridge c =
-    ap (λ (o : Outcome ℕ). (o, c.args.bytes.now)) c.refused.ensures
+    ap (λ (o : Outcome ℕ). (o, c.args.bytes.now)) (c.from.ensures ∙ ap refused_by c.of_call.ensures)
     ∙ no_bridge_lem (plan_at (words_of c.args.table.now) c.args.s) c.args.bridge c.args.vid
     c.args.bytes.now (bridge-unknown c.requires _ c.if-s-bridge.true)
 
 pub returns-then-not-has_vid : goal.returns-then-not-has_vid
 returns-then-not-has_vid c =
-    ap (λ (o : Outcome ℕ). (o, c.args.bytes.now)) c.refused-then-not-has_vid.ensures
+    ap (λ (o : Outcome ℕ). (o, c.args.bytes.now)) (c.from-then-not-has_vid.ensures ∙ ap refused_by c.of_call-then-not-has_vid.ensures)
     ∙ no_vid_lem (plan_at (words_of c.args.table.now) c.args.s) c.args.bridge c.args.vid
     c.args.bytes.now (sym c.has_vid.ensures ∙ c.if-not-has_vid.true)
 

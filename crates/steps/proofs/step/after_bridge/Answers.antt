@@ -1,21 +1,20 @@
 -- `steps::step::after_bridge` refuses the record by its lowest fault, or takes it and enters its keys. Assumes nothing.
 use native.Mathlib.Omega.{arith}
-use mathlib.Core.Path.{refl, sym, ap, ◌∙◌}
+use mathlib.Core.Path.{refl}
 use Rattle.rule.specs.declared.answer.RecordKind.{RecordKind}
 use Rattle.rule.specs.Words.{words_of}
 use Rattle.rule.specs.Records.{bridge_layout}
 use Rattle.readers.specs.Readers.{bridge_values}
 use Rattle.earlier.specs.Keys.{BridgeIndexes}
-use Rattle.faults.specs.Faults.{numbered}
 use Rattle.steps.specs.Steps.{with_bridge}
 use Rattle.steps.proofs.laws.StepLaws.{refused-step, refused_keeps, record-there, bridge-room, bridge-taken, bridges-kept}
 use Rattle.steps.proofs.step.after_bridge.Goals as goal
 
-pub returns-then-fault-ne0 : goal.returns-then-fault-ne0
-returns-then-fault-ne0 c =
+pub returns-in-Err : goal.returns-in-Err
+returns-in-Err c =
     record {
       stepped = refused-step (words_of c.args.table.now) c.args.s bridge_layout (with_bridge c.args.s)
-          c.bridge_fault-fault.result RecordKind.Bridge _ c.bridge_fault-fault.ensures c.if-fault-ne0.true refl
+          c.in-Err.fault RecordKind.Bridge _ c.in-Err.ensures refl
           c.words_read-at.result c.words_read-at.ensures c.refusal.ensures;
       bridges_kept = refused_keeps (λ t. BridgeIndexes _ _ (words_of c.args.table.now) t.bridges) c.refusal.ensures;
     }
@@ -26,7 +25,7 @@ bridge_at-b-requires c =
       arith,
       c.words_read-at.ensures,
       record-there c.args.table.now c.args.s bridge_layout (omega arith)
-          (ap numbered (sym c.if-fault-ne0.false) ∙ c.bridge_fault-fault.ensures),
+          c.in_default.ensures,
     )
 
 pub enter-requires : goal.enter-requires
@@ -34,7 +33,7 @@ enter-requires c =
     let bridge-indexes = c.requires.bridge_indexes in (
       bridge-indexes.by_source.indexed,
       bridge-room (words_of c.args.table.now) c.args.s
-          (ap numbered (sym c.if-fault-ne0.false) ∙ c.bridge_fault-fault.ensures),
+          c.in_default.ensures,
     )
 
 pub enter-requires-2 : goal.enter-requires-2
@@ -42,17 +41,17 @@ enter-requires-2 c =
     let bridge-indexes = c.requires.bridge_indexes in (
       bridge-indexes.by_address.indexed,
       bridge-room (words_of c.args.table.now) c.args.s
-          (ap numbered (sym c.if-fault-ne0.false) ∙ c.bridge_fault-fault.ensures),
+          c.in_default.ensures,
     )
 
 pub returns : goal.returns
 returns c =
     let bridge-indexes = c.requires.bridge_indexes in record {
       stepped = bridge-taken (words_of c.args.table.now) c.args.s _
-          (ap numbered (sym c.if-fault-ne0.false) ∙ c.bridge_fault-fault.ensures) refl;
+          c.in_default.ensures refl;
       bridges_kept = bridges-kept (words_of c.args.table.now) c.args.s bridge-indexes
           (bridge_values c.bridge_at-b.result) c.words_read-at.result c.address_key.result
           c.words_read-at.ensures c.bridge_at-b.ensures
-          (ap numbered (sym c.if-fault-ne0.false) ∙ c.bridge_fault-fault.ensures) c.address_key.ensures
+          c.in_default.ensures c.address_key.ensures
           c.enter.ensures c.enter-2.ensures refl;
     }

@@ -1,8 +1,7 @@
 -- `verdict::examine::read_last` reads the end record, or refuses what stands in its place. Assumes nothing.
 use native.Mathlib.Omega.{arith}
-use mathlib.Core.Path.{sym, ap, ◌∙◌}
+use mathlib.Core.Path.{sym, ◌∙◌}
 use Rattle.readers.proofs.laws.WordLaws.{count_of_words}
-use Rattle.faults.specs.Faults.{numbered}
 use Rattle.verdict.proofs.laws.LastLaws.{no_end, out_of_order, end_refused, end-accepted}
 use Rattle.verdict.proofs.laws.ExaminationLaws.{refused_accepts_none, accepted_as_read}
 use Rattle.verdict.proofs.examine.read_last.Goals as goal
@@ -24,11 +23,11 @@ returns-then-not-is_next c =
       accepted_as = refused_accepts_none;
     }
 
-pub returns-then-fault-ne0 : goal.returns-then-fault-ne0
-returns-then-fault-ne0 c =
+pub returns-in-Err : goal.returns-in-Err
+returns-in-Err c =
     let (_, reached, _) = c.requires in record {
-      result_value = end_refused reached (sym c.is_next.ensures ∙ c.if-not-is_next.false) c.end_fault-fault.result
-          c.end_fault-fault.ensures c.if-fault-ne0.true c.kind_concerned.result c.kind_concerned.ensures
+      result_value = end_refused reached (sym c.is_next.ensures ∙ c.if-not-is_next.false) c.in-Err.fault
+          c.in-Err.ensures c.number-number.result c.number-number.ensures c.kind_concerned.result c.kind_concerned.ensures
           c.words_read-at.result c.words_read-at.ensures;
       accepted_as = refused_accepts_none;
     }
@@ -37,6 +36,6 @@ pub returns : goal.returns
 returns c =
     let (_, reached, _) = c.requires in record {
       result_value = end-accepted reached (sym c.is_next.ensures ∙ c.if-not-is_next.false)
-          (ap numbered (sym c.if-fault-ne0.false) ∙ c.end_fault-fault.ensures);
+          c.in_default.ensures;
       accepted_as = accepted_as_read;
     }
