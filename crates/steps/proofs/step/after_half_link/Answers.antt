@@ -18,7 +18,7 @@ returns-then-fault-ne0 c =
       stepped = refused-step (words_of c.args.table.now) c.args.s half_link_layout (with_half_link c.args.s)
           c.half_link_fault-fault.result RecordKind.HalfLink _ c.half_link_fault-fault.ensures
           c.if-fault-ne0.true refl c.words_read-at.result c.words_read-at.ensures c.refusal.ensures;
-      half_links_kept = refused_keeps (λ t. HalfLinkIndexes _ _ (words_of c.args.table.now) t) c.refusal.ensures;
+      half_links_kept = refused_keeps (λ t. HalfLinkIndexes _ _ (words_of c.args.table.now) t);
     }
 
 pub half_link_at-h-requires : goal.half_link_at-h-requires
@@ -54,11 +54,11 @@ enter-requires-2 c =
 pub returns : goal.returns
 returns c =
     let half-link-indexes = c.requires.half_link_indexes in record {
-      stepped = half_link-taken (words_of c.args.table.now) c.args.s _
-          (ap numbered (sym c.if-fault-ne0.false) ∙ c.half_link_fault-fault.ensures) refl;
+      stepped = half_link-taken (words_of c.args.table.now) c.args.s
+          (ap numbered (sym c.if-fault-ne0.false) ∙ c.half_link_fault-fault.ensures);
       half_links_kept = half_links_kept (words_of c.args.table.now) c.args.s half-link-indexes
           (half_link_values c.half_link_at-h.result) c.words_read-at.result c.port_key.result
           c.words_read-at.ensures c.half_link_at-h.ensures
           (ap numbered (sym c.if-fault-ne0.false) ∙ c.half_link_fault-fault.ensures) c.port_key.ensures
-          c.enter.ensures c.enter-2.ensures refl;
+          c.enter.ensures c.enter-2.ensures;
     }

@@ -20,7 +20,7 @@ returns-then-fault-ne0 c =
       stepped = refused-step (words_of c.args.table.now) c.args.s member_layout (with_member c.args.s)
           c.member_fault-fault.result RecordKind.Member _ c.member_fault-fault.ensures c.if-fault-ne0.true refl
           c.words_read-at.result c.words_read-at.ensures c.refusal.ensures;
-      members_kept = refused_keeps (λ t. MemberIndex _ (words_of c.args.table.now) (members_from t) t.members) c.refusal.ensures;
+      members_kept = refused_keeps (λ t. MemberIndex _ (words_of c.args.table.now) (members_from t) t.members);
     }
 
 pub member_at-m-requires : goal.member_at-m-requires
@@ -49,8 +49,8 @@ pub returns : goal.returns
 returns c =
     let member-index = c.requires.member_index in
     let no-fault = ap numbered (sym c.if-fault-ne0.false) ∙ c.member_fault-fault.ensures in record {
-      stepped = member-taken (words_of c.args.table.now) c.args.s _ no-fault refl;
+      stepped = member-taken (words_of c.args.table.now) c.args.s no-fault;
       members_kept = members_kept (words_of c.args.table.now) c.args.s member-index (member_values c.member_at-m.result)
           c.words_read-at.result c.member_key.result c.words_read-at.ensures
-          c.member_at-m.ensures no-fault c.member_key.ensures c.enter.ensures refl;
+          c.member_at-m.ensures no-fault c.member_key.ensures c.enter.ensures;
     }

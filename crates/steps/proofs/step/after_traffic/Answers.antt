@@ -20,7 +20,7 @@ returns-then-fault-ne0 c =
       stepped = refused-step (words_of c.args.table.now) c.args.s traffic_layout (with_traffic c.args.s)
           c.traffic_fault-fault.result RecordKind.Traffic _ c.traffic_fault-fault.ensures c.if-fault-ne0.true refl
           c.words_read-at.result c.words_read-at.ensures c.refusal.ensures;
-      traffic_kept = refused_keeps (λ t. TrafficIndex _ (words_of c.args.table.now) (traffic_from t) t.traffic) c.refusal.ensures;
+      traffic_kept = refused_keeps (λ t. TrafficIndex _ (words_of c.args.table.now) (traffic_from t) t.traffic);
     }
 
 pub traffic_at-t-requires : goal.traffic_at-t-requires
@@ -48,9 +48,9 @@ enter-requires c =
 pub returns : goal.returns
 returns c =
     let traffic-index = c.requires.traffic_index in record {
-      stepped = traffic-taken (words_of c.args.table.now) c.args.s _
-          (ap numbered (sym c.if-fault-ne0.false) ∙ c.traffic_fault-fault.ensures) refl;
+      stepped = traffic-taken (words_of c.args.table.now) c.args.s
+          (ap numbered (sym c.if-fault-ne0.false) ∙ c.traffic_fault-fault.ensures);
       traffic_kept = traffic_kept (words_of c.args.table.now) c.args.s traffic-index (traffic_values c.traffic_at-t.result)
           c.words_read-at.result c.traffic_key.result c.words_read-at.ensures
-          c.traffic_at-t.ensures c.traffic_key.ensures c.enter.ensures refl;
+          c.traffic_at-t.ensures c.traffic_key.ensures c.enter.ensures;
     }

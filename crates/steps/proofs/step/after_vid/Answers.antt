@@ -16,5 +16,5 @@ returns-then-fault-ne0 c =
 
 pub returns : goal.returns
 returns c =
-    vid-taken (words_of c.args.table.now) c.args.s _
-    (ap numbered (sym c.if-fault-ne0.false) ∙ c.vid_fault-fault.ensures) refl
+    vid-taken (words_of c.args.table.now) c.args.s
+    (ap numbered (sym c.if-fault-ne0.false) ∙ c.vid_fault-fault.ensures)
