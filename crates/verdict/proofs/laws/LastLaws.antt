@@ -10,15 +10,16 @@ use Rattle.std.proofs.Math.Seq.{drop-length}
 use Rattle.lists.proofs.laws.NumberLaws.{le_or_gt, same_or_not}
 use Rattle.rule.specs.declared.answer.RecordKind.{RecordKind}
 use Rattle.rule.specs.Words.{word, bits}
+use Rattle.rule.specs.declared.refusal.Refusal.{Refusal}
+use Rattle.rule.specs.Refusals.{refused_by}
 use Rattle.rule.specs.Records.{Layout, layout_of, bridge_layout, half_link_layout, vid_layout, member_layout, traffic_layout, end_layout}
 use Rattle.rule.specs.Outcome.{Outcome, answered, refused}
-use Rattle.rule.specs.Answers.{kind_number}
 use Rattle.rule.specs.Plan.{Plan}
 use Rattle.rule.specs.Check.{kind_concerned, lowest_fault, stops, judged, read_as, read_from, step_of, after, read_on, start}
 use Rattle.table.specs.declared.shape.Shape.{Shape}
 use Rattle.table.specs.Positions.{half_links_from, vids_from, members_from, traffic_from, words_read, last_kind, plan_at, reading_at}
 use Rattle.faults.specs.Faults.{numbered, fault_at}
-use Rattle.steps.specs.Steps.{concerned, step_as}
+use Rattle.steps.specs.Steps.{refusal_of, step_as}
 use Rattle.steps.proofs.laws.StepLaws.{NoneAfter, none_after, kind-concerned}
 use Rattle.runs.specs.Runs.{is_kind, records_read, Reached, Before}
 use Rattle.runs.proofs.laws.KindLaws.{bridge-kind, half_link-kind, vid-kind, member-kind, traffic-kind, end-kind, unknown-kind, word-there, kind-there, step_by_kind}
@@ -130,12 +131,12 @@ module _ {ws : List ℕ} {s : Shape} (R : Reached ws s) where
         ∙ ap (read_as (reading_at ws s) (drop (words_read s) ws)) end-kind
 
     pub end_refused :
-        (f : ℕ) → numbered f ≡ fault_at ws s end_layout → (f ≡ 0 → ⊥) → (kind : RecordKind) → kind ≡ concerned f RecordKind.End →
-        (at : ℕ) → at ≡ words_read s →
-        refused f (kind_number kind) at ≡ read_on (length ws) ws start
-    end_refused f n h kind k at a =
-        (λ i. refused f (kind_number (k i)) (a i))
-        ∙ ap (λ (c : _). refused f c (words_read s)) (kind-concerned f 15 RecordKind.End refl)
+        (f : ℕ) → numbered f ≡ fault_at ws s end_layout → (f ≡ 0 → ⊥) → (at : ℕ) → at ≡ words_read s →
+        (r : Refusal) → r ≡ refusal_of f RecordKind.End at →
+        refused_by r ≡ read_on (length ws) ws start
+    end_refused f n h at a r g =
+        ap (λ (x : Refusal). refused_by x) g
+        ∙ (λ i. refused f (kind-concerned f 15 RecordKind.End refl i) (a i))
         ∙ stops_with (word-there ws 15 (words_read s) e) (refused f (kind_concerned f 15) (words_read s))
         (end_step ∙ ap (judged (reading_at ws s) end_layout (drop (words_read s) ws)) (sym n) ∙ sym (positive f h))
       where
