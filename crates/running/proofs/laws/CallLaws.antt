@@ -129,16 +129,33 @@ words_left_lem (some m) k ws l = omega (
   length-drop (k + 1) ws,
 )
 
-module _ (r : Running) (c : Change) (bytes : List ℕ) (len : ℕ) (within : len ≤ length bytes) (front : FrontOf len r.length (length bytes))
-    (in_range_lem : Bool) (is_range : in_range_lem ≡ not (metric_out c.metric)) (room k : ℕ) (may : permission (take len bytes) r c.name in_range_lem room ≡ answered k) where
+-- What the answer of `permit` says.
+pub at_permitted : (a : Result ℕ Refusal) (k : ℕ) (t : List ℕ) (r : Running) (n : HalfLinkName) (in_range_lem : Bool) (room : ℕ) → a ≡ Ok k
+    → permitted_values a ≡ permission t r n in_range_lem room → permission t r n in_range_lem room ≡ answered k
+at_permitted a k t r n in_range_lem room e f = sym f ∙ ap permitted_values e
+
+-- A change that `permit` allows of the table at the front of the lent bytes.
+pub record MayChange (r : Running) (c : Change) (bytes : List ℕ) (len : ℕ) (in_range_lem : Bool) (room k : ℕ) : Type 0 where
+  pub within : len ≤ length bytes
+  pub front : FrontOf len r.length (length bytes)
+  pub is_range : in_range_lem ≡ not (metric_out c.metric)
+  pub may : permission (take len bytes) r c.name in_range_lem room ≡ answered k
+
+pub may_change : (r : Running) (c : Change) (bytes : List ℕ) (len : ℕ) → (len ≤ length bytes) × FrontOf len r.length (length bytes)
+    → (in_range_lem : Bool) → in_range_lem ≡ not (metric_out c.metric) → (room : ℕ) (a : Result ℕ Refusal) {k : ℕ} → a ≡ Ok k
+    → permitted_values a ≡ permission (take len bytes) r c.name in_range_lem room → MayChange r c bytes len in_range_lem room k
+may_change r c bytes len (within, front) in_range_lem is_range room a {k} e f =
+    record { within = within; front = front; is_range = is_range; may = at_permitted a k (take len bytes) r c.name in_range_lem room e f }
+
+module _ {r : Running} {c : Change} {bytes : List ℕ} {len : ℕ} {in_range_lem : Bool} {room k : ℕ} (M : MayChange r c bytes len in_range_lem room k) where
   abbrev t : List ℕ
   t = take len bytes
 
   abbrev A : Allowed t r c.name in_range_lem room k
-  A = allowed t r c.name in_range_lem room k may
+  A = allowed t r c.name in_range_lem room k M.may
 
   in_range : metric_out c.metric ≡ false
-  in_range = was-false (metric_out c.metric) (sym is_range ∙ A.in_range)
+  in_range = was-false (metric_out c.metric) (sym M.is_range ∙ A.in_range)
 
   its-fits : MetricFits c.metric
   its-fits = fits c.metric in_range
@@ -148,7 +165,7 @@ module _ (r : Running) (c : Change) (bytes : List ℕ) (len : ℕ) (within : len
 
   -- What the edits of the bytes ask for.
   pub front_length : length t ≡ len
-  front_length = length-take-le len bytes within
+  front_length = length-take-le len bytes M.within
 
   pub word-within : 4 * k + 16 ≤ length t
   word-within = omega (arith, A.place, named-within t A.plan c A.accepted is_there its-fits, count_of_words t, front_length)
@@ -214,7 +231,7 @@ module _ (r : Running) (c : Change) (bytes : List ℕ) (len : ℕ) (within : len
 
       outcome_is : with_places costs hop_counts lasts (changed (watched_in r bytes) c) ≡ answered after
       outcome_is =
-          ap (λ (x : List ℕ). with_places costs hop_counts lasts (changed (watching x r.bridge r.vid r.changes) c)) (sym (front bytes refl))
+          ap (λ (x : List ℕ). with_places costs hop_counts lasts (changed (watching x r.bridge r.vid r.changes) c)) (sym (M.front bytes refl))
           ∙ with_places_lem r c t A.plan A.accepted names A.there in_range A.few costs hop_counts lasts room R
           ∙ ap (λ (b : Bool). refused_if (not b) 13 (answered after)) A.enough
 
@@ -236,16 +253,10 @@ module _ (r : Running) (c : Change) (bytes : List ℕ) (len : ℕ) (within : len
           lists : ◌≡◌ {A = Outcome Running × List ℕ × List ℕ × List ℕ} (a, cs, hs, ls) (lists_after costs hop_counts lasts (answered after))
           lists = g ∙ ap (lists_after costs hop_counts lasts) (kept_is x n e (f ∙ omega arith))
 
--- What the answer of `permit` says
-
 -- A test of a number's range is the negation of its being out of it.
 pub in-limits : (b d : Bool) → b ≡ d → b ≡ not (not d)
 in-limits b true e = e
 in-limits b false e = e
-
-pub at_permitted : (a : Result ℕ Refusal) (k : ℕ) (t : List ℕ) (r : Running) (n : HalfLinkName) (in_range_lem : Bool) (room : ℕ) → a ≡ Ok k
-    → permitted_values a ≡ permission t r n in_range_lem room → permission t r n in_range_lem room ≡ answered k
-at_permitted a k t r n in_range_lem room e f = sym f ∙ ap permitted_values e
 
 -- A change that is refused leaves all as it was.
 pub change-not-made : (r : Running) (c : Change) (bytes : List ℕ) (len : ℕ) → FrontOf len r.length (length bytes) → (in_range_lem : Bool)
