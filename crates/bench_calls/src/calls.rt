@@ -21,7 +21,7 @@ use spb::tree_lists::tree;
 use table::shape::Shape;
 use tree::search::PATH_IDS;
 use trees::plan_tree::tree_in_network;
-use verdict::examine::{Examined, examine};
+use verdict::examine::examine;
 
 // One path call: the cost, or the refusal number.
 #[unsafe(no_mangle)]
@@ -107,16 +107,12 @@ pub extern "C" fn bench_trees(table: &[u8], count: u32) -> u32
     let mut link_index = [0u32; INDEX];
     let examined = examine(table, &mut link_index);
     match examined {
-        Examined::Accepted(s) => {
+        Ok(s) => {
             if s.bridges < count as usize {
                 return 0;
             }
             trees_of_table(table, s, &link_index, count as usize).0
         }
-        Examined::Refused {
-            number,
-            kind: _,
-            word: _,
-        } => number,
+        Err(refusal) => refusal.number,
     }
 }

@@ -1,5 +1,10 @@
 // What the calls of a running plan are given and answer (02, A7).
+ghost use Rattle.std.specs.Prelude.{◌≡◌};
+ghost use Rattle.rule.specs.Refusals.{refused_by};
+ghost use Rattle.edits.specs.Running.{running_values};
+
 use rule::answer::RecordKind;
+use rule::refusal::Refusal;
 
 // "A half-link is named by near bridge and port."
 #[derive(Clone, Copy)]
@@ -27,4 +32,16 @@ pub enum RunningAnswer {
         kind: RecordKind,
         word: u32,
     },
+}
+
+impl From<Refusal> for RunningAnswer {
+    ghost from_gives = { λ refusal answer. running_values answer ≡ refused_by refusal };
+
+    fn from(refusal: Refusal) -> RunningAnswer {
+        RunningAnswer::Refused {
+            number: refusal.number,
+            kind: refusal.kind,
+            word: refusal.word,
+        }
+    }
 }

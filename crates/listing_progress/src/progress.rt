@@ -4,7 +4,7 @@ ghost use Rattle.std.specs.Prelude.{◌≡◌, ◌+◌, ◌≤◌, ◌<◌, leng
 ghost use Rattle.network.specs.Layout.{network_words};
 ghost use Rattle.trees.specs.Store.{line_words};
 ghost use Rattle.listing_lines.specs.Listing.{listing};
-ghost use Rattle.listing_progress.specs.Remaining.{AllZero, remaining, NextOf, Underway, GoesOn};
+ghost use Rattle.listing_progress.specs.Remaining.{AllZero, remaining, one_more, NextOf, Underway, GoesOn};
 
 use key_index::chain::INDEX;
 use links::counts::counts;
@@ -12,34 +12,35 @@ use listing_lines::refusal::write_refused;
 use listing_parts::part::{part_count, write_part};
 use network::make::make_network;
 use rule::answer::Counts;
-use verdict::examine::{Examined, examine};
+use rule::refusal::Refusal;
+use table::shape::Shape;
+use verdict::examine::examine;
 
 // How far a listing is given: the verdict on its table, the table's counts where it was accepted, and how many parts were given.
 #[derive(Clone, Copy)]
 pub struct Progress {
-    pub examined: Examined,
+    pub examined: Result<Shape, Refusal>,
     pub counts: Counts,
     pub given: usize,
 }
 
-// The next part: how many bytes it has, and how far the listing is given after it; or none where nothing is left.
+// A part given: how many bytes it has, and how far the listing is given after it.
 #[derive(Clone, Copy)]
-pub enum NextPart {
-    Part { written: usize, after: Progress },
-    None,
+pub struct Part {
+    pub written: usize,
+    pub after: Progress,
 }
 
 // One part more was given.
-fn part_given(examined: Examined, counts: Counts, given: usize, written: usize) -> NextPart
-    requires { given < 1090 }
-    ensures { result ≡ NextPart.Part written (record { examined = examined; counts = counts; given = given + 1 }) }
+fn part_given(progress: Progress, written: usize) -> Part
+    requires { progress.given < 1090 }
+    ensures { result ≡ one_more progress written }
 {
-    NextPart::Part {
+    Part {
         written: written,
         after: Progress {
-            examined: examined,
-            counts: counts,
-            given: given + 1,
+            given: progress.given + 1,
+            ..progress
         },
     }
 }
@@ -54,7 +55,7 @@ pub fn begin_listing(table: &[u8], network: &mut [u32], store: &[u32]) -> Progre
     let mut link_index = [0u32; INDEX];
     let examined = examine(table, &mut link_index);
     match examined {
-        Examined::Accepted(s) => {
+        Ok(s) => {
             make_network(table, s, &link_index, network);
             Progress {
                 examined: examined,
@@ -62,12 +63,8 @@ pub fn begin_listing(table: &[u8], network: &mut [u32], store: &[u32]) -> Progre
                 given: 0,
             }
         }
-        Examined::Refused { number, kind, word } => Progress {
-            examined: Examined::Refused {
-                number: number,
-                kind: kind,
-                word: word,
-            },
+        Err(_) => Progress {
+            examined: examined,
             counts: Counts {
                 bridges: 0,
                 half_links: 0,
@@ -80,7 +77,7 @@ pub fn begin_listing(table: &[u8], network: &mut [u32], store: &[u32]) -> Progre
     }
 }
 
-// Gives the next part: writes it to the front of the lent bytes. Trees are kept, so that each is made once for all parts.
+// Gives the next part, where one is left: writes it to the front of the lent bytes. Trees are kept, so that each is made once for all parts.
 pub fn next_part(
     table: &[u8],
     network: &[u32],
@@ -89,35 +86,37 @@ pub fn next_part(
     store: &mut [u32],
     words: &mut [u32],
     out: &mut [u8],
-) -> NextPart
+) -> Option<Part>
     requires underway { Underway table.now progress network.now store.old }
     requires in_bounds { (4096 ≤ length path_ids.old) × (14931 ≤ length words.old) × (258804 ≤ length out.old) }
     ensures next_of { NextOf table.now progress out.new result }
     ensures goes_on { GoesOn table.now progress network.now store.new result }
 {
-    let examined = progress.examined;
-    let counts = progress.counts;
     let given = progress.given;
-    match examined {
-        Examined::Accepted(s) => {
+    match progress.examined {
+        Ok(s) => {
             if part_count(s) <= given {
-                return NextPart::None;
+                return None;
             }
             let written = write_part(
-                table, s, counts, network, given, path_ids, store, words, out,
+                table,
+                s,
+                progress.counts,
+                network,
+                given,
+                path_ids,
+                store,
+                words,
+                out,
             );
-            part_given(examined, counts, given, written)
+            Some(part_given(progress, written))
         }
-        Examined::Refused {
-            number,
-            kind: _,
-            word,
-        } => {
+        Err(refusal) => {
             if 1 <= given {
-                return NextPart::None;
+                return None;
             }
-            let written = write_refused(number, word, out, 0);
-            part_given(examined, counts, given, written)
+            let written = write_refused(refusal.number, refusal.word, out, 0);
+            Some(part_given(progress, written))
         }
     }
 }

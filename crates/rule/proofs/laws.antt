@@ -21,3 +21,4 @@ pub mod MemberWords
 pub mod ServiceLaws
 pub mod ComesBackProved
 pub mod ExtensionLaws
+pub mod RefusalLaws

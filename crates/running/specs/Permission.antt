@@ -1,21 +1,21 @@
 -- Whether a change may be made, and where (02, A7). Assumes nothing.
-use Rattle.std.specs.Prelude.{ℕ, ◌≡◌, List, Bool, true, false, not, ◌&&◌, ◌||◌, leb, length, take}
+use Rattle.std.specs.Prelude.{ℕ, ◌≡◌, List, Result, Ok, Err, Bool, true, false, not, ◌&&◌, ◌||◌, leb, length, take}
 use Rattle.std.proofs.Math.Option.{Option, none, some}
 use Rattle.lists.specs.Lists.{any_passes}
 use Rattle.rule.specs.Records.{Vid}
-use Rattle.rule.specs.Outcome.{Outcome, answered, refused, and_then, refused_if}
+use Rattle.rule.specs.Outcome.{Outcome, answered, and_then, refused_if}
 use Rattle.rule.specs.Plan.{Plan, known_bridge, vid_record}
 use Rattle.rule.specs.Check.{verdict}
-use Rattle.rule.specs.Answers.{kind_number}
+use Rattle.rule.specs.declared.refusal.Refusal.{Refusal}
+use Rattle.rule.specs.Refusals.{refused_by}
 use Rattle.edits.specs.declared.change.HalfLinkName.{HalfLinkName}
 use Rattle.edits.specs.declared.change.Running.{Running}
 use Rattle.edits.specs.Edits.{is_named, word_of}
 use Rattle.edits.specs.Running.{most_changes}
-use Rattle.running.specs.declared.permission.Permitted.{Permitted}
 
-abbrev pub permitted_values : Permitted → Outcome ℕ
-permitted_values (Permitted.At k) = answered k
-permitted_values (Permitted.Refused number kind at) = refused number (kind_number kind) at
+abbrev pub permitted_values : Result ℕ Refusal → Outcome ℕ
+permitted_values (Ok k) = answered k
+permitted_values (Err r) = refused_by r
 
 abbrev pub no_vid : Option Vid → Bool
 no_vid none = true

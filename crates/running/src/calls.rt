@@ -4,7 +4,7 @@ ghost use Rattle.std.specs.Prelude.{◌≡◌, ◌≤◌};
 ghost use Rattle.edits.specs.Running.{kept_with, watching, kept_in, NumbersAndLists, WholeState, load_outcome, change_outcome, metric_change, withdrawal, running_values};
 ghost use Rattle.running.specs.Permission.{FrontOf};
 
-use crate::permission::{Permitted, permit, room_of};
+use crate::permission::{permit, room_of};
 use editing::replace::{withdraw_words, write_metric};
 use edits::change::{HalfLinkName, Running, RunningAnswer};
 use numbers::metric::Metric;
@@ -84,7 +84,7 @@ pub fn change_metric(
     let fits = Metric(metric).is_in_range();
     let permitted = permit(&table[..length], running, name, fits, room);
     match permitted {
-        Permitted::At(k) => {
+        Ok(k) => {
             write_metric(&mut table[..length], k, metric);
             keep(
                 &table[..length],
@@ -96,11 +96,7 @@ pub fn change_metric(
                 lasts,
             )
         }
-        Permitted::Refused { number, kind, word } => RunningAnswer::Refused {
-            number: number,
-            kind: kind,
-            word: word,
-        },
+        Err(refusal) => RunningAnswer::from(refusal),
     }
 }
 
@@ -119,7 +115,7 @@ pub fn withdraw(
     let room = room_of(costs.len(), hops.len(), lasts.len());
     let permitted = permit(&table[..length], running, name, true, room);
     match permitted {
-        Permitted::At(k) => {
+        Ok(k) => {
             withdraw_words(&mut table[..length], k);
             keep(
                 &table[..length - HALF_LINK],
@@ -131,10 +127,6 @@ pub fn withdraw(
                 lasts,
             )
         }
-        Permitted::Refused { number, kind, word } => RunningAnswer::Refused {
-            number: number,
-            kind: kind,
-            word: word,
-        },
+        Err(refusal) => RunningAnswer::from(refusal),
     }
 }

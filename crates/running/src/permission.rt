@@ -1,7 +1,6 @@
 // Whether a change may be made, and where (02, A7): every refusal is given before anything is written.
 ghost use Rattle.std.specs.Prelude.{◌≡◌};
 ghost use Rattle.rule.specs.Words.{words_of};
-ghost use Rattle.rule.specs.Outcome.{refused_as};
 ghost use Rattle.table.specs.Positions.{plan_at};
 ghost use Rattle.verdict.specs.Examination.{Checked};
 ghost use Rattle.running.specs.Permission.{permitted_values, lacks_names, plan_permission, permission, RoomOf};
@@ -9,24 +8,13 @@ ghost use Rattle.running.specs.Permission.{permitted_values, lacks_names, plan_p
 use editing::find::find_half_link;
 use edits::change::{HalfLinkName, Running};
 use key_index::chain::INDEX;
-use rule::answer::RecordKind;
+use rule::refusal::{Fault, Refusal};
 use table::records::index_of;
 use table::shape::Shape;
-use verdict::examine::{Examined, examine};
+use verdict::examine::examine;
 
 // "65,535 changes already made".
 const MOST_CHANGES: u32 = 65535;
-
-#[derive(Clone, Copy)]
-pub enum Permitted {
-    // The first word of the half-link named.
-    At(usize),
-    Refused {
-        number: u32,
-        kind: RecordKind,
-        word: u32,
-    },
-}
 
 // The places that each of three lists has.
 pub fn room_of(costs: usize, hops: usize, lasts: usize) -> usize
@@ -42,17 +30,6 @@ pub fn room_of(costs: usize, hops: usize, lasts: usize) -> usize
         return hops;
     }
     lasts
-}
-
-// A refusal of the change itself: no kind and the word 0.
-fn refused(number: u32) -> Permitted
-    ensures { permitted_values result ≡ refused_as number }
-{
-    Permitted::Refused {
-        number: number,
-        kind: RecordKind::None,
-        word: 0,
-    }
 }
 
 // "11": the table lacks the watched bridge or VID, or the near bridge that is named.
@@ -77,46 +54,40 @@ fn permit_in_table(
     name: HalfLinkName,
     fits: bool,
     room: usize,
-) -> Permitted
+) -> Result<usize, Refusal>
     requires { Checked table.now s }
     ensures { permitted_values result ≡ plan_permission (plan_at (words_of table.now) s) running name fits room }
 {
     if lacks_names(table, s, running, name) {
-        return refused(11);
+        return Err(Refusal::of_call(Fault::NotInTable));
     }
     let i = find_half_link(table, s, name);
     if s.half_links <= i {
-        return refused(17);
+        return Err(Refusal::of_call(Fault::NoHalfLink));
     }
     if !fits {
-        return refused(18);
+        return Err(Refusal::of_call(Fault::MetricOutOfRange));
     }
     if MOST_CHANGES <= running.changes {
-        return refused(19);
+        return Err(Refusal::of_call(Fault::TooManyChanges));
     }
     if room < s.bridges {
-        return refused(13);
+        return Err(Refusal::of_call(Fault::ShortList));
     }
-    Permitted::At(s.half_links_from() + 3 * i)
+    Ok(s.half_links_from() + 3 * i)
 }
 
+// The first word of the half-link named, where the change may be made.
 pub fn permit(
     table: &[u8],
     running: Running,
     name: HalfLinkName,
     fits: bool,
     room: usize,
-) -> Permitted
+) -> Result<usize, Refusal>
     ensures { permitted_values result ≡ permission table.now running name fits room }
 {
     let mut link_index = [0u32; INDEX];
-    let examined = examine(table, &mut link_index);
-    match examined {
-        Examined::Accepted(s) => permit_in_table(table, s, running, name, fits, room),
-        Examined::Refused { number, kind, word } => Permitted::Refused {
-            number: number,
-            kind: kind,
-            word: word,
-        },
-    }
+    let s = examine(table, &mut link_index)?;
+    permit_in_table(table, s, running, name, fits, room)
 }

@@ -1,14 +1,12 @@
 -- The reading of a table kind by kind: how far it has come, and what reading the records of a kind comes to. Assumes nothing.
-use Rattle.std.specs.Prelude.{ℕ, ◌+◌, ◌-◌, ◌≤◌, ◌<◌, ◌≡◌, List, Bool, false, ◌&&◌, eqb, ltb, length}
-use Rattle.rule.specs.declared.answer.RecordKind.{RecordKind}
+use Rattle.std.specs.Prelude.{ℕ, ◌+◌, ◌-◌, ◌≤◌, ◌<◌, ◌≡◌, List, Result, Ok, Err, Bool, false, ◌&&◌, eqb, ltb, length}
+use Rattle.rule.specs.declared.refusal.Refusal.{Refusal}
 use Rattle.rule.specs.Words.{word, bits}
-use Rattle.rule.specs.Outcome.{refused}
-use Rattle.rule.specs.Answers.{kind_number}
+use Rattle.rule.specs.Refusals.{refused_by}
 use Rattle.rule.specs.Check.{read_on, start}
 use Rattle.table.specs.declared.shape.Shape.{Shape}
 use Rattle.table.specs.Positions.{half_links_from, vids_from, members_from, traffic_from, words_read, reading_at}
 use Rattle.earlier.specs.HalfLinks.{number_key, Keyed}
-use Rattle.steps.specs.declared.step.Step.{Step}
 
 -- Whether a record of the kind begins at the word `at`: "A record's first word holds its kind in bits 31..28".
 abbrev pub is_kind : List ℕ → ℕ → ℕ → Bool
@@ -33,23 +31,22 @@ pub record SameOthers (kind : ℕ) (s t : Shape) : Type 0 where
   pub traffic : (kind ≡ 5 → ⊥) → t.traffic ≡ s.traffic
 
 -- A refusal is the verdict.
-abbrev pub Refuses : List ℕ → Step → Type 0
-Refuses ws r = (number : ℕ) (kind : RecordKind) (at : ℕ) → r ≡ Step.Refused number kind at
-    → refused number (kind_number kind) at ≡ read_on (length ws) ws start
+abbrev pub Refuses : List ℕ → Result Shape Refusal → Type 0
+Refuses ws r = (refusal : Refusal) → r ≡ Err refusal → refused_by refusal ≡ read_on (length ws) ws start
 
 -- All records of the kind that stand after those of `s` were read, or one was refused.
-pub record Run (ws : List ℕ) (kind : ℕ) (s : Shape) (r : Step) : Type 0 where
-  pub reached : (t : Shape) → r ≡ Step.Next t → Reached ws t
-  pub ended : (t : Shape) → r ≡ Step.Next t → is_kind ws kind (words_read t) ≡ false
-  pub others : (t : Shape) → r ≡ Step.Next t → SameOthers kind s t
+pub record Run (ws : List ℕ) (kind : ℕ) (s : Shape) (r : Result Shape Refusal) : Type 0 where
+  pub reached : (t : Shape) → r ≡ Ok t → Reached ws t
+  pub ended : (t : Shape) → r ≡ Ok t → is_kind ws kind (words_read t) ≡ false
+  pub others : (t : Shape) → r ≡ Ok t → SameOthers kind s t
   pub refuses : Refuses ws r
 
 -- The list is the index of the link numbers of the half-links.
 abbrev pub Numbers : List ℕ → List ℕ → Shape → Type 0
 Numbers ws links s = Keyed number_key links ws (half_links_from s) s.half_links
 
-abbrev pub NumbersKept : List ℕ → List ℕ → Step → Type 0
-NumbersKept ws links r = (t : Shape) → r ≡ Step.Next t → Numbers ws links t
+abbrev pub NumbersKept : List ℕ → List ℕ → Result Shape Refusal → Type 0
+NumbersKept ws links r = (t : Shape) → r ≡ Ok t → Numbers ws links t
 
 -- All records of the kinds before `kind` are read and none of the others: where those of a kind end no record of it follows.
 pub record Before (ws links : List ℕ) (kind : ℕ) (s : Shape) : Type 0 where
@@ -67,6 +64,6 @@ pub record Before (ws links : List ℕ) (kind : ℕ) (s : Shape) : Type 0 where
   pub traffic_end : 5 < kind → is_kind ws 5 (words_read s) ≡ false
 
 -- The records of the kind were read, or one was refused.
-pub record KindRead (ws links : List ℕ) (kind : ℕ) (r : Step) : Type 0 where
-  pub next : (t : Shape) → r ≡ Step.Next t → Before ws links (kind + 1) t
+pub record KindRead (ws links : List ℕ) (kind : ℕ) (r : Result Shape Refusal) : Type 0 where
+  pub next : (t : Shape) → r ≡ Ok t → Before ws links (kind + 1) t
   pub refuses : Refuses ws r

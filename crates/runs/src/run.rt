@@ -12,7 +12,8 @@ use earlier::traffic::index_vids;
 use key_index::chain::INDEX;
 use readers::words::word_at;
 use rule::kinds::{BRIDGE, HALF_LINK, MEMBER, TRAFFIC, VID};
-use steps::step::{Step, after_bridge, after_half_link, after_member, after_traffic, after_vid};
+use rule::refusal::Refusal;
+use steps::step::{after_bridge, after_half_link, after_member, after_traffic, after_vid};
 use table::shape::Shape;
 
 // Whether the record after those of `s` is of the kind.
@@ -28,7 +29,7 @@ pub fn is_next(table: &[u8], s: Shape, kind: u32) -> bool
 }
 
 // Reads the bridges; `s` has none yet.
-pub fn read_bridges(table: &[u8], s: Shape) -> Step
+pub fn read_bridges(table: &[u8], s: Shape) -> Result<Shape, Refusal>
     requires { Whole table.now s × Reached (words_of table.now) s × (s.bridges ≡ 0) }
     ensures { Run (words_of table.now) 1 s result }
 {
@@ -36,25 +37,13 @@ pub fn read_bridges(table: &[u8], s: Shape) -> Step
     let mut address_index = [0u32; INDEX];
     let mut t = s;
     while is_next(table, t, BRIDGE) {
-        let step = after_bridge(table, t, &mut source_index, &mut address_index);
-        match step {
-            Step::Next(u) => {
-                t = u;
-            }
-            Step::Refused { number, kind, word } => {
-                return Step::Refused {
-                    number: number,
-                    kind: kind,
-                    word: word,
-                };
-            }
-        }
+        t = after_bridge(table, t, &mut source_index, &mut address_index)?;
     }
-    Step::Next(t)
+    Ok(t)
 }
 
 // Reads the half-links; `s` has none yet, and the lent list is an index of no key. It is the index of their link numbers afterwards.
-pub fn read_half_links(table: &[u8], s: Shape, link_index: &mut [u32]) -> Step
+pub fn read_half_links(table: &[u8], s: Shape, link_index: &mut [u32]) -> Result<Shape, Refusal>
     requires { Whole table.now s × Reached (words_of table.now) s × (s.half_links ≡ 0) × Indexed link_index.old 0 }
     ensures run { Run (words_of table.now) 2 s result }
     ensures numbers_kept { NumbersKept (words_of table.now) link_index.new result }
@@ -62,74 +51,38 @@ pub fn read_half_links(table: &[u8], s: Shape, link_index: &mut [u32]) -> Step
     let mut port_index = [0u32; INDEX];
     let mut t = s;
     while is_next(table, t, HALF_LINK) {
-        let step = after_half_link(table, t, &mut port_index, link_index);
-        match step {
-            Step::Next(u) => {
-                t = u;
-            }
-            Step::Refused { number, kind, word } => {
-                return Step::Refused {
-                    number: number,
-                    kind: kind,
-                    word: word,
-                };
-            }
-        }
+        t = after_half_link(table, t, &mut port_index, link_index)?;
     }
-    Step::Next(t)
+    Ok(t)
 }
 
 // Reads the VIDs.
-pub fn read_vids(table: &[u8], s: Shape) -> Step
+pub fn read_vids(table: &[u8], s: Shape) -> Result<Shape, Refusal>
     requires { Whole table.now s × Reached (words_of table.now) s }
     ensures { Run (words_of table.now) 3 s result }
 {
     let mut t = s;
     while is_next(table, t, VID) {
-        let step = after_vid(table, t);
-        match step {
-            Step::Next(u) => {
-                t = u;
-            }
-            Step::Refused { number, kind, word } => {
-                return Step::Refused {
-                    number: number,
-                    kind: kind,
-                    word: word,
-                };
-            }
-        }
+        t = after_vid(table, t)?;
     }
-    Step::Next(t)
+    Ok(t)
 }
 
 // Reads the members; `s` has none yet.
-pub fn read_members(table: &[u8], s: Shape) -> Step
+pub fn read_members(table: &[u8], s: Shape) -> Result<Shape, Refusal>
     requires { Whole table.now s × Reached (words_of table.now) s × (s.members ≡ 0) }
     ensures { Run (words_of table.now) 4 s result }
 {
     let mut member_index = [0u32; INDEX];
     let mut t = s;
     while is_next(table, t, MEMBER) {
-        let step = after_member(table, t, &mut member_index);
-        match step {
-            Step::Next(u) => {
-                t = u;
-            }
-            Step::Refused { number, kind, word } => {
-                return Step::Refused {
-                    number: number,
-                    kind: kind,
-                    word: word,
-                };
-            }
-        }
+        t = after_member(table, t, &mut member_index)?;
     }
-    Step::Next(t)
+    Ok(t)
 }
 
 // Reads the traffic, of which one record stands next; `s` has none yet.
-fn read_indexed_traffic(table: &[u8], s: Shape) -> Step
+fn read_indexed_traffic(table: &[u8], s: Shape) -> Result<Shape, Refusal>
     requires { Whole table.now s × Reached (words_of table.now) s × (s.traffic ≡ 0) }
     ensures { Run (words_of table.now) 5 s result }
 {
@@ -138,30 +91,18 @@ fn read_indexed_traffic(table: &[u8], s: Shape) -> Step
     index_vids(table, s.vids_from(), s.vids, &mut vid_index);
     let mut t = s;
     while is_next(table, t, TRAFFIC) {
-        let step = after_traffic(table, t, &vid_index, &mut traffic_index);
-        match step {
-            Step::Next(u) => {
-                t = u;
-            }
-            Step::Refused { number, kind, word } => {
-                return Step::Refused {
-                    number: number,
-                    kind: kind,
-                    word: word,
-                };
-            }
-        }
+        t = after_traffic(table, t, &vid_index, &mut traffic_index)?;
     }
-    Step::Next(t)
+    Ok(t)
 }
 
 // Reads the traffic (02, A5); `s` has none yet. Where none stands next, no index is made.
-pub fn read_traffic_records(table: &[u8], s: Shape) -> Step
+pub fn read_traffic_records(table: &[u8], s: Shape) -> Result<Shape, Refusal>
     requires { Whole table.now s × Reached (words_of table.now) s × (s.traffic ≡ 0) }
     ensures { Run (words_of table.now) 5 s result }
 {
     if !is_next(table, s, TRAFFIC) {
-        return Step::Next(s);
+        return Ok(s);
     }
     read_indexed_traffic(table, s)
 }

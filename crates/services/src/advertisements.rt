@@ -8,7 +8,7 @@ use key_index::chain::INDEX;
 use rule::answer::{ReadServicesAnswer, WriteServicesAnswer};
 use service_reading::read::read_in_table;
 use service_writing::write::write_in_table;
-use verdict::examine::{Examined, examine};
+use verdict::examine::examine;
 
 // "Read one into member records": the words of a record for each service of the sub-TLV, into a lent list; how many.
 pub fn read_services(table: &[u8], bytes: &[u8], words: &mut [u32]) -> ReadServicesAnswer
@@ -17,12 +17,8 @@ pub fn read_services(table: &[u8], bytes: &[u8], words: &mut [u32]) -> ReadServi
     let mut link_index = [0u32; INDEX];
     let examined = examine(table, &mut link_index);
     match examined {
-        Examined::Accepted(s) => read_in_table(table, s, bytes, words),
-        Examined::Refused { number, kind, word } => ReadServicesAnswer::Refused {
-            number: number,
-            kind: kind,
-            word: word,
-        },
+        Ok(s) => read_in_table(table, s, bytes, words),
+        Err(refusal) => ReadServicesAnswer::from(refusal),
     }
 }
 
@@ -33,11 +29,7 @@ pub fn write_services(table: &[u8], bridge: u32, vid: u32, bytes: &mut [u8]) -> 
     let mut link_index = [0u32; INDEX];
     let examined = examine(table, &mut link_index);
     match examined {
-        Examined::Accepted(s) => write_in_table(table, s, bridge, vid, bytes),
-        Examined::Refused { number, kind, word } => WriteServicesAnswer::Refused {
-            number: number,
-            kind: kind,
-            word: word,
-        },
+        Ok(s) => write_in_table(table, s, bridge, vid, bytes),
+        Err(refusal) => WriteServicesAnswer::from(refusal),
     }
 }

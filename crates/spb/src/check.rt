@@ -6,7 +6,7 @@ ghost use Rattle.rule.specs.Calls.{check_outcome};
 use key_index::chain::INDEX;
 use links::counts::counts;
 use rule::answer::CheckAnswer;
-use verdict::examine::{Examined, examine};
+use verdict::examine::examine;
 
 // "Check: counts of bridges, half-links, usable links, VIDs, members."
 pub fn check(table: &[u8]) -> CheckAnswer
@@ -15,11 +15,7 @@ pub fn check(table: &[u8]) -> CheckAnswer
     let mut link_index = [0u32; INDEX];
     let examined = examine(table, &mut link_index);
     match examined {
-        Examined::Accepted(s) => CheckAnswer::Accepted(counts(table, s, &link_index)),
-        Examined::Refused { number, kind, word } => CheckAnswer::Refused {
-            number: number,
-            kind: kind,
-            word: word,
-        },
+        Ok(s) => CheckAnswer::Accepted(counts(table, s, &link_index)),
+        Err(refusal) => CheckAnswer::from(refusal),
     }
 }

@@ -7,7 +7,7 @@ ghost use Rattle.rule.specs.Calls.{entries_outcome};
 use entries::list::entries_in_table;
 use key_index::chain::INDEX;
 use rule::answer::EntriesAnswer;
-use verdict::examine::{Examined, examine};
+use verdict::examine::examine;
 
 // "Entries (bridge): into a lent list of words; the words written."
 pub fn entries(table: &[u8], bridge: u32, list: &mut [u32]) -> EntriesAnswer
@@ -16,11 +16,7 @@ pub fn entries(table: &[u8], bridge: u32, list: &mut [u32]) -> EntriesAnswer
     let mut link_index = [0u32; INDEX];
     let examined = examine(table, &mut link_index);
     match examined {
-        Examined::Accepted(s) => entries_in_table(table, s, &link_index, bridge, list),
-        Examined::Refused { number, kind, word } => EntriesAnswer::Refused {
-            number: number,
-            kind: kind,
-            word: word,
-        },
+        Ok(s) => entries_in_table(table, s, &link_index, bridge, list),
+        Err(refusal) => EntriesAnswer::from(refusal),
     }
 }

@@ -5,7 +5,7 @@ ghost use Rattle.rule.specs.Exported.{exported_check, exported_path_cost};
 use key_index::chain::INDEX;
 use measures::measure::Cost;
 use path::path::path_cost_in_table;
-use verdict::examine::{Examined, examine};
+use verdict::examine::examine;
 
 // "Exported check gives 0 or the refusal number."
 pub fn spb_check(table: &[u8]) -> u32
@@ -14,12 +14,8 @@ pub fn spb_check(table: &[u8]) -> u32
     let mut link_index = [0u32; INDEX];
     let examined = examine(table, &mut link_index);
     match examined {
-        Examined::Accepted(_) => 0,
-        Examined::Refused {
-            number,
-            kind: _,
-            word: _,
-        } => number,
+        Ok(_) => 0,
+        Err(refusal) => refusal.number,
     }
 }
 
@@ -30,11 +26,7 @@ pub fn spb_path_cost(table: &[u8], vid: u32, from: u32, to: u32) -> u64
     let mut link_index = [0u32; INDEX];
     let examined = examine(table, &mut link_index);
     match examined {
-        Examined::Accepted(s) => path_cost_in_table(table, s, &link_index, vid, from, to),
-        Examined::Refused {
-            number,
-            kind: _,
-            word: _,
-        } => Cost::REFUSED + number as u64,
+        Ok(s) => path_cost_in_table(table, s, &link_index, vid, from, to),
+        Err(refusal) => Cost::REFUSED + refusal.number as u64,
     }
 }

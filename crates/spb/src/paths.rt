@@ -7,7 +7,7 @@ ghost use Rattle.rule.specs.Calls.{path_outcome};
 use key_index::chain::INDEX;
 use path::path::path_in_table;
 use rule::answer::PathAnswer;
-use verdict::examine::{Examined, examine};
+use verdict::examine::examine;
 
 // "Path (VID, from, to): bridges into a lent list; cost, hops."
 pub fn path(table: &[u8], vid: u32, from: u32, to: u32, list: &mut [u32]) -> PathAnswer
@@ -16,11 +16,7 @@ pub fn path(table: &[u8], vid: u32, from: u32, to: u32, list: &mut [u32]) -> Pat
     let mut link_index = [0u32; INDEX];
     let examined = examine(table, &mut link_index);
     match examined {
-        Examined::Accepted(s) => path_in_table(table, s, &link_index, vid, from, to, list),
-        Examined::Refused { number, kind, word } => PathAnswer::Refused {
-            number: number,
-            kind: kind,
-            word: word,
-        },
+        Ok(s) => path_in_table(table, s, &link_index, vid, from, to, list),
+        Err(refusal) => PathAnswer::from(refusal),
     }
 }

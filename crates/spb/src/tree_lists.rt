@@ -7,7 +7,7 @@ ghost use Rattle.rule.specs.Calls.{tree_outcome};
 use branches::branches::tree_in_table;
 use key_index::chain::INDEX;
 use rule::answer::TreeAnswer;
-use verdict::examine::{Examined, examine};
+use verdict::examine::examine;
 
 // Tree (VID, from): for each bridge the cost, the hops and the last bridge but one of the path to it, into three lent lists.
 pub fn tree(
@@ -23,20 +23,7 @@ pub fn tree(
     let mut link_index = [0u32; INDEX];
     let examined = examine(table, &mut link_index);
     match examined {
-        Examined::Accepted(s) => tree_in_table(
-            table,
-            s,
-            &link_index,
-            vid,
-            from,
-            costs,
-            hops,
-            lasts,
-        ),
-        Examined::Refused { number, kind, word } => TreeAnswer::Refused {
-            number: number,
-            kind: kind,
-            word: word,
-        },
+        Ok(s) => tree_in_table(table, s, &link_index, vid, from, costs, hops, lasts),
+        Err(refusal) => TreeAnswer::from(refusal),
     }
 }

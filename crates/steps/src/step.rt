@@ -6,8 +6,7 @@ ghost use Rattle.rule.specs.Refusals.{fault_number};
 ghost use Rattle.table.specs.Positions.{vids_from, members_from, traffic_from};
 ghost use Rattle.table.specs.Whole.{Whole};
 ghost use Rattle.earlier.specs.Keys.{BridgeIndexes, VidIndex, MemberIndex, TrafficIndex};
-ghost use Rattle.steps.specs.Steps.{concerned, with_bridge, with_half_link, with_vid, with_member, with_traffic, step_as, Stepped, HalfLinkIndexes, BridgesKept, HalfLinksKept, MembersKept, TrafficKept};
-ghost use Rattle.steps.specs.declared.step.Step.{Step};
+ghost use Rattle.steps.specs.Steps.{concerned, refusal_of, with_bridge, with_half_link, with_vid, with_member, with_traffic, step_as, Stepped, HalfLinkIndexes, BridgesKept, HalfLinksKept, MembersKept, TrafficKept};
 
 use earlier::half_link::port_key;
 use earlier::repeats::{address_key, member_key};
@@ -19,18 +18,8 @@ use readers::half_link::half_link_at;
 use readers::member::member_at;
 use readers::traffic::traffic_at;
 use rule::answer::RecordKind;
-use rule::refusal::Fault;
+use rule::refusal::{Fault, Refusal};
 use table::shape::Shape;
-
-#[derive(Clone, Copy)]
-pub enum Step {
-    Next(Shape),
-    Refused {
-        number: u32,
-        kind: RecordKind,
-        word: u32,
-    },
-}
 
 // The kind that a refusal carries: "for 2 kind is none".
 pub fn kind_concerned(number: u32, kind: RecordKind) -> RecordKind
@@ -42,13 +31,13 @@ pub fn kind_concerned(number: u32, kind: RecordKind) -> RecordKind
     kind
 }
 
-// The refusal of a record.
-fn refusal(fault: Fault, kind: RecordKind, word: usize) -> Step
+// The refusal of a record that begins at the word.
+pub fn refusal(fault: Fault, kind: RecordKind, word: usize) -> Refusal
     requires { word < 4294967296 }
-    ensures { result ≡ Step.Refused (fault_number fault) (concerned (fault_number fault) kind) word }
+    ensures { result ≡ refusal_of (fault_number fault) kind word }
 {
     let number = fault.number();
-    Step::Refused {
+    Refusal {
         number: number,
         kind: kind_concerned(number, kind),
         word: word as u32,
@@ -61,7 +50,7 @@ pub fn after_bridge(
     s: Shape,
     source_index: &mut [u32],
     address_index: &mut [u32],
-) -> Step
+) -> Result<Shape, Refusal>
     requires whole { Whole table.now s }
     requires bridge_indexes { BridgeIndexes source_index.old address_index.old (words_of table.now) s.bridges }
     ensures stepped { Stepped (words_of table.now) (with_bridge s) (step_as (words_of table.now) s bridge_layout) result }
@@ -69,17 +58,14 @@ pub fn after_bridge(
 {
     let at = s.words_read();
     if let Err(fault) = bridge_fault(table, s, &source_index[..], &address_index[..]) {
-        return refusal(fault, RecordKind::Bridge, at);
+        return Err(refusal(fault, RecordKind::Bridge, at));
     }
     let b = bridge_at(table, at);
     enter(source_index, s.bridges, b.sp_source_id);
     enter(address_index, s.bridges, address_key(b.identifier));
-    Step::Next(Shape {
+    Ok(Shape {
         bridges: s.bridges + 1,
-        half_links: s.half_links,
-        vids: s.vids,
-        members: s.members,
-        traffic: s.traffic,
+        ..s
     })
 }
 
@@ -89,7 +75,7 @@ pub fn after_half_link(
     s: Shape,
     port_index: &mut [u32],
     link_index: &mut [u32],
-) -> Step
+) -> Result<Shape, Refusal>
     requires whole { Whole table.now s }
     requires half_link_indexes { HalfLinkIndexes port_index.old link_index.old (words_of table.now) s }
     ensures stepped { Stepped (words_of table.now) (with_half_link s) (step_as (words_of table.now) s half_link_layout) result }
@@ -97,39 +83,33 @@ pub fn after_half_link(
 {
     let at = s.words_read();
     if let Err(fault) = half_link_fault(table, s, at, &port_index[..], &link_index[..]) {
-        return refusal(fault, RecordKind::HalfLink, at);
+        return Err(refusal(fault, RecordKind::HalfLink, at));
     }
     let h = half_link_at(table, at);
     enter(port_index, s.half_links, port_key(h.near, h.port));
     enter(link_index, s.half_links, h.link);
-    Step::Next(Shape {
-        bridges: s.bridges,
+    Ok(Shape {
         half_links: s.half_links + 1,
-        vids: s.vids,
-        members: s.members,
-        traffic: s.traffic,
+        ..s
     })
 }
 
 // The VID record after those of `s`.
-pub fn after_vid(table: &[u8], s: Shape) -> Step
+pub fn after_vid(table: &[u8], s: Shape) -> Result<Shape, Refusal>
     requires { Whole table.now s }
     ensures { Stepped (words_of table.now) (with_vid s) (step_as (words_of table.now) s vid_layout) result }
 {
     if let Err(fault) = vid_fault(table, s) {
-        return refusal(fault, RecordKind::Vid, s.words_read());
+        return Err(refusal(fault, RecordKind::Vid, s.words_read()));
     }
-    Step::Next(Shape {
-        bridges: s.bridges,
-        half_links: s.half_links,
+    Ok(Shape {
         vids: s.vids + 1,
-        members: s.members,
-        traffic: s.traffic,
+        ..s
     })
 }
 
 // The member record after those of `s`, whose members are in the index.
-pub fn after_member(table: &[u8], s: Shape, member_index: &mut [u32]) -> Step
+pub fn after_member(table: &[u8], s: Shape, member_index: &mut [u32]) -> Result<Shape, Refusal>
     requires whole { Whole table.now s }
     requires member_index { MemberIndex member_index.old (words_of table.now) (members_from s) s.members }
     ensures stepped { Stepped (words_of table.now) (with_member s) (step_as (words_of table.now) s member_layout) result }
@@ -137,21 +117,23 @@ pub fn after_member(table: &[u8], s: Shape, member_index: &mut [u32]) -> Step
 {
     let at = s.words_read();
     if let Err(fault) = member_fault(table, s, &member_index[..]) {
-        return refusal(fault, RecordKind::Member, at);
+        return Err(refusal(fault, RecordKind::Member, at));
     }
     let m = member_at(table, at);
     enter(member_index, s.members, member_key(m.isid, m.bridge));
-    Step::Next(Shape {
-        bridges: s.bridges,
-        half_links: s.half_links,
-        vids: s.vids,
+    Ok(Shape {
         members: s.members + 1,
-        traffic: s.traffic,
+        ..s
     })
 }
 
 // The traffic record after those of `s`, whose VIDs and traffic are in the two indexes (02, A5).
-pub fn after_traffic(table: &[u8], s: Shape, vid_index: &[u32], traffic_index: &mut [u32]) -> Step
+pub fn after_traffic(
+    table: &[u8],
+    s: Shape,
+    vid_index: &[u32],
+    traffic_index: &mut [u32],
+) -> Result<Shape, Refusal>
     requires whole { Whole table.now s }
     requires vid_index { VidIndex vid_index.now (words_of table.now) (vids_from s) s.vids }
     requires traffic_index { TrafficIndex traffic_index.old (words_of table.now) (traffic_from s) s.traffic }
@@ -160,15 +142,12 @@ pub fn after_traffic(table: &[u8], s: Shape, vid_index: &[u32], traffic_index: &
 {
     let at = s.words_read();
     if let Err(fault) = traffic_fault(table, s, at, vid_index, &traffic_index[..]) {
-        return refusal(fault, RecordKind::Traffic, at);
+        return Err(refusal(fault, RecordKind::Traffic, at));
     }
     let t = traffic_at(table, at);
     enter(traffic_index, s.traffic, traffic_key(t.vid, t.from, t.to));
-    Step::Next(Shape {
-        bridges: s.bridges,
-        half_links: s.half_links,
-        vids: s.vids,
-        members: s.members,
+    Ok(Shape {
         traffic: s.traffic + 1,
+        ..s
     })
 }

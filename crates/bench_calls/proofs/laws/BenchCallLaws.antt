@@ -1,13 +1,13 @@
 -- Laws of what the functions for the benchmark give. Assumes nothing.
 use Prim.Native.Nat.{ℕ, zero, suc, ◌+◌, ◌≤◌, ◌<◌}
 use Rattle.std.proofs.Common.{arith, subst, ◌∙◌, lt-ltb, le-ltb}
-use Rattle.std.specs.Prelude.{◌≡◌, refl, length}
+use Rattle.std.specs.Prelude.{◌≡◌, refl, Result, Ok, Err, length}
 use Rattle.std.proofs.Math.Path.{sym, ap}
 use mathlib.Core.List.{List}
 use Rattle.std.proofs.Math.Option.{Option, none, some}
 use Rattle.std.proofs.Math.ListN.{get_or, get_or-replicate}
 use Rattle.graph.specs.Chosen.{chosen}
-use Rattle.rule.specs.declared.answer.RecordKind.{RecordKind}
+use Rattle.rule.specs.declared.refusal.Refusal.{Refusal}
 use Rattle.rule.specs.declared.answer.PathAnswer.{PathAnswer}
 use Rattle.rule.specs.declared.answer.TreeAnswer.{TreeAnswer}
 use Rattle.rule.specs.declared.answer.EntriesAnswer.{EntriesAnswer}
@@ -22,7 +22,6 @@ use Rattle.rule.specs.Answers.{CostAndHops, path_values, tree_values, entries_va
 use Rattle.rule.specs.Calls.{path_outcome, tree_outcome, entries_outcome}
 use Rattle.table.specs.declared.shape.Shape.{Shape}
 use Rattle.table.specs.Positions.{plan_at}
-use Rattle.verdict.specs.declared.examine.Examined.{Examined}
 use Rattle.verdict.specs.Examination.{examined_values}
 use Rattle.labels.specs.Labels.{label_at}
 use Rattle.tree.specs.Trees.{SaysPath}
@@ -49,8 +48,8 @@ module _ (p : Plan) {net : List ℕ} (L : NetworkOf p net) (labels : List ℕ) w
       go (some q) f = f.0
 
 -- What is given for a table by the verdict on it.
-module _ (t : List ℕ) (r : Examined) (e : examined_values (words_of t) r ≡ verdict t) (count : ℕ) where
-  module _ (s : Shape) (f : r ≡ Examined.Accepted s) where
+module _ (t : List ℕ) (r : Result Shape Refusal) (e : examined_values (words_of t) r ≡ verdict t) (count : ℕ) where
+  module _ (s : Shape) (f : r ≡ Ok s) where
     accepted : verdict t ≡ answered (plan_at (words_of t) s)
     accepted = sym e ∙ ap (examined_values (words_of t)) f
 
@@ -62,9 +61,9 @@ module _ (t : List ℕ) (r : Examined) (e : examined_values (words_of t) r ≡ v
     unfolding bench_trees
     trees_made l h = h ∙ sym (ap (λ (o : Outcome Plan). last_cost_or_refusal o count) accepted ∙ rw (le-ltb (length (plan_at (words_of t) s).bridges) count l) refl)
 
-  pub trees_refused : (number at : ℕ) (kind : RecordKind) → r ≡ Examined.Refused number kind at → number ≡ bench_trees t count
+  pub trees_refused : (refusal : Refusal) → r ≡ Err refusal → refusal.number ≡ bench_trees t count
   unfolding bench_trees
-  trees_refused number at kind f = sym (ap (λ (o : Outcome Plan). last_cost_or_refusal o count) (sym e ∙ ap (examined_values (words_of t)) f))
+  trees_refused refusal f = sym (ap (λ (o : Outcome Plan). last_cost_or_refusal o count) (sym e ∙ ap (examined_values (words_of t)) f))
 
 -- No tree is left to be made.
 pub all_trees : (net : List ℕ) (root count : ℕ) (lent labels : List ℕ) → root ≤ count → count ≤ root

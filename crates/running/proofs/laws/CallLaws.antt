@@ -2,7 +2,7 @@
 use Prim.Native.Nat.{ℕ, suc, ◌+◌, ◌-◌, ◌*◌, ◌/◌, ◌%◌, ◌≤◌, ◌<◌}
 use Rattle.std.proofs.Common.{arith, ◌∙◌, subst, inl, inr, leb→le, le→leb, length-append, length-drop, take-append-drop, take_all, length-take-le, take_at}
 use Rattle.std.proofs.Math.Path.{◌≡◌, sym, ap}
-use Rattle.std.specs.Prelude.{refl, ◌⊎◌, Bool, true, false, not, cond, T, leb, length, get_or, take, drop}
+use Rattle.std.specs.Prelude.{refl, Result, Ok, Err, ◌⊎◌, Bool, true, false, not, cond, T, leb, length, get_or, take, drop}
 use mathlib.Core.List.{List, [], ◌∷◌, ◌++◌, map, flat_map, append_assoc}
 use Rattle.std.proofs.Math.Option.{Option, none, some}
 use Rattle.std.proofs.lemmas.List.{drop-append-le}
@@ -10,6 +10,8 @@ use Rattle.lists.specs.Lists.{any_passes}
 use Rattle.lists.proofs.laws.NumberLaws.{le_or_gt, last_of, true-test}
 use Rattle.rule.specs.declared.answer.RecordKind.{RecordKind}
 use Rattle.rule.specs.declared.answer.TreeAnswer.{TreeAnswer}
+use Rattle.rule.specs.declared.refusal.Refusal.{Refusal}
+use Rattle.rule.specs.Refusals.{refused_by}
 use Rattle.rule.specs.Answers.{kind_number, tree_values}
 use Rattle.rule.specs.Words.{words_of, bytes_of, word}
 use Rattle.rule.specs.Records.{metric_limits, in_limits}
@@ -28,7 +30,6 @@ use Rattle.edits.proofs.laws.EditLaws.{MetricFits}
 use Rattle.edits.proofs.laws.RecordWords.{accepted-records}
 use Rattle.edits.proofs.laws.RunningLaws.{fits}
 use Rattle.edits.proofs.laws.ChangedTables.{not-long, named-within, last-high, whole_words}
-use Rattle.running.specs.declared.permission.Permitted.{Permitted}
 use Rattle.running.specs.Permission.{permitted_values, permission, RoomOf, FrontOf}
 use Rattle.running.proofs.laws.PermissionLaws.{was-false}
 use Rattle.running.proofs.laws.ChangeLaws.{Allowed, allowed, Known, known, kept, is_kept, places, with_places_lem, is_refused}
@@ -128,16 +129,33 @@ words_left_lem (some m) k ws l = omega (
   length-drop (k + 1) ws,
 )
 
-module _ (r : Running) (c : Change) (bytes : List ℕ) (len : ℕ) (within : len ≤ length bytes) (front : FrontOf len r.length (length bytes))
-    (in_range_lem : Bool) (is_range : in_range_lem ≡ not (metric_out c.metric)) (room k : ℕ) (may : permission (take len bytes) r c.name in_range_lem room ≡ answered k) where
+-- What the answer of `permit` says.
+pub at_permitted : (a : Result ℕ Refusal) (k : ℕ) (t : List ℕ) (r : Running) (n : HalfLinkName) (in_range_lem : Bool) (room : ℕ) → a ≡ Ok k
+    → permitted_values a ≡ permission t r n in_range_lem room → permission t r n in_range_lem room ≡ answered k
+at_permitted a k t r n in_range_lem room e f = sym f ∙ ap permitted_values e
+
+-- A change that `permit` allows of the table at the front of the lent bytes.
+pub record MayChange (r : Running) (c : Change) (bytes : List ℕ) (len : ℕ) (in_range_lem : Bool) (room k : ℕ) : Type 0 where
+  pub within : len ≤ length bytes
+  pub front : FrontOf len r.length (length bytes)
+  pub is_range : in_range_lem ≡ not (metric_out c.metric)
+  pub may : permission (take len bytes) r c.name in_range_lem room ≡ answered k
+
+pub may_change : (r : Running) (c : Change) (bytes : List ℕ) (len : ℕ) → (len ≤ length bytes) × FrontOf len r.length (length bytes)
+    → (in_range_lem : Bool) → in_range_lem ≡ not (metric_out c.metric) → (room : ℕ) (a : Result ℕ Refusal) {k : ℕ} → a ≡ Ok k
+    → permitted_values a ≡ permission (take len bytes) r c.name in_range_lem room → MayChange r c bytes len in_range_lem room k
+may_change r c bytes len (within, front) in_range_lem is_range room a {k} e f =
+    record { within = within; front = front; is_range = is_range; may = at_permitted a k (take len bytes) r c.name in_range_lem room e f }
+
+module _ {r : Running} {c : Change} {bytes : List ℕ} {len : ℕ} {in_range_lem : Bool} {room k : ℕ} (M : MayChange r c bytes len in_range_lem room k) where
   abbrev t : List ℕ
   t = take len bytes
 
   abbrev A : Allowed t r c.name in_range_lem room k
-  A = allowed t r c.name in_range_lem room k may
+  A = allowed t r c.name in_range_lem room k M.may
 
   in_range : metric_out c.metric ≡ false
-  in_range = was-false (metric_out c.metric) (sym is_range ∙ A.in_range)
+  in_range = was-false (metric_out c.metric) (sym M.is_range ∙ A.in_range)
 
   its-fits : MetricFits c.metric
   its-fits = fits c.metric in_range
@@ -147,7 +165,7 @@ module _ (r : Running) (c : Change) (bytes : List ℕ) (len : ℕ) (within : len
 
   -- What the edits of the bytes ask for.
   pub front_length : length t ≡ len
-  front_length = length-take-le len bytes within
+  front_length = length-take-le len bytes M.within
 
   pub word-within : 4 * k + 16 ≤ length t
   word-within = omega (arith, A.place, named-within t A.plan c A.accepted is_there its-fits, count_of_words t, front_length)
@@ -213,7 +231,7 @@ module _ (r : Running) (c : Change) (bytes : List ℕ) (len : ℕ) (within : len
 
       outcome_is : with_places costs hop_counts lasts (changed (watched_in r bytes) c) ≡ answered after
       outcome_is =
-          ap (λ (x : List ℕ). with_places costs hop_counts lasts (changed (watching x r.bridge r.vid r.changes) c)) (sym (front bytes refl))
+          ap (λ (x : List ℕ). with_places costs hop_counts lasts (changed (watching x r.bridge r.vid r.changes) c)) (sym (M.front bytes refl))
           ∙ with_places_lem r c t A.plan A.accepted names A.there in_range A.few costs hop_counts lasts room R
           ∙ ap (λ (b : Bool). refused_if (not b) 13 (answered after)) A.enough
 
@@ -235,29 +253,25 @@ module _ (r : Running) (c : Change) (bytes : List ℕ) (len : ℕ) (within : len
           lists : ◌≡◌ {A = Outcome Running × List ℕ × List ℕ × List ℕ} (a, cs, hs, ls) (lists_after costs hop_counts lasts (answered after))
           lists = g ∙ ap (lists_after costs hop_counts lasts) (kept_is x n e (f ∙ omega arith))
 
--- What the answer of `permit` says
-
 -- A test of a number's range is the negation of its being out of it.
 pub in-limits : (b d : Bool) → b ≡ d → b ≡ not (not d)
 in-limits b true e = e
 in-limits b false e = e
 
-pub at_permitted : (a : Permitted) (k : ℕ) (t : List ℕ) (r : Running) (n : HalfLinkName) (in_range_lem : Bool) (room : ℕ) → a ≡ Permitted.At k
-    → permitted_values a ≡ permission t r n in_range_lem room → permission t r n in_range_lem room ≡ answered k
-at_permitted a k t r n in_range_lem room e f = sym f ∙ ap permitted_values e
-
 -- A change that is refused leaves all as it was.
 pub change-not-made : (r : Running) (c : Change) (bytes : List ℕ) (len : ℕ) → FrontOf len r.length (length bytes) → (in_range_lem : Bool)
     → in_range_lem ≡ not (metric_out c.metric) → (room : ℕ) (costs hop_counts lasts : List ℕ) → RoomOf room (length costs) (length hop_counts) (length lasts)
-    → (a : Permitted) (number at : ℕ) (kind : RecordKind) → a ≡ Permitted.Refused number kind at
+    → (a : Result ℕ Refusal) (refusal : Refusal) → a ≡ Err refusal
     → permitted_values a ≡ permission (take len bytes) r c.name in_range_lem room
-    → ◌≡◌ {A = Outcome Running × List ℕ × List ℕ × List ℕ × List ℕ} (refused number (kind_number kind) at, bytes, costs, hop_counts, lasts)
+    → (o : Outcome Running) → o ≡ refused_by refusal
+    → ◌≡◌ {A = Outcome Running × List ℕ × List ℕ × List ℕ × List ℕ} (o, bytes, costs, hop_counts, lasts)
     (change_outcome r c bytes costs hop_counts lasts)
 unfolding change_outcome
-change-not-made r c bytes len front in_range_lem is_range room costs hop_counts lasts R a number at kind e f =
-    sym (ap (state_after bytes costs hop_counts lasts)
+change-not-made r c bytes len front in_range_lem is_range room costs hop_counts lasts R a refusal e f o g =
+    (λ i. (g i, bytes, costs, hop_counts, lasts))
+    ∙ sym (ap (state_after bytes costs hop_counts lasts)
     (ap (λ (x : List ℕ). with_places costs hop_counts lasts (changed (watching x r.bridge r.vid r.changes) c)) (sym (front bytes refl))
-    ∙ is_refused r c (take len bytes) costs hop_counts lasts room R number (kind_number kind) at
+    ∙ is_refused r c (take len bytes) costs hop_counts lasts room R refusal.number (kind_number refusal.kind) refusal.word
     (ap (λ (b : Bool). permission (take len bytes) r c.name b room) (sym is_range) ∙ sym f ∙ ap permitted_values e)))
 
 -- A metric in its range has 24 bits.

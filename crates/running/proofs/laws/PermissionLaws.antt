@@ -1,5 +1,5 @@
 -- What the tests of a change say, one after the other. Assumes nothing.
-use Rattle.std.specs.Prelude.{ℕ, suc, ◌+◌, ◌*◌, ◌≤◌, ◌<◌, ◌≡◌, Bool, not, cond, ◌&&◌, ◌||◌, ◌⊎◌, T, eqb, leb}
+use Rattle.std.specs.Prelude.{ℕ, suc, ◌+◌, ◌*◌, ◌≤◌, ◌<◌, ◌≡◌, Result, Ok, Err, Bool, not, cond, ◌&&◌, ◌||◌, ◌⊎◌, T, eqb, leb}
 use Rattle.std.proofs.Common.{arith, ap, ◌∙◌, inl, inr, eqb→eq, leb→le, le→leb, lt→ltb}
 use Rattle.std.proofs.Math.Path.{refl, sym}
 use mathlib.Core.List.{List, [], ◌∷◌}
@@ -12,10 +12,10 @@ use Rattle.lists.proofs.laws.NumberLaws.{is_true, is_false, le_or_gt, both, firs
 use Rattle.lists.proofs.laws.SelectedLaws.{selected-in}
 use Rattle.lists.proofs.laws.DistinctLaws.{first-in}
 use Rattle.rule.specs.Records.{Vid, half_link_of}
-use Rattle.rule.specs.declared.answer.RecordKind.{RecordKind}
+use Rattle.rule.specs.declared.refusal.Refusal.{Refusal}
+use Rattle.rule.specs.Refusals.{refused_by}
 use Rattle.rule.specs.Words.{words_of}
-use Rattle.rule.specs.Outcome.{Outcome, answered, refused, refused_as, refused_if}
-use Rattle.rule.specs.Answers.{kind_number}
+use Rattle.rule.specs.Outcome.{Outcome, answered, refused_as, refused_if}
 use Rattle.rule.specs.Check.{verdict}
 use Rattle.rule.specs.Plan.{Plan, has_vid, known_bridge, vid_record}
 use Rattle.rule.specs.PlanLaws.{PlanLaws}
@@ -23,7 +23,6 @@ use Rattle.table.specs.declared.shape.Shape.{Shape}
 use Rattle.table.specs.Positions.{half_links_from, plan_at}
 use Rattle.table.proofs.laws.PositionLaws.{how_many}
 use Rattle.table.specs.Numbered.{index_of}
-use Rattle.verdict.specs.declared.examine.Examined.{Examined}
 use Rattle.verdict.specs.Examination.{examined_values}
 use Rattle.verdict.proofs.laws.AskedLaws.{asked, not-asked}
 use Rattle.edits.specs.declared.change.HalfLinkName.{HalfLinkName}
@@ -173,15 +172,14 @@ module _ (p : Plan) (r : Running) (n : HalfLinkName) where
         (refused_if (leb most_changes r.changes) 19 (refused_if (not (leb (length p.bridges) room)) 13 (answered (word_of p n))))))) e)
 
 -- Of a table that was examined.
-module _ (t : List ℕ) (e : Examined) (f : examined_values (words_of t) e ≡ verdict t) (r : Running) (n : HalfLinkName) (fits : Bool) (room : ℕ) where
-  pub asked-permission : (s : Shape) → e ≡ Examined.Accepted s → plan_permission (plan_at (words_of t) s) r n fits room ≡ permission t r n fits room
+module _ (t : List ℕ) (e : Result Shape Refusal) (f : examined_values (words_of t) e ≡ verdict t) (r : Running) (n : HalfLinkName) (fits : Bool) (room : ℕ) where
+  pub asked-permission : (s : Shape) → e ≡ Ok s → plan_permission (plan_at (words_of t) s) r n fits room ≡ permission t r n fits room
   unfolding permission
   asked-permission s g = asked t e f (λ p. plan_permission p r n fits room) s g
 
-  pub not-asked-permission : (number at : ℕ) (kind : RecordKind) → e ≡ Examined.Refused number kind at
-      → refused number (kind_number kind) at ≡ permission t r n fits room
+  pub not-asked-permission : (refusal : Refusal) → e ≡ Err refusal → refused_by refusal ≡ permission t r n fits room
   unfolding permission
-  not-asked-permission number at kind g = not-asked t e f (λ p. plan_permission p r n fits room) number at kind g
+  not-asked-permission refusal g = not-asked t e f (λ p. plan_permission p r n fits room) refusal g
 
 pub links-counted : (ws : List ℕ) (s : Shape) → length (plan_at ws s).half_links ≡ s.half_links
 links-counted ws s = how_many half_link_of 3 (half_links_from s) ws s.half_links

@@ -1,14 +1,14 @@
 -- The records of one kind more are read. Assumes nothing.
-use Rattle.std.specs.Prelude.{ℕ, ◌+◌, ◌≤◌, ◌<◌, ◌≡◌, refl, List, ◌⊎◌, false}
+use Rattle.std.specs.Prelude.{ℕ, ◌+◌, ◌≤◌, ◌<◌, ◌≡◌, refl, List, Result, ◌⊎◌, false}
 use Rattle.std.proofs.Common.{arith, sym, ap, ◌∙◌, inl, inr}
 use Rattle.lists.proofs.laws.NumberLaws.{same_or_not}
+use Rattle.rule.specs.declared.refusal.Refusal.{Refusal}
 use Rattle.rule.specs.Records.{half_link_of}
 use Rattle.table.specs.declared.shape.Shape.{Shape}
 use Rattle.table.specs.Positions.{half_links_from, vids_from, members_from, traffic_from, words_read}
 use Rattle.key_index.specs.Index.{Indexed}
 use Rattle.earlier.specs.HalfLinks.{number_key}
 use Rattle.earlier.proofs.laws.KeyLaws.{keyed-none}
-use Rattle.steps.specs.declared.step.Step.{Step}
 use Rattle.runs.specs.Runs.{is_kind, Reached, SameOthers, Run, Numbers, NumbersKept, Before, KindRead}
 
 -- Before the half-links are read the index has no key.
@@ -101,7 +101,7 @@ module _ {ws links : List ℕ} {kind : ℕ} {s : Shape} (B : Before ws links kin
       go (inr g) = rw (o.half_links d, o.bridges g) B.numbers
 
   -- The records of the kind `k`, which is this one, were read.
-  module _ {r : Step} (k : ℕ) (e : kind ≡ k) (run : Run ws k s r) where
+  module _ {r : Result Shape Refusal} (k : ℕ) (e : kind ≡ k) (run : Run ws k s r) where
     this_run : Run ws kind s r
     this_run = rw e run
 

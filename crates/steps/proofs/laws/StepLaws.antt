@@ -1,14 +1,16 @@
 -- The step that a record comes to: refused with its lowest fault, or taken into the plan at the position where it stands.
 -- Assumes nothing.
-use Rattle.std.specs.Prelude.{ℕ, zero, suc, ◌+◌, ◌*◌, ◌≤◌, ◌<◌, ◌≡◌, refl, List, [], ◌∷◌, ◌++◌, Bool, true, false, Ok, Err, cond, eqb, leb, ltb, length, drop}
+use Rattle.std.specs.Prelude.{ℕ, zero, suc, ◌+◌, ◌*◌, ◌≤◌, ◌<◌, ◌≡◌, refl, List, [], ◌∷◌, ◌++◌, Result, Ok, Err, Bool, true, false, cond, eqb, leb, ltb, length, drop}
 use Rattle.std.proofs.Common.{arith, sym, ap, subst, ◌∙◌, length-drop, lt-ltb, le-ltb, ltb-false, leb-false}
 use Rattle.std.proofs.Math.Option.{Option, none, some}
 use Rattle.lists.proofs.laws.NumberLaws.{is_false}
 use Rattle.rule.specs.declared.answer.RecordKind.{RecordKind}
+use Rattle.rule.specs.declared.refusal.Refusal.{Refusal}
 use Rattle.rule.specs.Records.{Bridge, HalfLink, Vid, Member, Traffic, bridge_of, half_link_of, vid_of, member_of, traffic_of, Layout, bridge_layout, half_link_layout, vid_layout, member_layout, traffic_layout}
 use Rattle.rule.specs.Words.{words_of}
 use Rattle.rule.specs.Outcome.{refused}
 use Rattle.rule.specs.Answers.{kind_number}
+use Rattle.rule.specs.Refusals.{refused_by}
 use Rattle.rule.specs.Plan.{Plan, alike}
 use Rattle.rule.proofs.laws.Accepted.{NoFault, no_fault}
 use Rattle.rule.specs.Check.{faults, kind_concerned, goes_on, stops, judged}
@@ -23,8 +25,7 @@ use Rattle.faults.specs.Faults.{numbered, fault_at}
 use Rattle.earlier.specs.Keys.{source_key, address_key, member_key, traffic_key, BridgeIndexes, MemberIndex, TrafficIndex}
 use Rattle.earlier.specs.HalfLinks.{port_key, number_key}
 use Rattle.earlier.proofs.laws.KeyLaws.{keyed-more}
-use Rattle.steps.specs.Steps.{concerned, with_bridge, with_half_link, with_vid, with_member, with_traffic, step_values, Stepped, step_as, HalfLinkIndexes, BridgesKept, HalfLinksKept, MembersKept, TrafficKept}
-use Rattle.steps.specs.declared.step.Step.{Step}
+use Rattle.steps.specs.Steps.{concerned, refusal_of, with_bridge, with_half_link, with_vid, with_member, with_traffic, step_values, Stepped, step_as, HalfLinkIndexes, BridgesKept, HalfLinksKept, MembersKept, TrafficKept}
 
 -- Refused
 
@@ -40,17 +41,17 @@ module _ (ws : List ℕ) (s : Shape) (l : Layout) where
   words = drop (words_read s) ws
 
   pub refused-step :
-      (next : Shape) (f : Fault) (kind : RecordKind) (r : Step) →
+      (next : Shape) (f : Fault) (kind : RecordKind) (r : Refusal) →
       numbered (Err f) ≡ fault_at ws s l →
       kind_number kind ≡ some l.kind →
       (at : ℕ) →
       at ≡ words_read s →
-      r ≡ Step.Refused (fault_number f) (concerned (fault_number f) kind) at →
-      Stepped ws next (step_as ws s l) r
+      r ≡ refusal_of (fault_number f) kind at →
+      Stepped ws next (step_as ws s l) (Err r)
   refused-step next f kind r e k at a g =
       record {
         value =
-            ap (step_values ws) g
+            ap (λ (x : Refusal). stops (refused_by x)) g
             ∙ (λ i. stops (refused (fault_number f) (kind-concerned (fault_number f) l.kind kind k i) (a i)))
             ∙ ap (judged (reading_at ws s) l words) e;
         is_next = λ t n. let z : ◌≡◌ {A = ℕ} 0 1 = cc in absurd (omega arith);
@@ -59,7 +60,7 @@ module _ (ws : List ℕ) (s : Shape) (l : Layout) where
 
   -- Taken: no fault
 
-  pub taken_sound : {next : Shape} {r : Step} → Stepped ws next (step_as ws s l) r → (t : Shape) → r ≡ Step.Next t → numbered (Ok tt) ≡ fault_at ws s l
+  pub taken_sound : {next : Shape} {r : Result Shape Refusal} → Stepped ws next (step_as ws s l) r → (t : Shape) → r ≡ Ok t → numbered (Ok tt) ≡ fault_at ws s l
   taken_sound h t n = go (fault_at ws s l) (sym (ap (step_values ws) n) ∙ h.value)
     where
       go : (o : Option ℕ) → goes_on (reading_at ws t) ≡ judged (reading_at ws s) l words o → numbered (Ok tt) ≡ o
@@ -83,15 +84,14 @@ module _ (ws : List ℕ) (s : Shape) (l : Layout) where
 
     -- The reading after the record, where the record does not end the table.
     pub taken_step :
-        (t : Shape) (r : Step) →
+        (t : Shape) →
         goes_on (reading_at ws t) ≡ judged (reading_at ws s) l words none →
         words_read t ≡ words_read s + l.words →
         0 < l.words →
-        r ≡ Step.Next t →
-        Stepped ws t (step_as ws s l) r
-    taken_step t r e w p g =
+        Stepped ws t (step_as ws s l) (Ok t)
+    taken_step t e w p =
         record {
-          value = ap (step_values ws) g ∙ e ∙ ap (judged (reading_at ws s) l words) sound;
+          value = e ∙ ap (judged (reading_at ws s) l words) sound;
           is_next = λ u n. let z : t ≡ u = cc in sym z;
           within =
               λ u n.
@@ -166,9 +166,9 @@ module _ {A : Type 0} (decoded : List ℕ → A) (width from : ℕ) (ws : List �
       ∙ ap (λ (k : ℕ). records_at decoded width from ws n ++ (decoded (drop k ws) ∷ [])) e
 
 module _ (ws : List ℕ) (s : Shape) where
-  pub bridge-taken : (r : Step) → numbered (Ok tt) ≡ fault_at ws s bridge_layout → r ≡ Step.Next (with_bridge s) → Stepped ws (with_bridge s) (step_as ws s bridge_layout) r
-  bridge-taken r e g =
-      taken_step ws s bridge_layout e (with_bridge s) r
+  pub bridge-taken : numbered (Ok tt) ≡ fault_at ws s bridge_layout → Stepped ws (with_bridge s) (step_as ws s bridge_layout) (Ok (with_bridge s))
+  bridge-taken e =
+      taken_step ws s bridge_layout e (with_bridge s)
       (same-reading (omega arith) last
       (same-plan
       (grown bridge_of 3 0 ws s.bridges (words_read s) (omega (arith, h, v, m, n)))
@@ -176,7 +176,7 @@ module _ (ws : List ℕ) (s : Shape) where
       (none_anywhere vid_of 1 (vids_from (with_bridge s)) ws (vids_from s) s.vids v)
       (none_anywhere member_of 2 (members_from (with_bridge s)) ws (members_from s) s.members m)
       (none_anywhere traffic_of 2 (traffic_from (with_bridge s)) ws (traffic_from s) s.traffic n)))
-      (omega arith) (omega arith) g
+      (omega arith) (omega arith)
     where
       after : NoneAfter 1 s
       after = none_after 1 s (not_lower ws s bridge_layout e)
@@ -196,10 +196,9 @@ module _ (ws : List ℕ) (s : Shape) where
       last : last_kind (with_bridge s) ≡ 1
       last = simp (le-ltb 0 s.traffic (omega (arith, n)), le-ltb 0 s.members (omega (arith, m)), le-ltb 0 s.vids (omega (arith, v)), le-ltb 0 s.half_links (omega (arith, h)), lt-ltb 0 (s.bridges + 1) (omega arith))
 
-  pub half_link-taken :
-      (r : Step) → numbered (Ok tt) ≡ fault_at ws s half_link_layout → r ≡ Step.Next (with_half_link s) → Stepped ws (with_half_link s) (step_as ws s half_link_layout) r
-  half_link-taken r e g =
-      taken_step ws s half_link_layout e (with_half_link s) r
+  pub half_link-taken : numbered (Ok tt) ≡ fault_at ws s half_link_layout → Stepped ws (with_half_link s) (step_as ws s half_link_layout) (Ok (with_half_link s))
+  half_link-taken e =
+      taken_step ws s half_link_layout e (with_half_link s)
       (same-reading (omega arith) last
       (same-plan
       refl
@@ -207,7 +206,7 @@ module _ (ws : List ℕ) (s : Shape) where
       (none_anywhere vid_of 1 (vids_from (with_half_link s)) ws (vids_from s) s.vids v)
       (none_anywhere member_of 2 (members_from (with_half_link s)) ws (members_from s) s.members m)
       (none_anywhere traffic_of 2 (traffic_from (with_half_link s)) ws (traffic_from s) s.traffic n)))
-      (omega arith) (omega arith) g
+      (omega arith) (omega arith)
     where
       after : NoneAfter 2 s
       after = none_after 2 s (not_lower ws s half_link_layout e)
@@ -224,9 +223,9 @@ module _ (ws : List ℕ) (s : Shape) where
       last : last_kind (with_half_link s) ≡ 2
       last = simp (le-ltb 0 s.traffic (omega (arith, n)), le-ltb 0 s.members (omega (arith, m)), le-ltb 0 s.vids (omega (arith, v)), lt-ltb 0 (s.half_links + 1) (omega arith))
 
-  pub vid-taken : (r : Step) → numbered (Ok tt) ≡ fault_at ws s vid_layout → r ≡ Step.Next (with_vid s) → Stepped ws (with_vid s) (step_as ws s vid_layout) r
-  vid-taken r e g =
-      taken_step ws s vid_layout e (with_vid s) r
+  pub vid-taken : numbered (Ok tt) ≡ fault_at ws s vid_layout → Stepped ws (with_vid s) (step_as ws s vid_layout) (Ok (with_vid s))
+  vid-taken e =
+      taken_step ws s vid_layout e (with_vid s)
       (same-reading (omega arith) last
       (same-plan
       refl
@@ -234,7 +233,7 @@ module _ (ws : List ℕ) (s : Shape) where
       (grown vid_of 1 (vids_from s) ws s.vids (words_read s) (omega (arith, m, n)))
       (none_anywhere member_of 2 (members_from (with_vid s)) ws (members_from s) s.members m)
       (none_anywhere traffic_of 2 (traffic_from (with_vid s)) ws (traffic_from s) s.traffic n)))
-      (omega arith) (omega arith) g
+      (omega arith) (omega arith)
     where
       after : NoneAfter 3 s
       after = none_after 3 s (not_lower ws s vid_layout e)
@@ -248,9 +247,9 @@ module _ (ws : List ℕ) (s : Shape) where
       last : last_kind (with_vid s) ≡ 3
       last = simp (le-ltb 0 s.traffic (omega (arith, n)), le-ltb 0 s.members (omega (arith, m)), lt-ltb 0 (s.vids + 1) (omega arith))
 
-  pub member-taken : (r : Step) → numbered (Ok tt) ≡ fault_at ws s member_layout → r ≡ Step.Next (with_member s) → Stepped ws (with_member s) (step_as ws s member_layout) r
-  member-taken r e g =
-      taken_step ws s member_layout e (with_member s) r
+  pub member-taken : numbered (Ok tt) ≡ fault_at ws s member_layout → Stepped ws (with_member s) (step_as ws s member_layout) (Ok (with_member s))
+  member-taken e =
+      taken_step ws s member_layout e (with_member s)
       (same-reading (omega arith) last
       (same-plan
       refl
@@ -258,7 +257,7 @@ module _ (ws : List ℕ) (s : Shape) where
       refl
       (grown member_of 2 (members_from s) ws s.members (words_read s) (omega (arith, n)))
       (none_anywhere traffic_of 2 (traffic_from (with_member s)) ws (traffic_from s) s.traffic n)))
-      (omega arith) (omega arith) g
+      (omega arith) (omega arith)
     where
       n : s.traffic ≡ 0
       n = (none_after 4 s (not_lower ws s member_layout e)).no_traffic (omega arith)
@@ -266,13 +265,12 @@ module _ (ws : List ℕ) (s : Shape) where
       last : last_kind (with_member s) ≡ 4
       last = simp (le-ltb 0 s.traffic (omega (arith, n)), lt-ltb 0 (s.members + 1) (omega arith))
 
-  pub traffic-taken :
-      (r : Step) → numbered (Ok tt) ≡ fault_at ws s traffic_layout → r ≡ Step.Next (with_traffic s) → Stepped ws (with_traffic s) (step_as ws s traffic_layout) r
-  traffic-taken r e g =
-      taken_step ws s traffic_layout e (with_traffic s) r
+  pub traffic-taken : numbered (Ok tt) ≡ fault_at ws s traffic_layout → Stepped ws (with_traffic s) (step_as ws s traffic_layout) (Ok (with_traffic s))
+  traffic-taken e =
+      taken_step ws s traffic_layout e (with_traffic s)
       (same-reading (omega arith) (simp (lt-ltb 0 (s.traffic + 1) (omega arith)))
       (same-plan refl refl refl refl (grown traffic_of 2 (traffic_from s) ws s.traffic (words_read s) (omega arith))))
-      (omega arith) (omega arith) g
+      (omega arith) (omega arith)
 
 -- A record without a fault: its words are there, and there is room for its keys
 
@@ -312,7 +310,7 @@ module _ (ws : List ℕ) (s : Shape) where
   -- Its keys entered, it is in the indexes of its kind.
 
   pub bridges-kept :
-      {sources addresses sources' addresses' : List ℕ} {r : Step} →
+      {sources addresses sources' addresses' : List ℕ} →
       BridgeIndexes sources addresses ws s.bridges →
       (b : Bridge) (at key : ℕ) →
       at ≡ words_read s →
@@ -321,9 +319,8 @@ module _ (ws : List ℕ) (s : Shape) where
       key ≡ address_key b →
       Entered sources sources' s.bridges b.sp_source_id →
       Entered addresses addresses' s.bridges key →
-      r ≡ Step.Next (with_bridge s) →
-      BridgesKept ws sources' addresses' r
-  bridges-kept {sources' = sources'} {addresses' = addresses'} x b at key a e f k p q g t n =
+      BridgesKept ws sources' addresses' (Ok (with_bridge s))
+  bridges-kept {sources' = sources'} {addresses' = addresses'} x b at key a e f k p q t n =
       let z : with_bridge s ≡ t = cc
       in subst (λ (y : Shape). BridgeIndexes sources' addresses' ws y.bridges) z (
       record {
@@ -341,7 +338,7 @@ module _ (ws : List ℕ) (s : Shape) where
           (omega (arith, after.no_half_links (omega arith), after.no_vids (omega arith), after.no_members (omega arith), after.no_traffic (omega arith)))
 
   pub half_links_kept :
-      {ports links ports' links' : List ℕ} {r : Step} →
+      {ports links ports' links' : List ℕ} →
       HalfLinkIndexes ports links ws s →
       (h : HalfLink) (at key : ℕ) →
       at ≡ words_read s →
@@ -350,9 +347,8 @@ module _ (ws : List ℕ) (s : Shape) where
       key ≡ port_key h →
       Entered ports ports' s.half_links key →
       Entered links links' s.half_links h.link →
-      r ≡ Step.Next (with_half_link s) →
-      HalfLinksKept ws ports' links' r
-  half_links_kept {ports' = ports'} {links' = links'} x h at key a e f k p l g t n =
+      HalfLinksKept ws ports' links' (Ok (with_half_link s))
+  half_links_kept {ports' = ports'} {links' = links'} x h at key a e f k p l t n =
       let z : with_half_link s ≡ t = cc
       in subst (λ (y : Shape). HalfLinkIndexes ports' links' ws y) z (
       record {
@@ -370,7 +366,7 @@ module _ (ws : List ℕ) (s : Shape) where
           (omega (arith, after.no_vids (omega arith), after.no_members (omega arith), after.no_traffic (omega arith)))
 
   pub members_kept :
-      {members members' : List ℕ} {r : Step} →
+      {members members' : List ℕ} →
       MemberIndex members ws (members_from s) s.members →
       (m : Member) (at key : ℕ) →
       at ≡ words_read s →
@@ -378,9 +374,8 @@ module _ (ws : List ℕ) (s : Shape) where
       numbered (Ok tt) ≡ fault_at ws s member_layout →
       key ≡ member_key m →
       Entered members members' s.members key →
-      r ≡ Step.Next (with_member s) →
-      MembersKept ws members' r
-  members_kept {members' = members'} x m at key a e f k p g t n =
+      MembersKept ws members' (Ok (with_member s))
+  members_kept {members' = members'} x m at key a e f k p t n =
       let z : with_member s ≡ t = cc
       in subst (λ (y : Shape). MemberIndex members' ws (members_from y) y.members) z (keyed-more x key p (k ∙ ap member_key there))
     where
@@ -390,23 +385,19 @@ module _ (ws : List ℕ) (s : Shape) where
           (omega (arith, (none_after 4 s (not_lower ws s member_layout f)).no_traffic (omega arith)))
 
   pub traffic_kept :
-      {traffic traffic' : List ℕ} {r : Step} →
+      {traffic traffic' : List ℕ} →
       TrafficIndex traffic ws (traffic_from s) s.traffic →
       (x : Traffic) (at key : ℕ) →
       at ≡ words_read s →
       x ≡ traffic_of (drop at ws) →
       key ≡ traffic_key x →
       Entered traffic traffic' s.traffic key →
-      r ≡ Step.Next (with_traffic s) →
-      TrafficKept ws traffic' r
-  traffic_kept {traffic' = traffic'} k x at key a e f p g t n =
+      TrafficKept ws traffic' (Ok (with_traffic s))
+  traffic_kept {traffic' = traffic'} k x at key a e f p t n =
       let z : with_traffic s ≡ t = cc
       in subst (λ (y : Shape). TrafficIndex traffic' ws (traffic_from y) y.traffic) z
       (keyed-more k key p (f ∙ ap traffic_key (next_of_kind traffic_of 2 (traffic_from s) s.traffic at x a e refl)))
 
 -- A refusal keeps nothing.
-pub refused_keeps :
-    (P : Shape → Type 0) {number at : ℕ} {kind : RecordKind} {r : Step} →
-    r ≡ Step.Refused number kind at →
-    (t : Shape) → r ≡ Step.Next t → P t
-refused_keeps P e t n = let z : ◌≡◌ {A = ℕ} 0 1 = cc in absurd (omega arith)
+pub refused_keeps : (P : Shape → Type 0) {r : Refusal} (t : Shape) → ◌≡◌ {A = Result Shape Refusal} (Err r) (Ok t) → P t
+refused_keeps P t n = let z : ◌≡◌ {A = ℕ} 0 1 = cc in absurd (omega arith)

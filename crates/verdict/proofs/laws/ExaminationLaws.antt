@@ -1,8 +1,8 @@
 -- The verdict as the code has it: what examining keeps from kind to kind, and what it comes to. Assumes nothing.
-use Rattle.std.specs.Prelude.{ℕ, ◌+◌, ◌%◌, ◌≤◌, ◌<◌, ◌≡◌, refl, List, Bool, true, false, not, ◌||◌, eqb, ltb, length}
+use Rattle.std.specs.Prelude.{ℕ, ◌+◌, ◌%◌, ◌≤◌, ◌<◌, ◌≡◌, refl, List, Result, Ok, Bool, true, false, not, ◌||◌, eqb, ltb, length}
 use Rattle.std.proofs.Common.{arith, sym, ap, subst, ◌∙◌, ltb-false}
 use Rattle.std.proofs.Math.Option.{none}
-use Rattle.rule.specs.declared.answer.RecordKind.{RecordKind}
+use Rattle.rule.specs.declared.refusal.Refusal.{Refusal}
 use Rattle.rule.specs.Records.{bridge_of, half_link_of, vid_of, member_of, traffic_of}
 use Rattle.rule.specs.Words.{words_of}
 use Rattle.rule.specs.Outcome.{Outcome, refused, refused_if}
@@ -16,19 +16,9 @@ use Rattle.table.proofs.laws.PositionLaws.{no_records_lem}
 use Rattle.readers.proofs.laws.WordLaws.{count_of_words}
 use Rattle.earlier.specs.HalfLinks.{number_key}
 use Rattle.earlier.proofs.laws.KeyLaws.{keyed-none}
-use Rattle.steps.specs.declared.step.Step.{Step}
-use Rattle.runs.specs.Runs.{Before, KindRead}
-use Rattle.verdict.specs.declared.examine.Examined.{Examined}
+use Rattle.runs.specs.Runs.{Run, Before, KindRead}
+use Rattle.runs.proofs.laws.BeforeLaws.{kind_read}
 use Rattle.verdict.specs.Examination.{examined_values, AcceptedAs, AcceptedAfterAll, Passed}
-
-pub refused-passes : {t index : List ℕ} {number at : ℕ} {kind : RecordKind} → Passed t index (Examined.Refused number kind at)
-refused-passes s n = let z : ◌≡◌ {A = ℕ} 0 1 = cc in absurd (omega arith)
-
-pub refused_accepts_none : {s : Shape} {number at : ℕ} {kind : RecordKind} → AcceptedAs s (Examined.Refused number kind at)
-refused_accepts_none t n = let z : ◌≡◌ {A = ℕ} 0 1 = cc in absurd (omega arith)
-
-pub accepted_as_read : {s : Shape} → AcceptedAs s (Examined.Accepted s)
-accepted_as_read {s} t n = let z : s ≡ t = cc in sym z
 
 -- The kinds before `next` are read.
 pub record Examining (ws links : List ℕ) (s : Shape) (next : ℕ) : Type 0 where
@@ -85,12 +75,12 @@ examining_starts ws links x =
     }
 
 pub examining_next :
-    {ws links links' : List ℕ} {s : Shape} {next : ℕ} {r : Step} →
+    {ws links links' : List ℕ} {s : Shape} {next : ℕ} {r : Result Shape Refusal} →
     Examining ws links s next →
     next ≤ 4 →
     KindRead ws links' next r →
     (t : Shape) →
-    r ≡ Step.Next t →
+    r ≡ Ok t →
     Examining ws links' t (next + 1)
 examining_next x l k t e = record { first = omega arith; last = omega arith; before = k.next t e }
 
@@ -120,16 +110,23 @@ pub members-read : {ws links : List ℕ} {s : Shape} {next : ℕ} → Examining 
 members-read {ws} {links} {s} {next} x l =
     subst (λ (k : ℕ). Before ws links k s) (let z : next ≡ 5 = omega (arith, x.last) in z) x.before
 
--- What the end record accepts are the records before it.
-pub accepted-after-all : {ws links : List ℕ} {s : Shape} {r : Examined} → AcceptedAs s r → Before ws links 6 s → AcceptedAfterAll ws links r
-accepted-after-all {ws} {links} a B t n = subst (λ (y : Shape). Before ws links 6 y) (sym (a t n)) B
+-- The traffic read, all kinds are.
+pub traffic-read :
+    {ws links : List ℕ} {s : Shape} {r : Result Shape Refusal} →
+    Before ws links 5 s →
+    Run ws 5 s r →
+    (t : Shape) →
+    r ≡ Ok t →
+    Before ws links 6 t
+traffic-read B run = (kind_read B (omega arith) (omega arith) 5 refl run (λ z. absurd (omega arith))).next
 
-pub refused-after-all : {ws links : List ℕ} {number at : ℕ} {kind : RecordKind} → AcceptedAfterAll ws links (Examined.Refused number kind at)
-refused-after-all t n = let z : ◌≡◌ {A = ℕ} 0 1 = cc in absurd (omega arith)
+-- What the end record accepts are the records before it.
+pub accepted-after-all : {ws links : List ℕ} {s : Shape} {r : Result Shape Refusal} → AcceptedAs s r → Before ws links 6 s → AcceptedAfterAll ws links r
+accepted-after-all {ws} {links} a B t n = subst (λ (y : Shape). Before ws links 6 y) (sym (a t n)) B
 
 -- A table that the verdict accepts is a checked one.
 pub accepted-passes :
-    {t index : List ℕ} {r : Examined} →
+    {t index : List ℕ} {r : Result Shape Refusal} →
     examined_values (words_of t) r ≡ verdict t →
     AcceptedAfterAll (words_of t) index r →
     length t ≤ longest_table →

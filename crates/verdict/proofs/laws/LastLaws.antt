@@ -10,9 +10,10 @@ use Rattle.std.proofs.Math.Seq.{drop-length}
 use Rattle.lists.proofs.laws.NumberLaws.{le_or_gt, same_or_not}
 use Rattle.rule.specs.declared.answer.RecordKind.{RecordKind}
 use Rattle.rule.specs.Words.{word, bits}
+use Rattle.rule.specs.declared.refusal.Refusal.{Refusal}
+use Rattle.rule.specs.Refusals.{refused_by}
 use Rattle.rule.specs.Records.{Layout, layout_of, bridge_layout, half_link_layout, vid_layout, member_layout, traffic_layout, end_layout}
 use Rattle.rule.specs.Outcome.{Outcome, answered, refused}
-use Rattle.rule.specs.Answers.{kind_number}
 use Rattle.rule.specs.Plan.{Plan}
 use Rattle.rule.specs.Check.{kind_concerned, lowest_fault, stops, judged, read_as, read_from, step_of, after, read_on, start}
 use Rattle.table.specs.declared.shape.Shape.{Shape}
@@ -20,7 +21,7 @@ use Rattle.table.specs.Positions.{half_links_from, vids_from, members_from, traf
 use Rattle.rule.specs.Refusals.{fault_number}
 use Rattle.rule.specs.declared.refusal.Fault.{Fault}
 use Rattle.faults.specs.Faults.{numbered, fault_at}
-use Rattle.steps.specs.Steps.{concerned, step_as}
+use Rattle.steps.specs.Steps.{refusal_of, step_as}
 use Rattle.steps.proofs.laws.StepLaws.{NoneAfter, none_after, kind-concerned}
 use Rattle.runs.specs.Runs.{is_kind, records_read, Reached, Before}
 use Rattle.runs.proofs.laws.KindLaws.{bridge-kind, half_link-kind, vid-kind, member-kind, traffic-kind, end-kind, unknown-kind, word-there, kind-there, step_by_kind}
@@ -132,13 +133,12 @@ module _ {ws : List ℕ} {s : Shape} (R : Reached ws s) where
         ∙ ap (read_as (reading_at ws s) (drop (words_read s) ws)) end-kind
 
     pub end_refused :
-        (f : Fault) → numbered (Err f) ≡ fault_at ws s end_layout → (number : ℕ) → number ≡ fault_number f →
-        (kind : RecordKind) → kind ≡ concerned number RecordKind.End →
-        (at : ℕ) → at ≡ words_read s →
-        refused number (kind_number kind) at ≡ read_on (length ws) ws start
-    end_refused f n number m kind k at a =
-        (λ i. refused (m i) (kind_number (k i)) (a i))
-        ∙ ap (λ (c : _). refused (fault_number f) c (words_read s)) (kind-concerned number 15 RecordKind.End refl ∙ ap (λ x. kind_concerned x 15) m)
+        (f : Fault) → numbered (Err f) ≡ fault_at ws s end_layout → (at : ℕ) → at ≡ words_read s →
+        (r : Refusal) → r ≡ refusal_of (fault_number f) RecordKind.End at →
+        refused_by r ≡ read_on (length ws) ws start
+    end_refused f n at a r g =
+        ap (λ (x : Refusal). refused_by x) g
+        ∙ (λ i. refused (fault_number f) (kind-concerned (fault_number f) 15 RecordKind.End refl i) (a i))
         ∙ stops_with (word-there ws 15 (words_read s) e) (refused (fault_number f) (kind_concerned (fault_number f) 15) (words_read s))
         (end_step ∙ ap (judged (reading_at ws s) end_layout (drop (words_read s) ws)) (sym n))
 

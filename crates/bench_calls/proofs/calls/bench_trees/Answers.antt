@@ -13,25 +13,25 @@ examine-examined-requires c = no_keys_yet
 pub returns-then-s-count : goal.returns-then-s-count
 returns-then-s-count c =
     let examine-is = c.examine-examined.ensures.result_value in
-    let many = how_many bridge_of 3 0 (words_of c.args.table.now) c.in-Accepted.s.bridges in
+    let many = how_many bridge_of 3 0 (words_of c.args.table.now) c.in-Ok.s.bridges in
     too_many c.args.table.now c.examine-examined.result examine-is c.args.count _
-    c.in-Accepted.is (omega (arith, c.if-s-count.true, many))
+    c.in-Ok.is (omega (arith, c.if-s-count.true, many))
 
 pub trees_of_table-requires : goal.trees_of_table-requires
 trees_of_table-requires c =
     let the-passed = c.examine-examined.ensures.passed in
-    let passed = the-passed _ c.in-Accepted.is in
+    let passed = the-passed _ c.in-Ok.is in
     (passed.0, omega (arith, c.if-s-count.false), passed.1)
 
 pub returns-else-s-count : goal.returns-else-s-count
 returns-else-s-count c =
     let examine-is = c.examine-examined.ensures.result_value in
-    let many = how_many bridge_of 3 0 (words_of c.args.table.now) c.in-Accepted.s.bridges in
+    let many = how_many bridge_of 3 0 (words_of c.args.table.now) c.in-Ok.s.bridges in
     trees_made c.args.table.now c.examine-examined.result examine-is c.args.count _
-    c.in-Accepted.is (omega (arith, c.if-s-count.false, many)) c.trees_of_table.ensures
+    c.in-Ok.is (omega (arith, c.if-s-count.false, many)) c.trees_of_table.ensures
 
-pub returns-in-Refused : goal.returns-in-Refused
-returns-in-Refused c =
+pub returns-in-Err : goal.returns-in-Err
+returns-in-Err c =
     let examine-is = c.examine-examined.ensures.result_value in
-    trees_refused c.args.table.now c.examine-examined.result examine-is c.args.count _ _ _
-    c.in-Refused.is
+    trees_refused c.args.table.now c.examine-examined.result examine-is c.args.count _
+    c.in-Err.is

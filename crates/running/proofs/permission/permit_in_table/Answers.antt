@@ -2,6 +2,7 @@
 use native.Mathlib.Omega.{arith}
 use mathlib.Core.Path.{sym, ◌∙◌}
 use Rattle.rule.specs.Words.{words_of}
+use Rattle.rule.specs.Refusals.{refused_by}
 use Rattle.table.specs.Positions.{plan_at}
 use Rattle.verdict.proofs.laws.CheckedLaws.{bridges-counted}
 use Rattle.running.proofs.laws.PermissionLaws.{was-false, was-true, links-counted, is_11, is_17, is_18, is_19, is_13, is_permitted}
@@ -11,13 +12,13 @@ use Rattle.running.proofs.permission.permit_in_table.Goals as goal
 
 pub returns-then-lacks_names : goal.returns-then-lacks_names
 returns-then-lacks_names c =
-    c.refused.ensures
+    ap refused_by c.of_call.ensures
     ∙ is_11 (plan_at (words_of c.args.table.now) c.args.s) c.args.running c.args.name
     c.args.fits c.args.room (sym c.lacks_names.ensures ∙ c.if-lacks_names.true)
 
 pub returns-then-s-i : goal.returns-then-s-i
 returns-then-s-i c =
-    c.refused-then-s-i.ensures
+    ap refused_by c.of_call-then-s-i.ensures
     ∙ is_17 (plan_at (words_of c.args.table.now) c.args.s) c.args.running c.args.name
     c.args.fits c.args.room (sym c.lacks_names.ensures ∙ c.if-lacks_names.false) _
     c.find_half_link-i.ensures
@@ -25,7 +26,7 @@ returns-then-s-i c =
 
 pub returns-then-not-fits : goal.returns-then-not-fits
 returns-then-not-fits c =
-    c.refused-then-not-fits.ensures
+    ap refused_by c.of_call-then-not-fits.ensures
     ∙ is_18 (plan_at (words_of c.args.table.now) c.args.s) c.args.running c.args.name
     c.args.fits c.args.room (sym c.lacks_names.ensures ∙ c.if-lacks_names.false) _
     c.find_half_link-i.ensures
@@ -34,7 +35,7 @@ returns-then-not-fits c =
 
 pub returns-then-running-ge-MOST_CHANGES : goal.returns-then-running-ge-MOST_CHANGES
 returns-then-running-ge-MOST_CHANGES c =
-    c.refused-then-running-ge-MOST_CHANGES.ensures
+    ap refused_by c.of_call-then-running-ge-MOST_CHANGES.ensures
     ∙ is_19 (plan_at (words_of c.args.table.now) c.args.s) c.args.running c.args.name
     c.args.fits c.args.room (sym c.lacks_names.ensures ∙ c.if-lacks_names.false) _
     c.find_half_link-i.ensures
@@ -43,7 +44,7 @@ returns-then-running-ge-MOST_CHANGES c =
 
 pub returns-then-room-s : goal.returns-then-room-s
 returns-then-room-s c =
-    c.refused-then-room-s.ensures
+    ap refused_by c.of_call-then-room-s.ensures
     ∙ is_13 (plan_at (words_of c.args.table.now) c.args.s) c.args.running c.args.name
     c.args.fits c.args.room (sym c.lacks_names.ensures ∙ c.if-lacks_names.false) _
     c.find_half_link-i.ensures

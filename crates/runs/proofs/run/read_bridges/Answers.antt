@@ -5,6 +5,7 @@ use Rattle.rule.specs.Records.{bridge_layout, bridge_of}
 use Rattle.key_index.proofs.laws.IndexLaws.{no_keys_yet}
 use Rattle.earlier.specs.Keys.{source_key, address_key}
 use Rattle.earlier.proofs.laws.KeyLaws.{keyed-none}
+use Rattle.rule.proofs.laws.RefusalLaws.{passed_on}
 use Rattle.runs.proofs.laws.KindLaws.{bridge-kind}
 use Rattle.runs.proofs.laws.RunLaws.{running_starts, run_goes_on, run_ends, run_refuses, whole-at, fewer-words}
 use Rattle.runs.proofs.run.read_bridges.Goals as goal
@@ -25,8 +26,8 @@ is_next-requires c =
     let (whole, _, _) = c.requires in
     whole-at running.reached whole.bounded
 
-pub after_bridge-step-requires : goal.after_bridge-step-requires
-after_bridge-step-requires c =
+pub after_bridge-requires : goal.after_bridge-requires
+after_bridge-requires c =
     let (running, bridge-indexes) = c.loop-source_index.invariant in
     let (whole, _, _) = c.requires in record {
       whole = whole-at running.reached whole.bounded;
@@ -35,27 +36,28 @@ after_bridge-step-requires c =
 
 pub loop-source_index-smaller : goal.loop-source_index-smaller
 loop-source_index-smaller c =
-    let stepped = c.after_bridge-step.ensures.stepped in
-    fewer-words stepped _ c.in-Next.u c.in-Next.is (omega arith)
+    let stepped = c.after_bridge.ensures.stepped in
+    fewer-words stepped _ _ c.in_ok-t.was (omega arith)
 
 pub loop-source_index-preserved : goal.loop-source_index-preserved
 loop-source_index-preserved c =
     let (running, _) = c.loop-source_index.invariant in
-    let stepped = c.after_bridge-step.ensures.stepped in
-    let bridges-kept = c.after_bridge-step.ensures.bridges_kept in (
+    let stepped = c.after_bridge.ensures.stepped in
+    let bridges-kept = c.after_bridge.ensures.bridges_kept in (
       run_goes_on running (sym c.is_next.ensures ∙ c.loop-source_index-test.true) bridge_layout bridge-kind stepped
-          c.in-Next.u c.in-Next.is (omega arith)
+          _ c.in_ok-t.was (omega arith)
           (record { bridges = λ d. absurd (d refl); half_links = λ d. refl; vids = λ d. refl; members = λ d. refl; traffic = λ d. refl })
           running.reached.few_vids,
-      bridges-kept c.in-Next.u c.in-Next.is,
+      bridges-kept _ c.in_ok-t.was,
     )
 
-pub returns-in-Refused : goal.returns-in-Refused
-returns-in-Refused c =
+pub returns-in_err-t : goal.returns-in_err-t
+returns-in_err-t c =
     let (running, _) = c.loop-source_index.invariant in
-    let stepped = c.after_bridge-step.ensures.stepped in
-    run_refuses running (sym c.is_next.ensures ∙ c.loop-source_index-test.true) bridge_layout bridge-kind stepped _ _ _
-    c.in-Refused.is
+    let stepped = c.after_bridge.ensures.stepped in
+    rw (passed_on _ _ c.from_residual.ensures.1) (
+    run_refuses running (sym c.is_next.ensures ∙ c.loop-source_index-test.true) bridge_layout bridge-kind stepped _
+    c.in_err-t.was)
 
 pub returns : goal.returns
 returns c =

@@ -8,6 +8,7 @@ use Rattle.earlier.specs.HalfLinks.{port_key, number_key}
 use Rattle.earlier.proofs.laws.KeyLaws.{keyed-none}
 use Rattle.steps.proofs.laws.StepLaws.{refused_keeps}
 use Rattle.runs.specs.Runs.{Numbers}
+use Rattle.rule.proofs.laws.RefusalLaws.{passed_on}
 use Rattle.runs.proofs.laws.KindLaws.{half_link-kind}
 use Rattle.runs.proofs.laws.RunLaws.{running_starts, run_goes_on, run_ends, run_refuses, whole-at, fewer-words, numbers-at}
 use Rattle.runs.proofs.run.read_half_links.Goals as goal
@@ -28,8 +29,8 @@ is_next-requires c =
     let (whole, _, _, _) = c.requires in
     whole-at running.reached whole.bounded
 
-pub after_half_link-step-requires : goal.after_half_link-step-requires
-after_half_link-step-requires c =
+pub after_half_link-requires : goal.after_half_link-requires
+after_half_link-requires c =
     let (running, half-link-indexes) = c.loop-port_index.invariant in
     let (whole, _, _, _) = c.requires in record {
       whole = whole-at running.reached whole.bounded;
@@ -38,28 +39,29 @@ after_half_link-step-requires c =
 
 pub loop-port_index-smaller : goal.loop-port_index-smaller
 loop-port_index-smaller c =
-    let stepped = c.after_half_link-step.ensures.stepped in
-    fewer-words stepped _ c.in-Next.u c.in-Next.is (omega arith)
+    let stepped = c.after_half_link.ensures.stepped in
+    fewer-words stepped _ _ c.in_ok-t.was (omega arith)
 
 pub loop-port_index-preserved : goal.loop-port_index-preserved
 loop-port_index-preserved c =
     let (running, _) = c.loop-port_index.invariant in
-    let stepped = c.after_half_link-step.ensures.stepped in
-    let half-links-kept = c.after_half_link-step.ensures.half_links_kept in (
+    let stepped = c.after_half_link.ensures.stepped in
+    let half-links-kept = c.after_half_link.ensures.half_links_kept in (
       run_goes_on running (sym c.is_next.ensures ∙ c.loop-port_index-test.true) half_link_layout half_link-kind stepped
-          c.in-Next.u c.in-Next.is (omega arith)
+          _ c.in_ok-t.was (omega arith)
           (record { bridges = λ d. refl; half_links = λ d. absurd (d refl); vids = λ d. refl; members = λ d. refl; traffic = λ d. refl })
           running.reached.few_vids,
-      half-links-kept c.in-Next.u c.in-Next.is,
+      half-links-kept _ c.in_ok-t.was,
     )
 
-pub returns-in-Refused : goal.returns-in-Refused
-returns-in-Refused c =
+pub returns-in_err-t : goal.returns-in_err-t
+returns-in_err-t c =
     let (running, _) = c.loop-port_index.invariant in
-    let stepped = c.after_half_link-step.ensures.stepped in record {
-      run = run_refuses running (sym c.is_next.ensures ∙ c.loop-port_index-test.true) half_link_layout half_link-kind stepped _ _ _
-          c.in-Refused.is;
-      numbers_kept = refused_keeps (λ t. Numbers (words_of c.args.table.now) _ t) refl;
+    let stepped = c.after_half_link.ensures.stepped in
+    rw (passed_on _ _ c.from_residual.ensures.1) record {
+      run = run_refuses running (sym c.is_next.ensures ∙ c.loop-port_index-test.true) half_link_layout half_link-kind stepped _
+          c.in_err-t.was;
+      numbers_kept = refused_keeps (λ t. Numbers (words_of c.args.table.now) _ t);
     }
 
 pub returns : goal.returns

@@ -5,6 +5,7 @@ use Rattle.rule.specs.Records.{traffic_layout, traffic_of}
 use Rattle.key_index.proofs.laws.IndexLaws.{no_keys_yet}
 use Rattle.earlier.specs.Keys.{traffic_key}
 use Rattle.earlier.proofs.laws.KeyLaws.{keyed-none}
+use Rattle.rule.proofs.laws.RefusalLaws.{passed_on}
 use Rattle.runs.proofs.laws.KindLaws.{traffic-kind}
 use Rattle.runs.proofs.laws.RunLaws.{running_starts, run_goes_on, run_ends, run_refuses, whole-at, fewer-words, vids-still}
 use Rattle.runs.proofs.run.read_indexed_traffic.Goals as goal
@@ -33,8 +34,8 @@ is_next-requires c =
     let (whole, _, _) = c.requires in
     whole-at running.reached whole.bounded
 
-pub after_traffic-step-requires : goal.after_traffic-step-requires
-after_traffic-step-requires c =
+pub after_traffic-requires : goal.after_traffic-requires
+after_traffic-requires c =
     let (running, vid-index, traffic-index) = c.loop-vid_index.invariant in
     let (whole, _, _) = c.requires in record {
       whole = whole-at running.reached whole.bounded;
@@ -44,16 +45,16 @@ after_traffic-step-requires c =
 
 pub loop-vid_index-smaller : goal.loop-vid_index-smaller
 loop-vid_index-smaller c =
-    let stepped = c.after_traffic-step.ensures.stepped in
-    fewer-words stepped _ c.in-Next.u c.in-Next.is (omega arith)
+    let stepped = c.after_traffic.ensures.stepped in
+    fewer-words stepped _ _ c.in_ok-t.was (omega arith)
 
 pub loop-vid_index-preserved : goal.loop-vid_index-preserved
 loop-vid_index-preserved c =
     let (running, vid-index, _) = c.loop-vid_index.invariant in
-    let stepped = c.after_traffic-step.ensures.stepped in
-    let traffic-kept = c.after_traffic-step.ensures.traffic_kept in
-    let next = c.in-Next.u in
-    let next-is = c.in-Next.is in (
+    let stepped = c.after_traffic.ensures.stepped in
+    let traffic-kept = c.after_traffic.ensures.traffic_kept in
+    let next = c.in_ok-t.t in
+    let next-is = c.in_ok-t.was in (
       run_goes_on running (sym c.is_next.ensures ∙ c.loop-vid_index-test.true) traffic_layout traffic-kind stepped next next-is
           (omega arith)
           (record { bridges = λ d. refl; half_links = λ d. refl; vids = λ d. refl; members = λ d. refl; traffic = λ d. absurd (d refl) })
@@ -62,12 +63,13 @@ loop-vid_index-preserved c =
       traffic-kept next next-is,
     )
 
-pub returns-in-Refused : goal.returns-in-Refused
-returns-in-Refused c =
+pub returns-in_err-t : goal.returns-in_err-t
+returns-in_err-t c =
     let (running, _, _) = c.loop-vid_index.invariant in
-    let stepped = c.after_traffic-step.ensures.stepped in
-    run_refuses running (sym c.is_next.ensures ∙ c.loop-vid_index-test.true) traffic_layout traffic-kind stepped _ _ _
-    c.in-Refused.is
+    let stepped = c.after_traffic.ensures.stepped in
+    rw (passed_on _ _ c.from_residual.ensures.1) (
+    run_refuses running (sym c.is_next.ensures ∙ c.loop-vid_index-test.true) traffic_layout traffic-kind stepped _
+    c.in_err-t.was)
 
 pub returns : goal.returns
 returns c =

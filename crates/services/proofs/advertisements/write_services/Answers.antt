@@ -9,16 +9,16 @@ examine-examined-requires c = no_keys_yet
 pub write_in_table-requires : goal.write_in_table-requires
 write_in_table-requires c =
     let passed = c.examine-examined.ensures.passed in
-    (passed _ c.in-Accepted.is).0
+    (passed _ c.in-Ok.is).0
 
-pub returns-in-Accepted : goal.returns-in-Accepted
-returns-in-Accepted c =
+pub returns-in-Ok : goal.returns-in-Ok
+returns-in-Ok c =
     let examine-is = c.examine-examined.ensures.result_value in
-    write_accepted c.args.table.now c.examine-examined.result examine-is _ c.in-Accepted.is
+    write_accepted c.args.table.now c.examine-examined.result examine-is _ c.in-Ok.is
     c.args.bridge c.args.vid c.args.bytes.now _ c.write_in_table.ensures
 
-pub returns-in-Refused : goal.returns-in-Refused
-returns-in-Refused c =
+pub returns-in-Err : goal.returns-in-Err
+returns-in-Err c =
     let examine-is = c.examine-examined.ensures.result_value in
-    write_refused c.args.table.now c.examine-examined.result examine-is _ _ _ c.in-Refused.is
-    c.args.bridge c.args.vid c.args.bytes.now
+    write_refused c.args.table.now c.examine-examined.result examine-is _ c.in-Err.is
+    c.args.bridge c.args.vid c.args.bytes.now _ c.from.ensures

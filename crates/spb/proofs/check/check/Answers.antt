@@ -1,4 +1,5 @@
 -- `spb::check::check` gives the counts of an accepted table, or the refusal of the verdict. Assumes nothing.
+use mathlib.Core.Path.{◌∙◌}
 use Rattle.key_index.proofs.laws.IndexLaws.{no_keys_yet}
 use Rattle.spb.proofs.laws.CallLaws.{check-accepted, check-refused}
 use Rattle.spb.proofs.check.check.Goals as goal
@@ -9,15 +10,15 @@ examine-examined-requires c = no_keys_yet
 pub counts-requires : goal.counts-requires
 counts-requires c =
     let passed = c.examine-examined.ensures.passed in
-    passed _ c.in-Accepted.is
+    passed _ c.in-Ok.is
 
-pub returns-in-Accepted : goal.returns-in-Accepted
-returns-in-Accepted c =
+pub returns-in-Ok : goal.returns-in-Ok
+returns-in-Ok c =
     let examine-is = c.examine-examined.ensures.result_value in
-    check-accepted c.args.table.now c.examine-examined.result examine-is _ c.in-Accepted.is
+    check-accepted c.args.table.now c.examine-examined.result examine-is _ c.in-Ok.is
     c.counts.result c.counts.ensures
 
-pub returns-in-Refused : goal.returns-in-Refused
-returns-in-Refused c =
+pub returns-in-Err : goal.returns-in-Err
+returns-in-Err c =
     let examine-is = c.examine-examined.ensures.result_value in
-    check-refused c.args.table.now c.examine-examined.result examine-is _ _ _ c.in-Refused.is
+    c.from.ensures ∙ check-refused c.args.table.now c.examine-examined.result examine-is _ c.in-Err.is

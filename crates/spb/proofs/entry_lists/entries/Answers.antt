@@ -9,16 +9,16 @@ examine-examined-requires c = no_keys_yet
 pub entries_in_table-requires : goal.entries_in_table-requires
 entries_in_table-requires c =
     let passed = c.examine-examined.ensures.passed in
-    passed _ c.in-Accepted.is
+    passed _ c.in-Ok.is
 
-pub returns-in-Accepted : goal.returns-in-Accepted
-returns-in-Accepted c =
+pub returns-in-Ok : goal.returns-in-Ok
+returns-in-Ok c =
     let examine-is = c.examine-examined.ensures.result_value in
-    entries_accepted c.args.table.now c.examine-examined.result examine-is _ c.in-Accepted.is
+    entries_accepted c.args.table.now c.examine-examined.result examine-is _ c.in-Ok.is
     c.args.bridge c.args.list.now _ c.entries_in_table.ensures
 
-pub returns-in-Refused : goal.returns-in-Refused
-returns-in-Refused c =
+pub returns-in-Err : goal.returns-in-Err
+returns-in-Err c =
     let examine-is = c.examine-examined.ensures.result_value in
-    entries_refused c.args.table.now c.examine-examined.result examine-is _ _ _ c.in-Refused.is
-    c.args.bridge c.args.list.now
+    entries_refused c.args.table.now c.examine-examined.result examine-is _ c.in-Err.is
+    c.args.bridge c.args.list.now _ c.from.ensures

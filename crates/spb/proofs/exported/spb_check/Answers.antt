@@ -6,12 +6,12 @@ use Rattle.spb.proofs.exported.spb_check.Goals as goal
 pub examine-examined-requires : goal.examine-examined-requires
 examine-examined-requires c = no_keys_yet
 
-pub returns-in-Accepted : goal.returns-in-Accepted
-returns-in-Accepted c =
+pub returns-in-Ok : goal.returns-in-Ok
+returns-in-Ok c =
     let examine-is = c.examine-examined.ensures.result_value in
-    accepted-number c.args.table.now c.examine-examined.result examine-is _ c.in-Accepted.is
+    accepted-number c.args.table.now c.examine-examined.result examine-is _ c.in-Ok.is
 
-pub returns-in-Refused : goal.returns-in-Refused
-returns-in-Refused c =
+pub returns-in-Err : goal.returns-in-Err
+returns-in-Err c =
     let examine-is = c.examine-examined.ensures.result_value in
-    refused-number c.args.table.now c.examine-examined.result examine-is _ _ _ c.in-Refused.is
+    refused-number c.args.table.now c.examine-examined.result examine-is _ c.in-Err.is

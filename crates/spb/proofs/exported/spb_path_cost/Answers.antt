@@ -9,16 +9,16 @@ examine-examined-requires c = no_keys_yet
 pub path_cost_in_table-requires : goal.path_cost_in_table-requires
 path_cost_in_table-requires c =
     let passed = c.examine-examined.ensures.passed in
-    passed _ c.in-Accepted.is
+    passed _ c.in-Ok.is
 
-pub returns-in-Accepted : goal.returns-in-Accepted
-returns-in-Accepted c =
+pub returns-in-Ok : goal.returns-in-Ok
+returns-in-Ok c =
     let examine-is = c.examine-examined.ensures.result_value in
-    cost-accepted c.args.table.now c.examine-examined.result examine-is _ c.in-Accepted.is
+    cost-accepted c.args.table.now c.examine-examined.result examine-is _ c.in-Ok.is
     c.args.vid c.args.from c.args.to _ c.path_cost_in_table.ensures
 
-pub returns-in-Refused : goal.returns-in-Refused
-returns-in-Refused c =
+pub returns-in-Err : goal.returns-in-Err
+returns-in-Err c =
     let examine-is = c.examine-examined.ensures.result_value in
-    cost-refused c.args.table.now c.examine-examined.result examine-is _ _ _ c.in-Refused.is
+    cost-refused c.args.table.now c.examine-examined.result examine-is _ c.in-Err.is
     c.args.vid c.args.from c.args.to

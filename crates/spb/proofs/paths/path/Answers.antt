@@ -9,17 +9,17 @@ examine-examined-requires c = no_keys_yet
 pub path_in_table-requires : goal.path_in_table-requires
 path_in_table-requires c =
     let passed = c.examine-examined.ensures.passed in
-    passed _ c.in-Accepted.is
+    passed _ c.in-Ok.is
 
-pub returns-in-Accepted : goal.returns-in-Accepted
-returns-in-Accepted c =
+pub returns-in-Ok : goal.returns-in-Ok
+returns-in-Ok c =
     let examine-is = c.examine-examined.ensures.result_value in
-    path-accepted c.args.table.now c.examine-examined.result examine-is _ c.in-Accepted.is
+    path-accepted c.args.table.now c.examine-examined.result examine-is _ c.in-Ok.is
     c.args.vid c.args.from c.args.to c.args.list.now _
     c.path_in_table.ensures
 
-pub returns-in-Refused : goal.returns-in-Refused
-returns-in-Refused c =
+pub returns-in-Err : goal.returns-in-Err
+returns-in-Err c =
     let examine-is = c.examine-examined.ensures.result_value in
-    path-refused c.args.table.now c.examine-examined.result examine-is _ _ _ c.in-Refused.is
-    c.args.vid c.args.from c.args.to c.args.list.now
+    path-refused c.args.table.now c.examine-examined.result examine-is _ c.in-Err.is
+    c.args.vid c.args.from c.args.to c.args.list.now _ c.from.ensures

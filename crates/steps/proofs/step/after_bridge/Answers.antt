@@ -16,7 +16,7 @@ returns-in-Err c =
       stepped = refused-step (words_of c.args.table.now) c.args.s bridge_layout (with_bridge c.args.s)
           c.in-Err.fault RecordKind.Bridge _ c.in-Err.ensures refl
           c.words_read-at.result c.words_read-at.ensures c.refusal.ensures;
-      bridges_kept = refused_keeps (λ t. BridgeIndexes _ _ (words_of c.args.table.now) t.bridges) c.refusal.ensures;
+      bridges_kept = refused_keeps (λ t. BridgeIndexes _ _ (words_of c.args.table.now) t.bridges);
     }
 
 pub bridge_at-b-requires : goal.bridge_at-b-requires
@@ -47,11 +47,11 @@ enter-requires-2 c =
 pub returns : goal.returns
 returns c =
     let bridge-indexes = c.requires.bridge_indexes in record {
-      stepped = bridge-taken (words_of c.args.table.now) c.args.s _
-          c.in_default.ensures refl;
+      stepped = bridge-taken (words_of c.args.table.now) c.args.s
+          c.in_default.ensures;
       bridges_kept = bridges-kept (words_of c.args.table.now) c.args.s bridge-indexes
           (bridge_values c.bridge_at-b.result) c.words_read-at.result c.address_key.result
           c.words_read-at.ensures c.bridge_at-b.ensures
           c.in_default.ensures c.address_key.ensures
-          c.enter.ensures c.enter-2.ensures refl;
+          c.enter.ensures c.enter-2.ensures;
     }

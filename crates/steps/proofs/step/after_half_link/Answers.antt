@@ -16,7 +16,7 @@ returns-in-Err c =
     record {
       stepped = refused-step (words_of c.args.table.now) c.args.s half_link_layout (with_half_link c.args.s)
           c.in-Err.fault RecordKind.HalfLink _ c.in-Err.ensures refl c.words_read-at.result c.words_read-at.ensures c.refusal.ensures;
-      half_links_kept = refused_keeps (λ t. HalfLinkIndexes _ _ (words_of c.args.table.now) t) c.refusal.ensures;
+      half_links_kept = refused_keeps (λ t. HalfLinkIndexes _ _ (words_of c.args.table.now) t);
     }
 
 pub half_link_at-h-requires : goal.half_link_at-h-requires
@@ -52,11 +52,11 @@ enter-requires-2 c =
 pub returns : goal.returns
 returns c =
     let half-link-indexes = c.requires.half_link_indexes in record {
-      stepped = half_link-taken (words_of c.args.table.now) c.args.s _
-          c.in_default.ensures refl;
+      stepped = half_link-taken (words_of c.args.table.now) c.args.s
+          c.in_default.ensures;
       half_links_kept = half_links_kept (words_of c.args.table.now) c.args.s half-link-indexes
           (half_link_values c.half_link_at-h.result) c.words_read-at.result c.port_key.result
           c.words_read-at.ensures c.half_link_at-h.ensures
           c.in_default.ensures c.port_key.ensures
-          c.enter.ensures c.enter-2.ensures refl;
+          c.enter.ensures c.enter-2.ensures;
     }

@@ -19,7 +19,7 @@ returns-in-Err c =
       stepped = refused-step (words_of c.args.table.now) c.args.s member_layout (with_member c.args.s)
           c.in-Err.fault RecordKind.Member _ c.in-Err.ensures refl
           c.words_read-at.result c.words_read-at.ensures c.refusal.ensures;
-      members_kept = refused_keeps (λ t. MemberIndex _ (words_of c.args.table.now) (members_from t) t.members) c.refusal.ensures;
+      members_kept = refused_keeps (λ t. MemberIndex _ (words_of c.args.table.now) (members_from t) t.members);
     }
 
 pub member_at-m-requires : goal.member_at-m-requires
@@ -48,8 +48,8 @@ pub returns : goal.returns
 returns c =
     let member-index = c.requires.member_index in
     let no-fault = c.in_default.ensures in record {
-      stepped = member-taken (words_of c.args.table.now) c.args.s _ no-fault refl;
+      stepped = member-taken (words_of c.args.table.now) c.args.s no-fault;
       members_kept = members_kept (words_of c.args.table.now) c.args.s member-index (member_values c.member_at-m.result)
           c.words_read-at.result c.member_key.result c.words_read-at.ensures
-          c.member_at-m.ensures no-fault c.member_key.ensures c.enter.ensures refl;
+          c.member_at-m.ensures no-fault c.member_key.ensures c.enter.ensures;
     }

@@ -19,7 +19,7 @@ returns-in-Err c =
       stepped = refused-step (words_of c.args.table.now) c.args.s traffic_layout (with_traffic c.args.s)
           c.in-Err.fault RecordKind.Traffic _ c.in-Err.ensures refl
           c.words_read-at.result c.words_read-at.ensures c.refusal.ensures;
-      traffic_kept = refused_keeps (λ t. TrafficIndex _ (words_of c.args.table.now) (traffic_from t) t.traffic) c.refusal.ensures;
+      traffic_kept = refused_keeps (λ t. TrafficIndex _ (words_of c.args.table.now) (traffic_from t) t.traffic);
     }
 
 pub traffic_at-t-requires : goal.traffic_at-t-requires
@@ -47,9 +47,9 @@ enter-requires c =
 pub returns : goal.returns
 returns c =
     let traffic-index = c.requires.traffic_index in record {
-      stepped = traffic-taken (words_of c.args.table.now) c.args.s _
-          c.in_default.ensures refl;
+      stepped = traffic-taken (words_of c.args.table.now) c.args.s
+          c.in_default.ensures;
       traffic_kept = traffic_kept (words_of c.args.table.now) c.args.s traffic-index (traffic_values c.traffic_at-t.result)
           c.words_read-at.result c.traffic_key.result c.words_read-at.ensures
-          c.traffic_at-t.ensures c.traffic_key.ensures c.enter.ensures refl;
+          c.traffic_at-t.ensures c.traffic_key.ensures c.enter.ensures;
     }

@@ -15,5 +15,5 @@ returns-in-Err c =
 
 pub returns : goal.returns
 returns c =
-    vid-taken (words_of c.args.table.now) c.args.s _
-    c.in_default.ensures refl
+    vid-taken (words_of c.args.table.now) c.args.s
+    c.in_default.ensures

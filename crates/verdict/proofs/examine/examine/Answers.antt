@@ -1,56 +1,73 @@
 -- `verdict::examine::examine` reads the records kind by kind, then the end record. Assumes nothing.
 use native.Mathlib.Omega.{arith}
 use Rattle.rule.specs.Words.{words_of}
+use Rattle.rule.proofs.laws.RefusalLaws.{passed_on}
 use Rattle.runs.proofs.laws.RunLaws.{whole-at}
-use Rattle.verdict.proofs.laws.ExaminationLaws.{examining_starts, examining_next, members-read, refused-passes, accepted-passes, bad_length_lem, good_length, length-fits}
+use Rattle.verdict.proofs.laws.LastLaws.{lower_only}
+use Rattle.verdict.proofs.laws.ExaminationLaws.{examining_starts, examining_next, members-read, traffic-read, accepted-after-all, accepted-passes, bad_length_lem, good_length, length-fits}
 use Rattle.verdict.proofs.examine.examine.Goals as goal
 
-pub returns-then-has_bad_length : goal.returns-then-has_bad_length
-returns-then-has_bad_length c =
-    record {
-      result_value = bad_length_lem c.args.table.now c.has_bad_length.result c.has_bad_length.ensures c.if-has_bad_length.true;
-      passed = refused-passes;
-    }
+pub returns-then-has_bad_length-clause-result_value : goal.returns-then-has_bad_length-clause-result_value
+returns-then-has_bad_length-clause-result_value c =
+    rw c.of_call.ensures (
+    bad_length_lem c.args.table.now c.has_bad_length.result c.has_bad_length.ensures c.if-has_bad_length.true)
 
-pub loop-next-init : goal.loop-next-init
-loop-next-init c = examining_starts (words_of c.args.table.now) c.args.link_index.now c.requires
+pub loop-kind-init : goal.loop-kind-init
+loop-kind-init c = examining_starts (words_of c.args.table.now) c.args.link_index.now c.requires
 
-pub read_kind-read-requires : goal.read_kind-read-requires
-read_kind-read-requires c =
-    let inv = c.loop-next.invariant in (
+pub read_kind-requires : goal.read_kind-requires
+read_kind-requires c =
+    let inv = c.loop-kind.invariant in (
       whole-at inv.before.reached (length-fits _ _ c.has_bad_length.ensures c.if-has_bad_length.false),
       inv.first,
-      omega (arith, c.loop-next-test.true),
+      omega (arith, c.loop-kind-test.true),
       inv.before,
     )
 
-pub loop-next-preserved : goal.loop-next-preserved
-loop-next-preserved c =
-    examining_next c.loop-next.invariant (omega (arith, c.loop-next-test.true)) c.read_kind-read.ensures
-    c.in-Next.t c.in-Next.is
+pub loop-kind-smaller : goal.loop-kind-smaller
+loop-kind-smaller c = omega (arith, c.loop-kind-test.true)
 
-pub returns-in-Refused : goal.returns-in-Refused
-returns-in-Refused c =
-    record {
-      result_value = good_length c.args.table.now c.has_bad_length.result _ c.has_bad_length.ensures
-          c.if-has_bad_length.false (c.read_kind-read.ensures.refuses _ _ _ c.in-Refused.is);
-      passed = refused-passes;
-    }
+pub loop-kind-preserved : goal.loop-kind-preserved
+loop-kind-preserved c =
+    examining_next c.loop-kind.invariant (omega (arith, c.loop-kind-test.true)) c.read_kind.ensures _ c.in_ok-s.was
 
-pub read_rest-requires : goal.read_rest-requires
-read_rest-requires c =
-    let inv = c.loop-next.invariant in (
-      whole-at inv.before.reached (length-fits _ _ c.has_bad_length.ensures c.if-has_bad_length.false),
-      members-read inv (omega (arith, c.loop-next-test.false)),
+pub returns-in_err-s-clause-result_value : goal.returns-in_err-s-clause-result_value
+returns-in_err-s-clause-result_value c =
+    rw (passed_on _ _ c.from_residual.ensures.1) (
+    good_length c.args.table.now c.has_bad_length.result _ c.has_bad_length.ensures
+    c.if-has_bad_length.false (c.read_kind.ensures.refuses _ c.in_err-s.was))
+
+pub read_traffic_records-requires : goal.read_traffic_records-requires
+read_traffic_records-requires c =
+    let before = members-read c.loop-kind.invariant (omega (arith, c.loop-kind-test.false)) in (
+      whole-at before.reached (length-fits _ _ c.has_bad_length.ensures c.if-has_bad_length.false),
+      before.reached,
+      before.no_traffic (omega arith),
+    )
+
+pub returns-in_err-read_traffic_records-clause-result_value : goal.returns-in_err-read_traffic_records-clause-result_value
+returns-in_err-read_traffic_records-clause-result_value c =
+    rw (passed_on _ _ c.from_residual-in_err-read_traffic_records.ensures.1) (
+    good_length c.args.table.now c.has_bad_length.result _ c.has_bad_length.ensures
+    c.if-has_bad_length.false (c.read_traffic_records.ensures.refuses _ c.in_err-read_traffic_records.was))
+
+pub read_last-requires : goal.read_last-requires
+read_last-requires c =
+    let read = traffic-read (members-read c.loop-kind.invariant (omega (arith, c.loop-kind-test.false)))
+    c.read_traffic_records.ensures _ c.in_ok-read_traffic_records.was in (
+      whole-at read.reached (length-fits _ _ c.has_bad_length.ensures c.if-has_bad_length.false),
+      read.reached,
+      lower_only read,
     )
 
 pub returns : goal.returns
 returns c =
-    let read-rest-is = c.read_rest.ensures.result_value in
-    let accepted-after-all = c.read_rest.ensures.accepted_after_all in
+    let read = traffic-read (members-read c.loop-kind.invariant (omega (arith, c.loop-kind-test.false)))
+    c.read_traffic_records.ensures _ c.in_ok-read_traffic_records.was in
     let accepts =
     good_length c.args.table.now c.has_bad_length.result _ c.has_bad_length.ensures
-    c.if-has_bad_length.false read-rest-is in record {
+    c.if-has_bad_length.false c.read_last.ensures.result_value in record {
       result_value = accepts;
-      passed = accepted-passes accepts accepted-after-all (length-fits _ _ c.has_bad_length.ensures c.if-has_bad_length.false);
+      passed = accepted-passes accepts (accepted-after-all c.read_last.ensures.accepted_as read)
+          (length-fits _ _ c.has_bad_length.ensures c.if-has_bad_length.false);
     }

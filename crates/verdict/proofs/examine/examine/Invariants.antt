@@ -4,8 +4,8 @@ use Rattle.rule.specs.Words.{words_of}
 use Rattle.verdict.proofs.laws.ExaminationLaws.{Examining}
 use Rattle.verdict.proofs.examine.examine.Given as goal
 
-abbrev pub invariant-loop-next : goal.invariant-loop-next
-invariant-loop-next l = Examining (words_of l.table) l.link_index l.s l.next
+abbrev pub invariant-loop-kind : goal.invariant-loop-kind
+invariant-loop-kind l = Examining (words_of l.table) l.link_index l.s l.kind
 
-abbrev pub decreases-loop-next : goal.decreases-loop-next
-decreases-loop-next l = 5 - l.next
+abbrev pub decreases-loop-kind : goal.decreases-loop-kind
+decreases-loop-kind l = 5 - l.kind
