@@ -11,7 +11,7 @@ ghost use Rattle.listing_progress.specs.Remaining.{Underway};
 
 use entries::list::LONGEST_LIST;
 use listing_parts::part::LONGEST_PART;
-use listing_progress::progress::{NextPart, Progress, begin_listing, next_part};
+use listing_progress::progress::{Progress, begin_listing, next_part};
 use network::parts::NETWORK;
 use rule::kinds::LONGEST_TABLE;
 use tree::search::PATH_IDS;
@@ -40,19 +40,11 @@ fn print_parts(
     requires in_bounds { (4096 ≤ length path_ids.old) × (14931 ≤ length words.old) × (258804 ≤ length out.old) }
 {
     let mut progress = begun;
-    loop {
-        let next = next_part(table, network, progress, path_ids, store, words, out);
-        match next {
-            NextPart::Part { written, after } => {
-                if !print(&out[..written]) {
-                    return;
-                }
-                progress = after;
-            }
-            NextPart::None => {
-                return;
-            }
+    while let Some(part) = next_part(table, network, progress, path_ids, store, words, out) {
+        if !print(&out[..part.written]) {
+            return;
         }
+        progress = part.after;
     }
 }
 
