@@ -25,7 +25,7 @@ use rule::kinds::{
 use rule::refusal::Fault;
 use table::shape::Shape;
 
-// What a record shows of which its reader found a fault, where its kind has reached its limit or not: "5" comes before "6".
+// What a record shows of which its reader found a fault, where its kind has reached its limit or not: 5 comes before 6.
 fn fault_shown(found: RecordFault, full: bool) -> Fault
     ensures { result ≡ fault_shown full found }
 {
