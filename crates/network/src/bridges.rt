@@ -21,12 +21,6 @@ const ABOVE_ADDRESS: u64 = 281474976710656;
 // The lowest bit above the extension, which has the next 12.
 const ABOVE_EXTENSION: u64 = 1152921504606846976;
 
-fn mark_of(overloaded: bool) -> u32
-    ensures { result ≡ mark_of overloaded }
-{
-    if overloaded { 1 } else { 0 }
-}
-
 // The identifier with the 12 bits of the extension cleared: the bits above it and the address stay.
 fn without_extension(identifier: u64) -> u64
     ensures { result ≡ without_extension identifier }
@@ -43,7 +37,7 @@ pub fn write_bridges(table: &[u8], s: Shape, words: &mut [u32])
     for u in 0..s.bridges {
         let b = bridge(table, s, u);
         let identifier = without_extension(b.identifier);
-        words[u] = mark_of(b.overloaded);
+        words[u] = u32::from(b.overloaded);
         words[IDENTIFIERS_AFTER + 2 * u] = (identifier / 4294967296) as u32;
         words[IDENTIFIERS_AFTER + 2 * u + 1] = (identifier % 4294967296) as u32;
     }

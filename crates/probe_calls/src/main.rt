@@ -21,7 +21,7 @@ use crate::question::{
     ENTRIES_LINE, PATH_LINE, TREE_LINE, write_asked_entries, write_asked_path, write_asked_tree,
 };
 use probe_input::report::report;
-use probe_input::tables::{LONGEST, NextTable, TURNS, next_table, read_bytes};
+use probe_input::tables::{LONGEST, TURNS, next_table, read_bytes};
 use readers::words::word_at;
 
 // The numbers of the calls that a question asks for.
@@ -146,8 +146,8 @@ fn answer_next() -> bool {
     let mut table = [0u8; LONGEST];
     let next = next_table(b"probe_calls", &mut table);
     match next {
-        NextTable::Bytes(length) => answer_table(&table[..length]),
-        NextTable::None => false,
+        Some(length) => answer_table(&table[..length]),
+        None => false,
     }
 }
 

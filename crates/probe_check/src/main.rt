@@ -9,7 +9,7 @@
 mod answer;
 
 use crate::answer::{LONGEST_LINE, write_answer};
-use probe_input::tables::{LONGEST, NextTable, TURNS, next_table};
+use probe_input::tables::{LONGEST, TURNS, next_table};
 
 // The line of one table.
 fn answer_table(table: &[u8]) -> bool {
@@ -23,8 +23,8 @@ fn answer_next() -> bool {
     let mut table = [0u8; LONGEST];
     let next = next_table(b"probe_check", &mut table);
     match next {
-        NextTable::Bytes(length) => answer_table(&table[..length]),
-        NextTable::None => false,
+        Some(length) => answer_table(&table[..length]),
+        None => false,
     }
 }
 

@@ -19,7 +19,7 @@ use crate::line::{write_state, write_table};
 use edits::change::{HalfLinkName, Running, RunningAnswer};
 use probe_input::lent::set_untouched;
 use probe_input::report::report;
-use probe_input::tables::{LONGEST, NextTable, TURNS, next_table, read_bytes};
+use probe_input::tables::{LONGEST, TURNS, next_table, read_bytes};
 use readers::words::word_at;
 use running::calls::{change_metric, load, withdraw};
 
@@ -43,13 +43,6 @@ const STATE_LINE: usize = 85 + 33 * MOST_PLACES;
 
 // The bytes of the second line at most.
 const TABLE_LINE: usize = 11 * LONGEST + 1;
-
-// Whether the steps go on, and with which state.
-#[derive(Clone, Copy)]
-enum Stepped {
-    Next(Running),
-    End,
-}
 
 // Reports what is wrong. False: the run ends.
 fn refuse(wrong: &[u8]) -> bool {
@@ -97,17 +90,17 @@ fn show(
     costs: &[u32],
     hops: &[u32],
     lasts: &[u32],
-) -> Stepped
+) -> Option<Running>
     requires { (List·length word.now ≤ 7) × (List·length table.now ≤ 10240) × (List·length costs.now ≤ 80) × (List·length hops.now ≤ 80) × (List·length lasts.now ≤ 80) }
 {
     let after = state_after(answer, before);
     if !show_state(word, answer, after, costs, hops, lasts) {
-        return Stepped::End;
+        return None;
     }
     if !show_table(table) {
-        return Stepped::End;
+        return None;
     }
-    Stepped::Next(after)
+    Some(after)
 }
 
 // The change that three words name, of a metric or a withdrawal.
@@ -139,7 +132,7 @@ fn take_step(
     costs: &mut [u32],
     hops: &mut [u32],
     lasts: &mut [u32],
-) -> Stepped
+) -> Option<Running>
     requires { (16 ≤ List·length words.now) × (List·length table.old ≤ 10240) × (List·length costs.old ≤ 80) × (List·length hops.old ≤ 80) × (List·length lasts.old ≤ 80) }
 {
     let call = word_at(words, 0);
@@ -175,7 +168,7 @@ fn take_step(
         );
     }
     refuse(b"neither a load, a change of metric nor a withdrawal");
-    Stepped::End
+    None
 }
 
 // The steps of one table, or those before the first that cannot be made.
@@ -195,15 +188,10 @@ fn take_steps(
         if !read_bytes(&mut words) {
             return refuse(b"the input ends inside a step");
         }
-        let stepped = take_step(&words, running, table, costs, hops, lasts);
-        match stepped {
-            Stepped::Next(after) => {
-                running = after;
-            }
-            Stepped::End => {
-                return false;
-            }
-        }
+        let Some(after) = take_step(&words, running, table, costs, hops, lasts) else {
+            return false;
+        };
+        running = after;
     }
     true
 }
@@ -262,8 +250,8 @@ fn take_next() -> bool {
     let mut table = [0u8; LONGEST];
     let next = next_table(b"probe_edits", &mut table);
     match next {
-        NextTable::Bytes(length) => take_table(&mut table[..length]),
-        NextTable::None => false,
+        Some(length) => take_table(&mut table[..length]),
+        None => false,
     }
 }
 

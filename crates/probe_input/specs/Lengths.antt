@@ -1,7 +1,6 @@
 -- How many bytes the next table of an input has. Assumes nothing.
-use Rattle.std.specs.Prelude.{ℕ}
-use Rattle.probe_input.specs.declared.tables.NextTable.{NextTable}
+use Rattle.std.specs.Prelude.{ℕ, Option, Some, None}
 
-abbrev pub length_of : NextTable → ℕ
-length_of (NextTable.Bytes length) = length
-length_of NextTable.None = 0
+abbrev pub length_of : Option ℕ → ℕ
+length_of (Some length) = length
+length_of None = 0

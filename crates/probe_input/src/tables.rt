@@ -11,43 +11,34 @@ pub const LONGEST: usize = 10240;
 // A proved loop has to end, and nothing says that the input does: turns count down from a number that no run uses up.
 pub const TURNS: u64 = u64::MAX;
 
-// What the input has next.
-#[derive(Clone, Copy)]
-pub enum NextTable {
-    // A table of so many bytes, which are the first of the lent ones.
-    Bytes(usize),
-    // No table: the input ended, or what is wrong was reported.
-    None,
-}
-
 // Whether the next bytes of the input fill the lent ones.
 pub fn read_bytes(bytes: &mut [u8]) -> bool {
     let got = io::read_full(0, bytes);
     got == bytes.len()
 }
 
-// Reads the next table.
-pub fn next_table(program: &[u8], table: &mut [u8]) -> NextTable
+// Reads the next table: of so many bytes, which are the first of the lent ones. No table: the input ended, or what is wrong was reported.
+pub fn next_table(program: &[u8], table: &mut [u8]) -> Option<usize>
     requires { 10240 ≤ List·length table.old }
     ensures { length_of result ≤ 10240 }
 {
     let mut head = [0u8; 4];
     let start = io::read_full(0, &mut head);
     if start == 0 {
-        return NextTable::None;
+        return None;
     }
     if start < 4 {
         report(program, b"the input ends inside a length");
-        return NextTable::None;
+        return None;
     }
     let length = word_at(&head, 0) as usize;
     if LONGEST < length {
         report(program, b"a table of more than 10,240 bytes");
-        return NextTable::None;
+        return None;
     }
     if !read_bytes(&mut table[..length]) {
         report(program, b"the input ends inside a table");
-        return NextTable::None;
+        return None;
     }
-    NextTable::Bytes(length)
+    Some(length)
 }

@@ -19,7 +19,7 @@ use crate::question::{
     MOST_BYTES, MOST_WORDS, READ_LINE, WRITTEN_LINE, write_asked_read, write_asked_written,
 };
 use probe_input::report::report;
-use probe_input::tables::{LONGEST, NextTable, TURNS, next_table, read_bytes};
+use probe_input::tables::{LONGEST, TURNS, next_table, read_bytes};
 use readers::words::word_at;
 
 // The numbers of the calls that a question asks for.
@@ -136,8 +136,8 @@ fn answer_next() -> bool {
     let mut table = [0u8; LONGEST];
     let next = next_table(b"probe_services", &mut table);
     match next {
-        NextTable::Bytes(length) => answer_table(&table[..length]),
-        NextTable::None => false,
+        Some(length) => answer_table(&table[..length]),
+        None => false,
     }
 }
 

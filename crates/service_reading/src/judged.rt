@@ -21,12 +21,10 @@ fn is_repeated(services: &[u8], n: usize, isid: u32) -> bool
     requires { 4 * n ≤ length services.now }
     ensures { result ≡ any_passes (λ e. eqb (isid_of e) isid) (take n (words_of services.now)) }
 {
-    let mut k = 0;
-    while k < n {
+    for k in 0..n {
         if isid_of(word_at(services, k)) == isid {
             return true;
         }
-        k += 1;
     }
     false
 }
@@ -52,8 +50,7 @@ pub fn judge_services(services: &[u8]) -> ReadServicesAnswer
     ensures { read_services_values result ≡ after_services [] (words_of services.now) (answered (2 * length (words_of services.now))) }
 {
     let count = services.len() / SERVICE;
-    let mut n = 0;
-    while n < count {
+    for n in 0..count {
         if let Err(fault) = service_fault(services, n) {
             return ReadServicesAnswer::from(Refusal {
                 number: fault.number(),
@@ -61,7 +58,6 @@ pub fn judge_services(services: &[u8]) -> ReadServicesAnswer
                 word: n as u32,
             });
         }
-        n += 1;
     }
     ReadServicesAnswer::Read {
         words: 2 * count as u32,

@@ -22,22 +22,12 @@ use service_reading::layout::{
 use table::records::member;
 use table::shape::Shape;
 
-// 1 where the flag is set.
-fn one_if(flag: bool) -> u32
-    ensures { (result ≡ bit flag) × (result ≤ 1) }
-{
-    if flag {
-        return 1;
-    }
-    0
-}
-
 // The service of a member record: reserved bits are "written as zero".
 fn service_of(m: Member) -> u32
     requires { m.isid < 16777216 }
     ensures { result ≡ service_of (member_values m) }
 {
-    one_if(m.transmits) * ADVERTISED_T + one_if(m.receives) * ADVERTISED_R + m.isid
+    u32::from(m.transmits) * ADVERTISED_T + u32::from(m.receives) * ADVERTISED_R + m.isid
 }
 
 // Notes the service of the member record `j` where it is of the bridge and the VID.

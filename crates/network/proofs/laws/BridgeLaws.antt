@@ -1,6 +1,7 @@
 -- What the loops over the bridges of a network keep true: the one that writes their marks and identifiers, and the one that writes their
 -- keys. Assumes nothing.
-use Rattle.std.specs.Prelude.{ℕ, ◌+◌, ◌*◌, ◌/◌, ◌%◌, ◌≤◌, ◌<◌, ◌≡◌, refl, List, ◌⊎◌, length, get_or, set}
+use Rattle.std.specs.Prelude.{ℕ, ◌+◌, ◌*◌, ◌/◌, ◌%◌, ◌≤◌, ◌<◌, ◌≡◌, refl, List, Bool, true, false, ◌⊎◌, length, get_or, set}
+use Rattle.std.specs.Int.{from_bool}
 use Rattle.std.proofs.Common.{arith, sym, ap, ◌∙◌, subst, inl, inr, length-set, get_or-set_same, get_or-set_other}
 use Rattle.lists.proofs.laws.NumberLaws.{same_or_not}
 use Rattle.rule.specs.Records.{Bridge, bridge_of}
@@ -12,6 +13,11 @@ use Rattle.table.specs.Numbered.{bridge_number}
 use Rattle.table.proofs.laws.PositionLaws.{record-at}
 use Rattle.network.specs.Layout.{bridges_in, identifier_in}
 use Rattle.network.specs.Networks.{mark_of, BridgeWords, KeysOf}
+
+-- A flag as a number is the mark.
+pub mark_of_flag : (overloaded : Bool) → from_bool overloaded ≡ mark_of overloaded
+mark_of_flag true = refl
+mark_of_flag false = refl
 
 -- The marks and identifiers of the bridges before `u` are written.
 pub record Writing (ws : List ℕ) (s : Shape) (before now : List ℕ) (u : ℕ) : Type 0 where

@@ -6,7 +6,7 @@ use Rattle.probe_input.specs.Lengths.{length_of}
 use Rattle.probe_check.proofs.answer_next.Goals as goal
 
 pub slice_bounds-table-end : goal.slice_bounds-table-end
-slice_bounds-table-end c = omega (arith, ap length_of c.in-Bytes.is, c.next_table-next.ensures)
+slice_bounds-table-end c = omega (arith, ap length_of c.in-Some.is, c.next_table-next.ensures)
 
 pub slice_bounds-answer_table-end : goal.slice_bounds-answer_table-end
-slice_bounds-answer_table-end c = simp length-take (omega (arith, ap length_of c.in-Bytes.is, c.next_table-next.ensures))
+slice_bounds-answer_table-end c = simp length-take (omega (arith, ap length_of c.in-Some.is, c.next_table-next.ensures))

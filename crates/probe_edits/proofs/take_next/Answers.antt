@@ -6,10 +6,10 @@ use Rattle.probe_input.specs.Lengths.{length_of}
 use Rattle.probe_edits.proofs.take_next.Goals as goal
 
 pub slice_bounds-table-end : goal.slice_bounds-table-end
-slice_bounds-table-end c = omega (arith, ap length_of c.in-Bytes.is, c.next_table-next.ensures)
+slice_bounds-table-end c = omega (arith, ap length_of c.in-Some.is, c.next_table-next.ensures)
 
 pub slice_bounds-take_table-end : goal.slice_bounds-take_table-end
-slice_bounds-take_table-end c = simp length-take (omega (arith, ap length_of c.in-Bytes.is, c.next_table-next.ensures))
+slice_bounds-take_table-end c = simp length-take (omega (arith, ap length_of c.in-Some.is, c.next_table-next.ensures))
 
 pub take_table-requires : goal.take_table-requires
-take_table-requires c = simp length-take (omega (arith, ap length_of c.in-Bytes.is, c.next_table-next.ensures))
+take_table-requires c = simp length-take (omega (arith, ap length_of c.in-Some.is, c.next_table-next.ensures))

@@ -1,7 +1,8 @@
 -- `network::bridges::write_bridges` writes the mark of each bridge and the two words of its identifier without the extension. Assumes nothing.
 use lib.ListN.{length-set}
+use mathlib.Core.Path.{◌∙◌}
 use native.Mathlib.Omega.{arith}
-use Rattle.network.proofs.laws.BridgeLaws.{writing-starts, writing-on, writing-ends}
+use Rattle.network.proofs.laws.BridgeLaws.{mark_of_flag, writing-starts, writing-on, writing-ends}
 use Rattle.network.proofs.bridges.write_bridges.Goals as goal
 
 pub loop-u-init : goal.loop-u-init
@@ -25,7 +26,7 @@ bounds-words-u-in-loop-u-2 c =
 pub loop-u-preserved : goal.loop-u-preserved
 loop-u-preserved c =
     let (_, bridges-bound, words-room) = c.requires in
-    writing-on c.loop-u.invariant _ _ _ c.loop-u-test.true bridges-bound words-room c.bridge-b.ensures c.mark_of.ensures
+    writing-on c.loop-u.invariant _ _ _ c.loop-u-test.true bridges-bound words-room c.bridge-b.ensures (c.from.ensures ∙ mark_of_flag _)
     c.without_extension-identifier.ensures
 
 pub returns : goal.returns
