@@ -36,7 +36,7 @@ pub fn refusal(number: u32, kind: RecordKind, word: usize) -> Refusal
     ensures { result ≡ refusal_of number kind word }
 {
     Refusal {
-        number: number,
+        number,
         kind: kind_concerned(number, kind),
         word: word as u32,
     }
