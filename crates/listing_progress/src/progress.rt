@@ -37,7 +37,7 @@ fn part_given(progress: Progress, written: usize) -> Part
     ensures { result ≡ one_more progress written }
 {
     Part {
-        written: written,
+        written,
         after: Progress {
             given: progress.given + 1,
             ..progress

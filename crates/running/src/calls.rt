@@ -39,17 +39,13 @@ fn keep(
 {
     let given = tree(table, vid, bridge, costs, hops, lasts);
     match given {
-        TreeAnswer::Given { bridges } => RunningAnswer::Kept(Running {
+        TreeAnswer::Given { bridges: _ } => RunningAnswer::Kept(Running {
             length: table.len() as u32,
-            bridge: bridge,
-            vid: vid,
-            changes: changes,
+            bridge,
+            vid,
+            changes,
         }),
-        TreeAnswer::Refused { number, kind, word } => RunningAnswer::Refused {
-            number: number,
-            kind: kind,
-            word: word,
-        },
+        TreeAnswer::Refused { number, kind, word } => RunningAnswer::Refused { number, kind, word },
     }
 }
 

@@ -38,7 +38,7 @@ pub fn refusal(fault: Fault, kind: RecordKind, word: usize) -> Refusal
 {
     let number = fault.number();
     Refusal {
-        number: number,
+        number,
         kind: kind_concerned(number, kind),
         word: word as u32,
     }
