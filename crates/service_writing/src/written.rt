@@ -71,10 +71,7 @@ fn part_end(from: usize, services: usize) -> usize
     requires { (from ≤ services) × (services ≤ 64) }
     ensures { result ≡ min (from + 60) services }
 {
-    if services < from + SERVICES_EACH {
-        return services;
-    }
-    from + SERVICES_EACH
+    services.min(from + SERVICES_EACH)
 }
 
 // All of them, "each but the last with 60 services", to the front of the lent list.
