@@ -5,8 +5,8 @@ ghost use Rattle.rule.specs.Words.{words_of};
 ghost use Rattle.rule.specs.Check.{bad_length, read_on, start, verdict};
 ghost use Rattle.table.specs.Whole.{Whole};
 ghost use Rattle.key_index.specs.Index.{Indexed};
-ghost use Rattle.runs.specs.Runs.{Reached};
-ghost use Rattle.verdict.specs.Examination.{examined_values, LowerOnly, AcceptedAs, Passed};
+ghost use Rattle.runs.specs.Runs.{Reached, Before};
+ghost use Rattle.verdict.specs.Examination.{examined_values, LowerOnly, AcceptedAs, AcceptedAfterAll, Passed};
 
 use faults::lowest::end_fault;
 use rule::answer::RecordKind;
@@ -59,6 +59,16 @@ fn read_last(table: &[u8], s: Shape) -> Result<Shape, Refusal>
     Ok(s)
 }
 
+// The traffic (02, A5), then the end record. It stands apart from the kinds before it, so that reading those has no count of traffic to
+// carry. The index is read by the contract alone.
+fn read_rest(table: &[u8], s: Shape, link_index: &[u32]) -> Result<Shape, Refusal>
+    requires { Whole table.now s × Before (words_of table.now) link_index.now 5 s }
+    ensures result_value { examined_values (words_of table.now) result ≡ read_on (length (words_of table.now)) (words_of table.now) start }
+    ensures accepted_after_all { AcceptedAfterAll (words_of table.now) link_index.now result }
+{
+    read_last(table, read_traffic_records(table, s)?)
+}
+
 // The lent list is an index of no key, and of the link numbers of an accepted table afterwards.
 pub fn examine(table: &[u8], link_index: &mut [u32]) -> Result<Shape, Refusal>
     requires { Indexed link_index.old 0 }
@@ -78,5 +88,5 @@ pub fn examine(table: &[u8], link_index: &mut [u32]) -> Result<Shape, Refusal>
     for kind in BRIDGE..=MEMBER {
         s = read_kind(table, s, kind, link_index)?;
     }
-    read_last(table, read_traffic_records(table, s)?)
+    read_rest(table, s, &link_index[..])
 }

@@ -3,8 +3,7 @@ use native.Mathlib.Omega.{arith}
 use Rattle.rule.specs.Words.{words_of}
 use Rattle.rule.proofs.laws.RefusalLaws.{passed_on}
 use Rattle.runs.proofs.laws.RunLaws.{whole-at}
-use Rattle.verdict.proofs.laws.LastLaws.{lower_only}
-use Rattle.verdict.proofs.laws.ExaminationLaws.{examining_starts, examining_next, members-read, traffic-read, accepted-after-all, accepted-passes, bad_length_lem, good_length, length-fits}
+use Rattle.verdict.proofs.laws.ExaminationLaws.{examining_starts, examining_next, members-read, accepted-passes, bad_length_lem, good_length, length-fits}
 use Rattle.verdict.proofs.examine.examine.Goals as goal
 
 pub returns-then-has_bad_length-clause-result_value : goal.returns-then-has_bad_length-clause-result_value
@@ -24,9 +23,6 @@ read_kind-requires c =
       inv.before,
     )
 
-pub loop-kind-smaller : goal.loop-kind-smaller
-loop-kind-smaller c = omega (arith, c.loop-kind-test.true)
-
 pub loop-kind-preserved : goal.loop-kind-preserved
 loop-kind-preserved c =
     examining_next c.loop-kind.invariant (omega (arith, c.loop-kind-test.true)) c.read_kind.ensures _ c.in_ok-s.was
@@ -37,37 +33,20 @@ returns-in_err-s-clause-result_value c =
     good_length c.args.table.now c.has_bad_length.result _ c.has_bad_length.ensures
     c.if-has_bad_length.false (c.read_kind.ensures.refuses _ c.in_err-s.was))
 
-pub read_traffic_records-requires : goal.read_traffic_records-requires
-read_traffic_records-requires c =
-    let before = members-read c.loop-kind.invariant (omega (arith, c.loop-kind-test.false)) in (
-      whole-at before.reached (length-fits _ _ c.has_bad_length.ensures c.if-has_bad_length.false),
-      before.reached,
-      before.no_traffic (omega arith),
-    )
-
-pub returns-in_err-read_traffic_records-clause-result_value : goal.returns-in_err-read_traffic_records-clause-result_value
-returns-in_err-read_traffic_records-clause-result_value c =
-    rw (passed_on _ _ c.from_residual-in_err-read_traffic_records.ensures.1) (
-    good_length c.args.table.now c.has_bad_length.result _ c.has_bad_length.ensures
-    c.if-has_bad_length.false (c.read_traffic_records.ensures.refuses _ c.in_err-read_traffic_records.was))
-
-pub read_last-requires : goal.read_last-requires
-read_last-requires c =
-    let read = traffic-read (members-read c.loop-kind.invariant (omega (arith, c.loop-kind-test.false)))
-    c.read_traffic_records.ensures _ c.in_ok-read_traffic_records.was in (
-      whole-at read.reached (length-fits _ _ c.has_bad_length.ensures c.if-has_bad_length.false),
-      read.reached,
-      lower_only read,
+pub read_rest-requires : goal.read_rest-requires
+read_rest-requires c =
+    let inv = c.loop-kind.invariant in (
+      whole-at inv.before.reached (length-fits _ _ c.has_bad_length.ensures c.if-has_bad_length.false),
+      members-read inv (omega (arith, c.loop-kind-test.false)),
     )
 
 pub returns : goal.returns
 returns c =
-    let read = traffic-read (members-read c.loop-kind.invariant (omega (arith, c.loop-kind-test.false)))
-    c.read_traffic_records.ensures _ c.in_ok-read_traffic_records.was in
+    let read-rest-is = c.read_rest.ensures.result_value in
     let accepts =
     good_length c.args.table.now c.has_bad_length.result _ c.has_bad_length.ensures
-    c.if-has_bad_length.false c.read_last.ensures.result_value in record {
+    c.if-has_bad_length.false read-rest-is in record {
       result_value = accepts;
-      passed = accepted-passes accepts (accepted-after-all c.read_last.ensures.accepted_as read)
+      passed = accepted-passes accepts c.read_rest.ensures.accepted_after_all
           (length-fits _ _ c.has_bad_length.ensures c.if-has_bad_length.false);
     }
