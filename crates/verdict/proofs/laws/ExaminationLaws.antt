@@ -1,5 +1,5 @@
 -- The verdict as the code has it: what examining keeps from kind to kind, and what it comes to. Assumes nothing.
-use Rattle.std.specs.Prelude.{ℕ, ◌+◌, ◌%◌, ◌≤◌, ◌<◌, ◌≡◌, refl, List, Result, Ok, Bool, true, false, not, ◌||◌, eqb, ltb, length}
+use Rattle.std.specs.Prelude.{ℕ, ◌+◌, ◌%◌, ◌≤◌, ◌<◌, ◌≡◌, refl, List, Result, Ok, Err, Bool, true, false, not, ◌||◌, eqb, ltb, length}
 use Rattle.std.proofs.Common.{arith, sym, ap, subst, ◌∙◌, ltb-false}
 use Rattle.std.proofs.Math.Option.{none}
 use Rattle.rule.specs.declared.refusal.Refusal.{Refusal}
@@ -19,6 +19,16 @@ use Rattle.earlier.proofs.laws.KeyLaws.{keyed-none}
 use Rattle.runs.specs.Runs.{Run, Before, KindRead}
 use Rattle.runs.proofs.laws.BeforeLaws.{kind_read}
 use Rattle.verdict.specs.Examination.{examined_values, AcceptedAs, AcceptedAfterAll, Passed}
+
+-- A refusal accepts nothing, and an acceptance what it has.
+pub refused-passes : {t index : List ℕ} {refusal : Refusal} → Passed t index (Err refusal)
+refused-passes s n = let z : ◌≡◌ {A = ℕ} 0 1 = cc in absurd (omega arith)
+
+pub refused_accepts_none : {s : Shape} {refusal : Refusal} → AcceptedAs s (Err refusal)
+refused_accepts_none t n = let z : ◌≡◌ {A = ℕ} 0 1 = cc in absurd (omega arith)
+
+pub accepted_as_read : {s : Shape} → AcceptedAs s (Ok s)
+accepted_as_read {s} t n = let z : s ≡ t = cc in sym z
 
 -- The kinds before `next` are read.
 pub record Examining (ws links : List ℕ) (s : Shape) (next : ℕ) : Type 0 where
@@ -123,6 +133,9 @@ traffic-read B run = (kind_read B (omega arith) (omega arith) 5 refl run (λ z. 
 -- What the end record accepts are the records before it.
 pub accepted-after-all : {ws links : List ℕ} {s : Shape} {r : Result Shape Refusal} → AcceptedAs s r → Before ws links 6 s → AcceptedAfterAll ws links r
 accepted-after-all {ws} {links} a B t n = subst (λ (y : Shape). Before ws links 6 y) (sym (a t n)) B
+
+pub refused-after-all : {ws links : List ℕ} {refusal : Refusal} → AcceptedAfterAll ws links (Err refusal)
+refused-after-all t n = let z : ◌≡◌ {A = ℕ} 0 1 = cc in absurd (omega arith)
 
 -- A table that the verdict accepts is a checked one.
 pub accepted-passes :
