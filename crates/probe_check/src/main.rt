@@ -9,7 +9,7 @@
 mod answer;
 
 use crate::answer::{LONGEST_LINE, write_answer};
-use probe_input::tables::{LONGEST, TURNS, next_table};
+use probe_input::tables::answer_tables;
 
 // The line of one table.
 fn answer_table(table: &[u8]) -> bool {
@@ -18,20 +18,6 @@ fn answer_table(table: &[u8]) -> bool {
     io::write_all(1, &line[..written])
 }
 
-// One table read and answered: false at the end of the input, and where it cannot go on.
-fn answer_next() -> bool {
-    let mut table = [0u8; LONGEST];
-    let next = next_table(b"probe_check", &mut table);
-    match next {
-        Some(length) => answer_table(&table[..length]),
-        None => false,
-    }
-}
-
 fn main() {
-    for _ in 0..TURNS {
-        if !answer_next() {
-            return;
-        }
-    }
+    answer_tables(b"probe_check", |table| answer_table(&table[..]));
 }

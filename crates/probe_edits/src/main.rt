@@ -19,7 +19,7 @@ use crate::line::{write_state, write_table};
 use edits::change::{HalfLinkName, Running, RunningAnswer};
 use probe_input::lent::set_untouched;
 use probe_input::report::report;
-use probe_input::tables::{LONGEST, TURNS, next_table, read_bytes};
+use probe_input::tables::{LONGEST, answer_tables, read_bytes};
 use readers::words::word_at;
 use running::calls::{change_metric, load, withdraw};
 
@@ -245,20 +245,6 @@ fn take_table(table: &mut [u8]) -> bool
     take_words(&words, table)
 }
 
-// One table read and its steps made: false at the end of the input, and where it cannot go on.
-fn take_next() -> bool {
-    let mut table = [0u8; LONGEST];
-    let next = next_table(b"probe_edits", &mut table);
-    match next {
-        Some(length) => take_table(&mut table[..length]),
-        None => false,
-    }
-}
-
 fn main() {
-    for _ in 0..TURNS {
-        if !take_next() {
-            return;
-        }
-    }
+    answer_tables(b"probe_edits", take_table);
 }

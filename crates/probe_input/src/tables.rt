@@ -8,8 +8,8 @@ use readers::words::word_at;
 // A table's bytes at most: more than the longest table that passes the check has, so that longer ones are tried too.
 pub const LONGEST: usize = 10240;
 
-// A proved loop has to end, and nothing says that the input does: turns count down from a number that no run uses up.
-pub const TURNS: u64 = u64::MAX;
+// A proved loop has to end, and nothing says that the input does: a number of turns that no run uses up.
+const TURNS: u64 = u64::MAX;
 
 // Whether the next bytes of the input fill the lent ones.
 pub fn read_bytes(bytes: &mut [u8]) -> bool {
@@ -41,4 +41,19 @@ pub fn next_table(program: &[u8], table: &mut [u8]) -> Option<usize>
         return None;
     }
     Some(length)
+}
+
+// Reads table after table and hands each to `answer`, until there is none or the answer says that the run ends.
+pub fn answer_tables<F: Fn(&mut [u8]) -> bool>(program: &[u8], answer: F)
+    requires { (lent : _) → List·length lent.now ≤ 10240 → F.pre answer lent }
+{
+    for _ in 0..TURNS {
+        let mut table = [0u8; LONGEST];
+        let Some(length) = next_table(program, &mut table) else {
+            return;
+        };
+        if !answer(&mut table[..length]) {
+            return;
+        }
+    }
 }

@@ -19,7 +19,7 @@ use crate::question::{
     MOST_BYTES, MOST_WORDS, READ_LINE, WRITTEN_LINE, write_asked_read, write_asked_written,
 };
 use probe_input::report::report;
-use probe_input::tables::{LONGEST, TURNS, next_table, read_bytes};
+use probe_input::tables::{answer_tables, read_bytes};
 use readers::words::word_at;
 
 // The numbers of the calls that a question asks for.
@@ -131,20 +131,6 @@ fn answer_table(table: &[u8]) -> bool {
     answer_questions(table, word_at(&count, 0))
 }
 
-// One table read and its questions answered: false at the end of the input, and where it cannot go on.
-fn answer_next() -> bool {
-    let mut table = [0u8; LONGEST];
-    let next = next_table(b"probe_services", &mut table);
-    match next {
-        Some(length) => answer_table(&table[..length]),
-        None => false,
-    }
-}
-
 fn main() {
-    for _ in 0..TURNS {
-        if !answer_next() {
-            return;
-        }
-    }
+    answer_tables(b"probe_services", |table| answer_table(&table[..]));
 }
