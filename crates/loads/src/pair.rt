@@ -24,9 +24,7 @@ pub fn clear_loads(loads: &mut [u32])
     requires { 4096 ≤ length loads.old }
     ensures { NoLoads loads.new 4096 }
 {
-    for i in 0..LOADS {
-        loads[i] = 0;
-    }
+    loads[..LOADS].fill(0);
 }
 
 // The pair of a hop gets an amount more.

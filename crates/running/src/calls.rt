@@ -18,11 +18,7 @@ const HALF_LINK: usize = 12;
 fn table_length(running: Running, bytes: usize) -> usize
     ensures { (result ≤ bytes) × FrontOf result running.length bytes }
 {
-    let length = running.length as usize;
-    if length <= bytes {
-        return length;
-    }
-    bytes
+    bytes.min(running.length as usize)
 }
 
 // The numbers of a state, with the tree of its table in the three lists.

@@ -20,16 +20,7 @@ const MOST_CHANGES: u32 = 65535;
 pub fn room_of(costs: usize, hops: usize, lasts: usize) -> usize
     ensures { RoomOf result costs hops lasts }
 {
-    if costs <= hops {
-        if costs <= lasts {
-            return costs;
-        }
-        return lasts;
-    }
-    if hops <= lasts {
-        return hops;
-    }
-    lasts
+    costs.min(hops).min(lasts)
 }
 
 // "11": the table lacks the watched bridge or VID, or the near bridge that is named.

@@ -26,15 +26,12 @@ pub fn settle(labels: &mut [u32], path_ids: &mut [u64], keys: &[u64], root: usiz
     labels[u] = Cost::NO_PATH.0;
 }
 
-// No bridge has a label.
+// No bridge has a label: the costs that wait and the costs, which stand one after the other, say that there is no path.
 fn clear(labels: &mut [u32])
     requires { 320 ≤ length labels.old }
     ensures { Cleared 64 labels.old labels.new }
 {
-    for u in 0..MOST_BRIDGES {
-        labels[u] = Cost::NO_PATH.0;
-        labels[COSTS + u] = Cost::NO_PATH.0;
-    }
+    labels[..COSTS + MOST_BRIDGES].fill(Cost::NO_PATH.0);
 }
 
 // The root alone is settled: "a path from a bridge to itself is that bridge, cost 0, hops 0".

@@ -1,6 +1,7 @@
 -- A hop added to the loads of pairs: exactly its own pair has the amount more. Assumes nothing.
-use Rattle.std.specs.Prelude.{ℕ, ◌+◌, ◌*◌, ◌≤◌, ◌<◌, min, max, ◌≡◌, refl, List, ◌⊎◌, Bool, true, false, cond, ◌&&◌, T, eqb, length, get_or, set}
+use Rattle.std.specs.Prelude.{ℕ, ◌+◌, ◌*◌, ◌≤◌, ◌<◌, min, max, ◌≡◌, refl, List, ◌++◌, ◌⊎◌, Bool, true, false, cond, ◌&&◌, T, eqb, length, get_or, set, take, drop, replicate}
 use Rattle.std.proofs.Common.{arith, sym, ap, ◌∙◌, inl, inr, get_or-set_same, get_or-set_other}
+use Rattle.std.proofs.lemmas.List.{length-take-le, length-replicate, get_or-replicate, get_or_append_left}
 use Rattle.lists.proofs.laws.NumberLaws.{le_or_gt, compared, equal-two, either_left, either_right}
 use Rattle.graph.specs.Pairs.{Pair, is_hop_of}
 use Rattle.graph.proofs.laws.PairLaws.{hop-either}
@@ -82,3 +83,15 @@ one-more-cleared loads n N l = record { none = λ i h. go i h (compared i n) }
 
 pub all-cleared : {loads : List ℕ} {n m : ℕ} → NoLoads loads n → m ≤ n → NoLoads loads m
 all-cleared N l = record { none = λ i h. N.none i (omega arith) }
+
+-- Places cleared in one fill.
+pub front_filled : (loads part : List ℕ) (n : ℕ) → n ≤ length loads → part ≡ replicate (length (take n loads)) 0 → NoLoads (part ++ drop n loads) n
+front_filled loads part n l e = record {
+  none = λ i h. get_or_append_left part (drop n loads) 0 i (omega (arith, long)) ∙ ap (λ (x : List ℕ). get_or x i 0) zeros ∙ get_or-replicate n i 0 0 h;
+}
+  where
+    zeros : part ≡ replicate n 0
+    zeros = e ∙ ap (λ (k : ℕ). replicate k 0) (length-take-le n loads l)
+
+    long : length part ≡ n
+    long = ap (λ (x : List ℕ). length x) zeros ∙ length-replicate {A = ℕ} n 0

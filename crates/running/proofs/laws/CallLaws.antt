@@ -2,10 +2,10 @@
 use Prim.Native.Nat.{ℕ, suc, ◌+◌, ◌-◌, ◌*◌, ◌/◌, ◌%◌, ◌≤◌, ◌<◌}
 use Rattle.std.proofs.Common.{arith, ◌∙◌, subst, inl, inr, leb→le, le→leb, length-append, length-drop, take-append-drop, take_all, length-take-le, take_at}
 use Rattle.std.proofs.Math.Path.{◌≡◌, sym, ap}
-use Rattle.std.specs.Prelude.{refl, Result, Ok, Err, ◌⊎◌, Bool, true, false, not, cond, T, leb, length, get_or, take, drop}
+use Rattle.std.specs.Prelude.{min, refl, Result, Ok, Err, ◌⊎◌, Bool, true, false, not, cond, T, leb, length, get_or, take, drop}
 use mathlib.Core.List.{List, [], ◌∷◌, ◌++◌, map, flat_map, append_assoc}
 use Rattle.std.proofs.Math.Option.{Option, none, some}
-use Rattle.std.proofs.lemmas.List.{drop-append-le}
+use Rattle.std.proofs.lemmas.List.{drop-append-le, take_min}
 use Rattle.lists.specs.Lists.{any_passes}
 use Rattle.lists.proofs.laws.NumberLaws.{le_or_gt, last_of, true-test}
 use Rattle.rule.specs.declared.answer.RecordKind.{RecordKind}
@@ -40,6 +40,9 @@ front-short n bytes xs e = refl
 
 pub front-all : (n bytes : ℕ) → bytes ≤ n → FrontOf bytes n bytes
 front-all n bytes l xs e = take_all bytes xs (omega (arith, e)) ∙ sym (take_all n xs (omega (arith, e, l)))
+
+pub front-lesser : (r n bytes : ℕ) → r ≡ min bytes n → FrontOf r n bytes
+front-lesser r n bytes least xs e = let k : r ≡ min n (length xs) = omega arith in ap (λ (m : ℕ). take m xs) k ∙ take_min n xs
 
 -- The tree call gives what is kept of the tree.
 module _ (w : Watched) (costs hop_counts lasts : List ℕ) where

@@ -1,5 +1,5 @@
 -- What the tests of a change say, one after the other. Assumes nothing.
-use Rattle.std.specs.Prelude.{ℕ, suc, ◌+◌, ◌*◌, ◌≤◌, ◌<◌, ◌≡◌, Result, Ok, Err, Bool, not, cond, ◌&&◌, ◌||◌, ◌⊎◌, T, eqb, leb}
+use Rattle.std.specs.Prelude.{ℕ, suc, ◌+◌, ◌*◌, ◌≤◌, ◌<◌, min, ◌≡◌, Result, Ok, Err, Bool, not, cond, ◌&&◌, ◌||◌, ◌⊎◌, T, eqb, leb}
 use Rattle.std.proofs.Common.{arith, ap, ◌∙◌, inl, inr, eqb→eq, leb→le, le→leb, lt→ltb}
 use Rattle.std.proofs.Math.Path.{refl, sym}
 use mathlib.Core.List.{List, [], ◌∷◌}
@@ -61,6 +61,14 @@ second-least a b c x y = leb-least b a b c x (omega arith) y (inr (inl refl))
 
 pub third-least : (a b c : ℕ) → c ≤ a → c ≤ b → RoomOf c a b c
 third-least a b c x y = leb-least c a b c x y (omega arith) (inr (inr refl))
+
+pub least-of_three : (r a b c : ℕ) → r ≡ min (min a b) c → RoomOf r a b c
+least-of_three r a b c e = leb-least r a b c (omega arith) (omega arith) (omega arith) (which (le_or_gt a b) (le_or_gt (min a b) c))
+  where
+    which : (a ≤ b) ⊎ (b < a) → (min a b ≤ c) ⊎ (c < min a b) → (r ≡ a) ⊎ (r ≡ b) ⊎ (r ≡ c)
+    which (inl k) (inl l) = inl (omega arith)
+    which (inr k) (inl l) = inr (inl (omega arith))
+    which d (inr l) = inr (inr (omega arith))
 
 -- One passes where the first that passes is there.
 module _ {A : Type 0} (test : A → Bool) where

@@ -1,7 +1,8 @@
 -- How a search begins: the labels are cleared, then the root is settled. And what a bridge is settled with.
 -- Assumes nothing.
-use Rattle.std.specs.Prelude.{ℕ, ◌+◌, ◌≤◌, ◌<◌, ◌≡◌, refl, List, [], ◌∷◌, ◌⊎◌, cond, eqb, length, get_or, set}
-use Rattle.std.proofs.Common.{arith, sym, ap, ◌∙◌, inl, inr, length-set, get_or-set_same, get_or-set_other}
+use Rattle.std.specs.Prelude.{ℕ, ◌+◌, ◌≤◌, ◌<◌, ◌≡◌, refl, List, [], ◌∷◌, ◌++◌, ◌⊎◌, cond, eqb, length, get_or, set, take, drop, replicate}
+use Rattle.std.proofs.Common.{arith, sym, ap, ◌∙◌, inl, inr, length-append, length-drop, length-set, get_or-set_same, get_or-set_other}
+use Rattle.std.proofs.lemmas.List.{length-take-le, length-replicate, get_or-replicate, get_or_append_left}
 use Rattle.lists.proofs.laws.NumberLaws.{same_or_not}
 use Rattle.lists.proofs.laws.Splices.{spliced-nothing, spliced-next}
 use Rattle.lists.specs.Lists.{spliced}
@@ -48,6 +49,23 @@ module _ {labels₀ labels : List ℕ} {u : ℕ} (C : Clearing labels₀ labels 
 
   pub clearing_ends : 64 ≤ u → Cleared 64 labels₀ labels
   clearing_ends h = let e : u ≡ 64 = omega arith in rw e at C.so_far
+
+-- The labels cleared in one fill of the two parts that stand at the front.
+pub front_filled : (labels part : List ℕ) → 320 ≤ length labels → part ≡ replicate (length (take 128 labels)) no_cost → Cleared 64 labels (part ++ drop 128 labels)
+front_filled labels part has e = record {
+  same_length = omega (arith, length-append part (drop 128 labels), length-drop 128 labels, long);
+  none_waits = λ u h. filled u (omega arith);
+  none_labelled = λ u h. filled (64 + u) (omega arith);
+}
+  where
+    cleared : part ≡ replicate 128 no_cost
+    cleared = e ∙ ap (λ (k : ℕ). replicate k no_cost) (length-take-le 128 labels (omega arith))
+
+    long : length part ≡ 128
+    long = ap (λ (x : List ℕ). length x) cleared ∙ length-replicate {A = ℕ} 128 no_cost
+
+    filled : (i : ℕ) → i < 128 → get_or (part ++ drop 128 labels) i 0 ≡ no_cost
+    filled i h = get_or_append_left part (drop 128 labels) 0 i (omega (arith, long)) ∙ ap (λ (x : List ℕ). get_or x i 0) cleared ∙ get_or-replicate 128 i no_cost 0 h
 
 -- The root is settled.
 module _ (root key : ℕ) (labels₀ labels path-ids : List ℕ) (inside : root < 64) (has : 320 ≤ length labels₀) (has_path_ids : 4096 ≤ length path-ids)
