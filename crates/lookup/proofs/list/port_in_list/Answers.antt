@@ -1,14 +1,12 @@
 -- `lookup::list::port_in_list` refuses a faulty list and answers from any other. Assumes nothing.
-use mathlib.Core.Path.{ap, ◌∙◌}
-use Rattle.rule.specs.Refusals.{refused_by}
+use mathlib.Core.Path.{◌∙◌}
 use Rattle.rule.specs.Lookup.{lookup_outcome}
 use Rattle.lookup.proofs.list.port_in_list.Goals as goal
 
 pub returns-then-is_faulty_list : goal.returns-then-is_faulty_list
 unfolding lookup_outcome
 returns-then-is_faulty_list c =
-    c.from.ensures ∙ ap refused_by c.of_call.ensures
-    ∙ simp (← c.is_faulty_list.ensures, c.if-is_faulty_list.true)
+    c.from.ensures ∙ rw c.of_call.ensures (simp (← c.is_faulty_list.ensures, c.if-is_faulty_list.true))
 
 pub returns : goal.returns
 unfolding lookup_outcome
