@@ -48,6 +48,18 @@ by_tests false false true true false wrong rest e = refl
 by_tests false false true false true wrong rest e = refl
 by_tests false false true false false wrong rest e = refl
 
+-- What `own`, the record or the fault that it shows by itself, says of its lowest fault: that it is it, or that it is among those left.
+pub record Shows {A : Type 0} (own : Result A Fault) (lowest left : Option ℕ) : Type 0 where
+  pub shown : (found : Fault) → own ≡ Err found → some (fault_number found) ≡ lowest
+  pub passed : (a : A) → own ≡ Ok a → left ≡ lowest
+
+shows : {A : Type 0} (own : Result A Fault) (left : Option ℕ) {lowest : Option ℕ} → or_left own left ≡ lowest → Shows own lowest left
+shows own left e =
+    record {
+      shown = λ found h. sym (ap (λ x. or_left x left) h) ∙ e;
+      passed = λ a h. sym (ap (λ x. or_left x left) h) ∙ e;
+    }
+
 module _ (s : Reading) (l : Layout) (r : List ℕ) where
   shown_or_left :
       {A : Type 0} (standing : A → Record) (read : Result A RecordFault) →
@@ -76,6 +88,19 @@ module _ (s : Reading) (l : Layout) (r : List ℕ) where
       ∷ fault 10 (words_follow (length r) (end_count (l.decoded r)))
       ∷ [])
       (l.decoded r)
+
+  -- For whatever its reader gave, and whatever that stands for.
+  pub shows_by_itself :
+      {A : Type 0} (standing : A → Record) (read : Result A RecordFault) →
+      read_by standing read ≡ read_of l r →
+      Shows (without_own_fault s.last l.kind read (alike s.plan (l.decoded r)) l.limit)
+      (lowest_fault (faults s l r))
+      (lowest_fault (faults_left s (l.decoded r) (length r)))
+  shows_by_itself standing read e =
+      shows
+      (without_own_fault s.last l.kind read (alike s.plan (l.decoded r)) l.limit)
+      (lowest_fault (faults_left s (l.decoded r) (length r)))
+      (shown_or_left standing read e)
 
 -- The record that a reader found whole is the one that its words hold.
 whole-decoded : (l : Layout) (r : List ℕ) (e : Record) → read_of l r ≡ whole e → l.decoded r ≡ e
@@ -233,6 +258,10 @@ unknown-traffic ws s t ends known e f = λ i. e i || not (f i)
 pub of_16_bits : (h : HalfLink) (r : List ℕ) → h ≡ half_link_of r → (h.near < 65536) × (h.port < 65536)
 of_16_bits h r e = rw e (omega arith, omega arith)
 
+pub whole-of-16-bits :
+    (r : List ℕ) (h : HalfLink) → read_of half_link_layout r ≡ whole (half_link h) → (h.near < 65536) × (h.port < 65536)
+whole-of-16-bits r h e = of_16_bits h r (cc (whole-decoded half_link_layout r (half_link h) e))
+
 pub read_of_16_bits :
     {t : List ℕ} {s : Shape} {own : Result table·HalfLink Fault} →
     Judged (λ h. half_link (half_link_values h)) half_link_layout t s own →
@@ -243,6 +272,10 @@ read_of_16_bits {t} {s} J h e = of_16_bits (half_link_values h) (drop (words_rea
 pub member-bits : (m : Member) (r : List ℕ) → m ≡ member_of r → (m.isid < 16777216) × (m.bridge < 65536)
 member-bits m r e = rw e (omega arith, omega arith)
 
+pub whole-member-bits :
+    (r : List ℕ) (m : Member) → read_of member_layout r ≡ whole (member m) → (m.isid < 16777216) × (m.bridge < 65536)
+whole-member-bits r m e = member-bits m r (cc (whole-decoded member_layout r (member m) e))
+
 pub read-member-bits :
     {t : List ℕ} {s : Shape} {own : Result table·Member Fault} →
     Judged (λ m. member (member_values m)) member_layout t s own →
@@ -252,6 +285,10 @@ read-member-bits {t} {s} J m e = member-bits (member_values m) (drop (words_read
 -- The VID of traffic has 12 bits, its bridge numbers 16.
 pub traffic-bits : (t : Traffic) (r : List ℕ) → t ≡ traffic_of r → (t.vid < 4096) × (t.from < 65536) × (t.to < 65536)
 traffic-bits t r e = rw e (omega arith, omega arith, omega arith)
+
+pub whole-traffic-bits :
+    (r : List ℕ) (t : Traffic) → read_of traffic_layout r ≡ whole (traffic t) → (t.vid < 4096) × (t.from < 65536) × (t.to < 65536)
+whole-traffic-bits r t e = traffic-bits t r (cc (whole-decoded traffic_layout r (traffic t) e))
 
 pub read-traffic-bits :
     {t : List ℕ} {s : Shape} {own : Result table·Traffic Fault} →
