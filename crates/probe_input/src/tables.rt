@@ -9,7 +9,7 @@ use readers::words::word_at;
 pub const LONGEST: usize = 10240;
 
 // A proved loop has to end, and nothing says that the input does: a number of turns that no run uses up.
-const TURNS: u64 = u64::MAX;
+pub const TURNS: u64 = u64::MAX;
 
 // Whether the next bytes of the input fill the lent ones.
 pub fn read_bytes(bytes: &mut [u8]) -> bool {
