@@ -142,7 +142,7 @@ class Function:
         self.imports = imports
 
 
-FUNCTION = re.compile(r"^ *(pub )?(?:extern \"C\" )?fn (\w+)(?:<[^>]*>)?\((.*?)\n? *\{$", re.M | re.S)
+FUNCTION = re.compile(r"^ *(pub )?(?:extern \"C\" )?fn (\w+)(?:<(?:->|[^>])*>)?\((.*?)\n? *\{$", re.M | re.S)
 # A conversion, whose contract is what `from_gives` says.
 CONVERSION = re.compile(r"^(impl From<\w+> for (\w+)) \{\n *ghost from_gives = \{ ?(.*?) ?\};$", re.M | re.S)
 
@@ -235,7 +235,7 @@ class Sources:
         _, crate, file, name = item
         text = self.types[(crate, file, name)].read_text()
         body = re.search(r"^pub (?:struct|enum) %s\b(.*?)(?:^}|;$)" % name, text, re.M | re.S).group(1)
-        return self._types_in(crate, file, text, words(body) - {name})
+        return self._types_in(crate, file, text, set(re.findall(r"\w+", body)) - {name})
 
     def _types_in(self, crate, file, text, named):
         found = set()
